@@ -1,0 +1,73 @@
+-- Two series of compile calls, and what they have in common.
+use Prim.Native.Nat.{ℕ}
+use mathlib.Core.Path.{_≡_}
+use mathlib.Core.Bool.{true, false}
+use mathlib.Core.List.{List, [], _∷_, map}
+use lib.ListN.{length, take}
+use Rattle.definition.specs.Basic.{Bytes}
+use Rattle.definition.specs.Limit.{sessionSize}
+use Rattle.definition.specs.Shape.{shape}
+use Rattle.definition.specs.Bytecode.{Image, imageBytes}
+use Rattle.definition.specs.Session.{fresh}
+use Rattle.definition.specs.Compile.{Outcome, Step, Request, steps}
+use Rattle.definition.specs.Call.{Lent, Called, call}
+use Rattle.definition.specs.Literal.{Mask, imageMask, sessionMask}
+use Rattle.definition.specs.declared.Refusal.{Refusal}
+use Rattle.definition.specs.declared.Answer.the-variants.{Length, Refused}
+
+-- a call of a series: its tree, and what output and work areas hold before it
+pub record Call : Type 0 where
+  pub tree : Bytes
+  pub output : Bytes
+  pub code : Bytes
+  pub table : List ℕ
+
+-- what it is lent, with a session
+abbrev pub lent : Bytes → Call → Lent
+lent s c = record { session = s; output = c .output; code = c .code; table = c .table }
+
+-- each call on the session that the last one left
+abbrev pub calls : Bytes → List Call → List Called
+calls s [] = []
+calls s (c ∷ cs) = call (c .tree) (lent s c) ∷ calls (call (c .tree) (lent s c) .lent .session) cs
+
+-- equal shapes, and lent lengths equal
+pub record Alike (c d : Call) : Type 0 where
+  pub tree : shape (c .tree) ≡ shape (d .tree)
+  pub output : length (c .output) ≡ length (d .output)
+  pub code : length (c .code) ≡ length (d .code)
+  pub table : length (c .table) ≡ length (d .table)
+
+pub data AllAlike : List Call → List Call → Type 0 where
+  none : AllAlike [] []
+  more : {c d : Call} {cs ds : List Call} → Alike c d → AllAlike cs ds → AllAlike (c ∷ cs) (d ∷ ds)
+
+-- the call with its tree's shape, on a session buffer of so many bytes
+abbrev pub shaped : ℕ → Call → Request
+shaped n c = record { code = length (c .code); table = length (c .table); session = n; output = length (c .output); tree = shape (c .tree) }
+
+-- what the definition gives at each step, once each tree so far is replaced by its shape
+abbrev pub shapes : ℕ → List Call → List Step
+shapes n cs = steps fresh (map (shaped n) cs)
+
+-- equally long, and equal but for the bytes that a mask names
+pub data Agree : Mask → Bytes → Bytes → Type 0 where
+  end : Agree [] [] []
+  same : {m : Mask} {x y : Bytes} (b : ℕ) → Agree m x y → Agree (false ∷ m) (b ∷ x) (b ∷ y)
+  free : {m : Mask} {x y : Bytes} (a b : ℕ) → Agree m x y → Agree (true ∷ m) (a ∷ x) (b ∷ y)
+
+-- beside the shapes' outcome: two images of its length that agree at all but its literal bytes, or its refusal twice
+pub data Answers : Outcome → Called → Called → Type 0 where
+  accepted : {m : Image} {x y : Called} → x .answer ≡ Length (length (imageBytes m)) → y .answer ≡ Length (length (imageBytes m))
+      → Agree (imageMask m) (take (length (imageBytes m)) (x .lent .output)) (take (length (imageBytes m)) (y .lent .output)) → Answers (Outcome.accepted m) x y
+  refused : {r : Refusal} {x y : Called} → x .answer ≡ Refused r → y .answer ≡ Refused r → Answers (Outcome.refused r) x y
+
+-- and two sessions that agree, up to 65,536, at all but the literal bytes of the shapes' session
+pub record Same (p : Step) (x y : Called) : Type 0 where
+  pub answer : Answers (p .outcome) x y
+  pub session : Agree (sessionMask (p .session)) (take sessionSize (x .lent .session)) (take sessionSize (y .lent .session))
+
+-- step by step, in two whole series
+pub data Indistinguishable : List Step → List Called → List Called → Type 0 where
+  done : Indistinguishable [] [] []
+  step : {p : Step} {x y : Called} {ps : List Step} {xs ys : List Called} → Same p x y → Indistinguishable ps xs ys → Indistinguishable (p ∷ ps) (x ∷ xs) (y ∷ ys)

@@ -1,0 +1,21 @@
+// The definition that the whole compiler is held to: specs/ and its theorems in proofs/. Here: the types that all crates share.
+
+// Why a call was refused: document 01's number, and the place, an offset.
+pub struct Refusal {
+    pub number: usize,
+    pub place: usize,
+}
+
+// What a call answers: the length of what it wrote, or its refusal.
+pub enum Answer {
+    Length(usize),
+    Refused(Refusal),
+}
+
+// A refusal as an answer.
+pub fn refused(number: usize, place: usize) -> Answer {
+    Answer::Refused(Refusal {
+        number: number,
+        place: place,
+    })
+}
