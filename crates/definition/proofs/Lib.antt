@@ -1,1 +1,10 @@
+pub mod Basic
 pub mod WellFormed
+pub mod Blank
+pub mod Symbols
+pub mod Simulation
+pub mod Refine
+pub mod Erase
+pub mod Jumps
+pub mod ValidSymbols
+pub mod Limits
