@@ -1,15 +1,17 @@
--- Trees that differ in their literals alone: a map over the literals, and the shape.
+-- Trees that differ in their literals alone: a map over the literals, and the blank that a shape has for each.
 use Prim.Native.Nat.{ℕ}
 use mathlib.Core.List.{map}
 use Rattle.definition.specs.Basic.{Bytes}
 use Rattle.definition.specs.Syntax.{Stmt, Stmts, Else, Expr, Exprs}
 
+-- what becomes of each kind of literal
 pub record Literals : Type 0 where
   pub integer : Bytes → Bytes
   pub boolean : ℕ → ℕ
   pub string : Bytes → Bytes
 
 module _ (f : Literals) where
+  -- a tree with its literals mapped
   unfoldable mutual
     pub mapStmt : Stmt → Stmt
     mapStmt (Stmt.exprStmt p e) = Stmt.exprStmt p (mapExpr e)
@@ -48,5 +50,6 @@ module _ (f : Literals) where
 abbrev pub zeros : Bytes → Bytes
 zeros = map (λ _. 0)
 
+-- 0 for each byte of a literal
 abbrev pub blank : Literals
 blank = record { integer = zeros; boolean = λ _. 0; string = zeros }

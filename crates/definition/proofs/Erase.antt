@@ -101,7 +101,7 @@ emitted : {d e : ℕ} {i j : Instr} {s t : State} → Alike erase s t → (p : �
 unfolding emitBeside
 emitted r p d i =
     picked Same (λ k. leb (r .erased k .around + sizes r k + d k + seen size size-erase i k) 32768)
-    (Both.on tt (record { erased = λ k. withCode (i .erased k ∷ r .erased k .code) (r .erased k) })) (Both.stop _ r)
+    (Both.on tt (record { erased = λ k. withCode (i .erased k ∷ r .erased k .code) (r .erased k) })) (Both.stop _ tt r)
 
 pub length-encode-erase : (c : Code) → length (encode (eraseCode c)) ≡ length (encode c)
 length-encode-erase [] = refl
@@ -126,16 +126,16 @@ added : {c d : Const} {s t : State} → Alike erase s t → (p : ℕ) → Alike 
 unfolding addConstant
 added {c} {d} {s} {t} r p e =
     let cs : Alike erasePool (c ∷ s .pool) (d ∷ t .pool) = record { erased = λ k. e .erased k ∷ r .erased k .pool } in
-    picked Same (λ k. leb 4096 (counts r k)) (Both.stop _ r)
-    (picked Same (λ k. leb (seen poolSize poolSize-erase cs k) 28672) (same-on (counts r) (record { erased = λ k. withPool (cs .erased k) (r .erased k) })) (Both.stop _ r))
+    picked Same (λ k. leb 4096 (counts r k)) (Both.stop _ tt r)
+    (picked Same (λ k. leb (seen poolSize poolSize-erase cs k) 28672) (same-on (counts r) (record { erased = λ k. withPool (cs .erased k) (r .erased k) })) (Both.stop _ tt r))
 
 constant : {c d : Const} {s t : State} → Alike erase s t → (p : ℕ) → Alike eraseConst c d → Same (literal p c s) (literal p d t)
 constant r p e = both-bind (added r p e) (λ k _ _ r₁. emitted r₁ p refl (self (instr opConstant k 0)))
 
 loaded-alike : {s t : State} → Alike erase s t → (p : ℕ) (f : Resolved) → Same (loaded p s f) (loaded p t f)
 loaded-alike r p (Resolved.found y ts) = emitted (record { erased = λ k. withTables ts (r .erased k) }) p refl (self (loadOf y))
-loaded-alike r p Resolved.undefined = Both.stop _ r
-loaded-alike r p Resolved.full = Both.stop _ r
+loaded-alike r p Resolved.undefined = Both.stop _ tt r
+loaded-alike r p Resolved.full = Both.stop _ tt r
 
 load-alike : {s t : State} → Alike erase s t → (p : ℕ) (x : Bytes) → Same (load p x s) (load p x t)
 unfolding load
@@ -143,7 +143,7 @@ load-alike {s} {t} r p x = subst (λ f. Same (load p x s) (loaded p t f)) (λ k.
 
 placed-alike : {s t : State} → Alike erase s t → (p : ℕ) (d : Defined) → DefinedValid d → Both (Alike erase) (λ i s t. ValidInstr i × Alike erase s t) (placed p s d) (placed p t d)
 placed-alike r p (Defined.defined i gs ts) v = Both.on i (v, record { erased = λ k. withSymbols gs ts (r .erased k) })
-placed-alike r p (Defined.noRoom n) v = Both.stop _ r
+placed-alike r p (Defined.noRoom n) v = Both.stop _ v r
 
 define-alike : {s t : State} → Alike erase s t → (p : ℕ) (x : Bytes) → Both (Alike erase) (λ i s t. ValidInstr i × Alike erase s t) (define p x s) (define p x t)
 unfolding define
@@ -176,8 +176,8 @@ enter-alike : {s t : State} → Alike erase s t → (p : ℕ) (x : Bytes) (xs : 
     → Both (Alike erase) (λ (_ : Unit {0}) s t. (length xs ≤ argumentsLimit) × Alike erase s t) (enter p x xs s) (enter p x xs t)
 unfolding enter
 enter-alike r p x xs =
-    picked (Both (Alike erase) (λ (_ : Unit {0}) s t. (length xs ≤ argumentsLimit) × Alike erase s t)) (λ k. leb nestingLimit (length (r .erased k .tables))) (Both.stop _ r)
-    (guarded (ltb argumentsLimit (length xs)) refl (Both.stop _ r)
+    picked (Both (Alike erase) (λ (_ : Unit {0}) s t. (length xs ≤ argumentsLimit) × Alike erase s t)) (λ k. leb nestingLimit (length (r .erased k .tables))) (Both.stop _ tt r)
+    (guarded (ltb argumentsLimit (length xs)) refl (Both.stop _ tt r)
     (λ e. Both.on tt (omega (arith, ltb-false), record { erased = λ k. record { code = []; around = r .erased k .around + sizes r k; tables = withParams xs (named x) ∷ r .erased k .tables; globals = r .erased k .globals; pool = r .erased k .pool } })))
 
 returned-alike : {s t : State} → Alike erase s t → (p : ℕ) → Same (returned p s) (returned p t)

@@ -10,7 +10,7 @@ use borrow.Author.Tests.{eqb-true, ne-eqb, ltb-false}
 use Rattle.definition.specs.Basic.{Bytes, pick}
 use Rattle.definition.specs.Limit.{codeSize, constantsLimit, poolLimit, nestingLimit, argumentsLimit}
 use Rattle.definition.specs.Syntax.{Stmts}
-use Rattle.definition.specs.Opcode.{Instr, instr, size, opConstant, opPop, opJumpNotTruthy, opJump, opClosure}
+use Rattle.definition.specs.Opcode.{Instr, instr, plain, size, opConstant, opPop, opJumpNotTruthy, opJump, opReturnValue, opReturn, opClosure}
 use Rattle.definition.specs.Bytecode.{Code, Const, sizeOf, poolSize}
 use Rattle.definition.specs.Walk.{Res, Machine, walkStmts}
 use Rattle.definition.specs.SymbolTable.{Table, Symbol, Resolved, Defined, builtins, resolve, place, loadOf}
@@ -18,7 +18,7 @@ use Rattle.definition.specs.Compiler.{State, machine, withCode, literal,
 use Rattle.definition.specs.Valid.{ValidInstr}
 use Rattle.definition.proofs.WellFormed.{WfStmts}
 use Rattle.definition.proofs.Symbols.{DefinedValid, place-valid}
-use Rattle.definition.proofs.Simulation.{Both, Simulation, both-map, Held, Ends, ends-pick, ends-map, ends-bind, ends-any, always, kept}
+use Rattle.definition.proofs.Simulation.{Both, Simulation, both-map, Held, Ends, ends-pick, ends-map, ends-bind, always, kept}
 use Rattle.definition.proofs.Refine.{refined, asIs}
 
 pub sizeOf-changeOperand : (p t : ℕ) (c : Code) → sizeOf (changeOperand p t c) ≡ sizeOf c
@@ -89,13 +89,13 @@ Grows {A} c = Ends (λ (_ : A) s. Keeps c (s .code))
 
 emitted : (s : State) (d p : ℕ) (i : Instr) → Grows (s .code) (emitBeside d p i s)
 unfolding emitBeside
-emitted s d p i = ends-pick (leb (s .around + sizeOf (s .code) + d + size i) codeSize) (λ _. Ends.on tt (more i (s .code))) (λ _. Ends.stop _ s)
+emitted s d p i = ends-pick (leb (s .around + sizeOf (s .code) + d + size i) codeSize) (λ _. Ends.on tt (more i (s .code))) (λ _. Ends.stop _ s tt)
 
 added : (s : State) (p : ℕ) (c : Const) → Grows (s .code) (addConstant p c s)
 unfolding addConstant
 added s p c =
-    ends-pick (leb constantsLimit (length (s .pool))) (λ _. Ends.stop _ s) (λ _.
-    ends-pick (leb (poolSize (c ∷ s .pool)) poolLimit) (λ _. Ends.on _ (same (s .code))) (λ _. Ends.stop _ s))
+    ends-pick (leb constantsLimit (length (s .pool))) (λ _. Ends.stop _ s tt) (λ _.
+    ends-pick (leb (poolSize (c ∷ s .pool)) poolLimit) (λ _. Ends.on _ (same (s .code))) (λ _. Ends.stop _ s tt))
 
 emit-after : {c : Code} (s : State) → Keeps c (s .code) → (d p : ℕ) (i : Instr) → Grows c (emitBeside d p i s)
 emit-after s k d p i = ends-map (emitted s d p i) (λ _ _ l. then k l)
@@ -109,8 +109,8 @@ load-grows s p x = go (resolve builtins (s .globals) x (s .tables))
   where
     go : (f : Resolved) → Grows (s .code) (loaded p s f)
     go (Resolved.found y ts) = emitted _ 0 p (loadOf y)
-    go Resolved.undefined = Ends.stop _ s
-    go Resolved.full = Ends.stop _ s
+    go Resolved.undefined = Ends.stop _ s tt
+    go Resolved.full = Ends.stop _ s tt
 
 -- the code, and a valid instruction for the definition
 define-grows : (s : State) (p : ℕ) (x : Bytes) → Ends (λ i s₁. ValidInstr i × Keeps (s .code) (s₁ .code)) (define p x s)
@@ -119,16 +119,21 @@ define-grows s p x = go (place x (s .globals) (s .tables)) (place-valid x (s .gl
   where
     go : (d : Defined) → DefinedValid d → Ends (λ i s₁. ValidInstr i × Keeps (s .code) (s₁ .code)) (placed p s d)
     go (Defined.defined i gs ts) v = Ends.on i (v, same (s .code))
-    go (Defined.noRoom k) v = Ends.stop _ s
+    go (Defined.noRoom k) v = Ends.stop _ s v
 
 loads-grow : (s : State) (d p : ℕ) (ys : List Symbol) → Grows (s .code) (loads d p ys s)
 unfolding loads
 loads-grow s d p [] = Ends.on tt (same (s .code))
 loads-grow s d p (y ∷ ys) = ends-bind (loads-grow s d p ys) (λ _ s₁ k. emit-after s₁ k d p (loadOf y))
 
+returned-ends : (s : State) (p : ℕ) → Ends (λ (_ : Unit {0}) _. Unit {0}) (returned p s)
+unfolding returned
+returned-ends s p =
+    ends-pick (lastIs opPop (s .code)) (λ _. Ends.on tt tt) (λ _. ends-pick (lastIs opReturnValue (s .code)) (λ _. Ends.on tt tt) (λ _. ends-map (emitted s 0 p (plain opReturn)) (λ _ _ _. tt)))
+
 leave-grows : (s s′ : State) (p n : ℕ) → Grows (s .code) (leave p n s s′)
 unfolding leave
-leave-grows s s′ p n = ends-bind (ends-any (returned p s′)) (λ _ s₁ _. go s₁ (s₁ .tables))
+leave-grows s s′ p n = ends-bind (returned-ends s′ p) (λ _ s₁ _. go s₁ (s₁ .tables))
   where
     go : (s₁ : State) (ts : List Table) → Grows (s .code) (closeOver p n s s₁ ts)
     go s₁ [] = Ends.on tt (same (s .code))
@@ -181,7 +186,7 @@ without w {s} {t} r = record { same = ap dropped (r .same); holds = go (lastIs o
 
 appended : (s : State) (d p : ℕ) (i : Instr) → Ends (λ (_ : Unit {0}) s₁. s₁ .code ≡ i ∷ s .code) (emitBeside d p i s)
 unfolding emitBeside
-appended s d p i = ends-pick (leb (s .around + sizeOf (s .code) + d + size i) codeSize) (λ _. Ends.on tt refl) (λ _. Ends.stop _ s)
+appended s d p i = ends-pick (leb (s .around + sizeOf (s .code) + d + size i) codeSize) (λ _. Ends.on tt refl) (λ _. Ends.stop _ s tt)
 
 at-last : (b : Bool) (c : Code) → T (jumpAt (sizeOf c) (instr (pick b opJumpNotTruthy opJump) unpatched 0 ∷ c))
 at-last b c = go (eqb (sizeOf c) (sizeOf c)) (eqb-refl (sizeOf c)) b
@@ -201,13 +206,13 @@ jump-pending w s r p b =
 enter-few : (s : State) (p : ℕ) (x : Bytes) (xs : List Bytes) → Ends (λ (_ : Unit {0}) _. length xs ≤ argumentsLimit) (enter p x xs s)
 unfolding enter
 enter-few s p x xs =
-    ends-pick (leb nestingLimit (length (s .tables))) (λ _. Ends.stop _ s) (λ _.
-    ends-pick (ltb argumentsLimit (length xs)) (λ _. Ends.stop _ s) (λ e. Ends.on tt (omega (arith, ltb-false))))
+    ends-pick (leb nestingLimit (length (s .tables))) (λ _. Ends.stop _ s tt) (λ _.
+    ends-pick (ltb argumentsLimit (length xs)) (λ _. Ends.stop _ s tt) (λ e. Ends.on tt (omega (arith, ltb-false))))
 
 -- two equal states
 twice : {A : Type 0} {P : A → State → Type 0} {x : Res State A} → Ends P x → Both always (λ a s t. (s ≡ t) × P a s) x x
 twice (Ends.on a h) = Both.on a (refl, h)
-twice (Ends.stop r s) = Both.stop r tt
+twice (Ends.stop r s n) = Both.stop r n tt
 
 -- one step from equal states
 pub from-equal : {A : Type 0} {P : A → State → Type 0} {s t : State} (f : State → Res State A) → s ≡ t → Ends P (f s) → Both always (λ a s t. (s ≡ t) × P a s) (f s) (f t)

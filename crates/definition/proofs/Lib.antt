@@ -1,6 +1,8 @@
 pub mod Basic
 pub mod WellFormed
 pub mod Blank
+pub mod Follows
+pub mod ReadShape
 pub mod Symbols
 pub mod Simulation
 pub mod Refine

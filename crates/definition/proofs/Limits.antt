@@ -36,16 +36,16 @@ emitted : {s : State} → ValidState s → (d p : ℕ) (i : Instr) → ValidInst
 unfolding emitBeside
 emitted {s} h d p i v =
     ends-pick (leb (s .around + sizeOf (s .code) + d + size i) codeSize)
-    (λ e. Ends.on tt (record { size = omega (arith, leb-true); code = All.more v (h .code); tables = h .tables; session = h .session })) (λ _. Ends.stop _ s)
+    (λ e. Ends.on tt (record { size = omega (arith, leb-true); code = All.more v (h .code); tables = h .tables; session = h .session })) (λ _. Ends.stop _ s tt)
 
 -- the index of a new constant
 added : {s : State} → ValidState s → (p : ℕ) (c : Const) → ValidConst c → Ends (λ k s. (k < constantsLimit) × ValidState s) (addConstant p c s)
 unfolding addConstant
 added {s} h p c v =
-    ends-pick (leb constantsLimit (length (s .pool))) (λ _. Ends.stop _ s) (λ e.
+    ends-pick (leb constantsLimit (length (s .pool))) (λ _. Ends.stop _ s tt) (λ e.
     ends-pick (leb (poolSize (c ∷ s .pool)) poolLimit) (λ e′.
     let pool : ValidPool (c ∷ s .pool) = record { count = omega (arith, leb-false); size = leb-true (poolSize (c ∷ s .pool)) poolLimit e′; each = All.more v (h .session .pool .each) } in
-    Ends.on _ (omega (arith, leb-false), record { size = h .size; code = h .code; tables = h .tables; session = record { count = h .session .count; names = h .session .names; pool = pool } })) (λ _. Ends.stop _ s))
+    Ends.on _ (omega (arith, leb-false), record { size = h .size; code = h .code; tables = h .tables; session = record { count = h .session .count; names = h .session .names; pool = pool } })) (λ _. Ends.stop _ s tt))
 
 constant : {s : State} → ValidState s → (p : ℕ) (c : Const) → ValidConst c → Kept (literal p c s)
 constant h p c v = ends-bind (added h p c v) (λ k s₁ h₁. emitted (h₁ .1) 0 p (instr opConstant k 0) (record { known = omega arith; operand = omega (arith, h₁ .0); captures = omega arith }))
@@ -59,8 +59,8 @@ boolean-valid b = go (eqb b 0)
 
 loaded-keeps : {s : State} → ValidState s → (p : ℕ) {f : Resolved} → ValidResolved f → Kept (loaded p s f)
 loaded-keeps h p (ValidResolved.found {y = y} v vs) = emitted (record { size = h .size; code = h .code; tables = vs; session = h .session }) 0 p (loadOf y) (v .load)
-loaded-keeps {s} h p ValidResolved.undefined = Ends.stop _ s
-loaded-keeps {s} h p ValidResolved.full = Ends.stop _ s
+loaded-keeps {s} h p ValidResolved.undefined = Ends.stop _ s tt
+loaded-keeps {s} h p ValidResolved.full = Ends.stop _ s tt
 
 load-keeps : {s : State} → ValidState s → (p : ℕ) (x : Bytes) → Kept (load p x s)
 unfolding load
@@ -68,7 +68,7 @@ load-keeps {s} h p x = loaded-keeps h p (resolve-valid (s .globals) x (h .sessio
 
 placed-keeps : {s : State} → ValidState s → (p : ℕ) {d : Defined} → ValidDefined d → Ends (λ i s. ValidInstr i × ValidState s) (placed p s d)
 placed-keeps h p (ValidDefined.defined {i = i} v c ns vs) = Ends.on i (v, record { size = h .size; code = h .code; tables = vs; session = record { count = c; names = ns; pool = h .session .pool } })
-placed-keeps {s} h p (ValidDefined.noRoom k) = Ends.stop _ s
+placed-keeps {s} h p (ValidDefined.noRoom k n) = Ends.stop _ s n
 
 define-keeps : {s : State} → ValidState s → (p : ℕ) (x : Bytes) → IsName x → Ends (λ i s. ValidInstr i × ValidState s) (define p x s)
 unfolding define
@@ -129,8 +129,8 @@ dropped-keeps {s} h = go (lastIs opPop (s .code))
 enter-keeps : {s : State} → ValidState s → (p : ℕ) (x : Bytes) (xs : List Bytes) → Ends (λ (_ : Unit {0}) s. (length xs ≤ argumentsLimit) × ValidState s) (enter p x xs s)
 unfolding enter
 enter-keeps {s} h p x xs =
-    ends-pick (leb nestingLimit (length (s .tables))) (λ _. Ends.stop _ s) (λ _.
-    ends-pick (ltb argumentsLimit (length xs)) (λ _. Ends.stop _ s) (λ e.
+    ends-pick (leb nestingLimit (length (s .tables))) (λ _. Ends.stop _ s tt) (λ _.
+    ends-pick (ltb argumentsLimit (length xs)) (λ _. Ends.stop _ s tt) (λ e.
     let few : length xs ≤ argumentsLimit = omega (arith, ltb-false) in
     Ends.on tt (few, record { size = omega (arith, h .size); code = All.none; tables = All.more (entered-valid x xs (omega arith)) (h .tables); session = h .session })))
 
@@ -187,7 +187,7 @@ limits =
 -- what holds of one machine's end holds of the other's
 across : {x y : Res State (Unit {0})} → Both always (λ (_ : Unit {0}) s t. s ≡ t) x y → Kept y → Kept x
 across (Both.on a e) (Ends.on b h) = Ends.on a (subst ValidState (sym e) h)
-across (Both.stop r {s} _) (Ends.stop q t) = Ends.stop r s
+across (Both.stop r n {s} _) (Ends.stop q t _) = Ends.stop r s n
 
 pub walk-limits : (b : Stmts) → WfStmts b → {s : State} → ValidState s → Kept (walkStmts machine b s)
 walk-limits b h {s} v = across (both-map (patches b h s) (λ _ _ _ q. q .same)) (ends (refined limits b {w = tt} h (record { same = refl; holds = v })))

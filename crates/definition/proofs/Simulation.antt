@@ -17,7 +17,7 @@ use borrow.Author.Tests.{ltb-false, eqb-true}
 use Rattle.definition.specs.Basic.{Bytes, pick, both}
 use Rattle.definition.specs.Limit.{nameLimit, argumentsLimit}
 use Rattle.definition.specs.Number
-use Rattle.definition.specs.Number.{refusal}
+use Rattle.definition.specs.Number.{refusal, walkNumber}
 use Rattle.definition.specs.Syntax.{Stmt, Stmts, Else, Expr, Exprs, count}
 use Rattle.definition.specs.Opcode.{Instr, instr, plain, width, opLast, opPop, opJumpNotTruthy, opJump, opNull, opArray, opHash, opIndex, opCall, opReturnValue}
 use Rattle.definition.specs.Valid.{All, IsName, ValidInstr, operandBound, capturesBound}
@@ -27,16 +27,16 @@ use Rattle.definition.proofs.Basic.{picked}
 use Rattle.definition.proofs.WellFormed.{WfStmt, WfStmts, WfElse, WfExpr, WfExprs}
 use Rattle.definition.proofs.Blank.{Literals, mapStmt, mapStmts, mapElse, mapExpr, mapExprs}
 
--- both go on with one value, in states that P relates for it; or both stop with one refusal, in states that Q relates
+-- both go on with one value, in states that P relates for it; or both stop with one refusal of the walk, in states that Q relates
 pub data Both {S U A : Type 0} (Q : S → U → Type 0) (P : A → S → U → Type 0) : Res S A → Res U A → Type 0 where
   on : (a : A) {s : S} {t : U} → P a s t → Both Q P (Res.on a s) (Res.on a t)
-  stop : (r : Refusal) {s : S} {t : U} → Q s t → Both Q P (Res.stop r s) (Res.stop r t)
+  stop : (r : Refusal) → T (walkNumber (r .number)) → {s : S} {t : U} → Q s t → Both Q P (Res.stop r s) (Res.stop r t)
 
 module _ {S U : Type 0} {Q : S → U → Type 0} where
   pub both-bind : {A B : Type 0} {P : A → S → U → Type 0} {P′ : B → S → U → Type 0} {x : Res S A} {y : Res U A} {k : A → S → Res S B} {l : A → U → Res U B}
       → Both Q P x y → ((a : A) (s : S) (t : U) → P a s t → Both Q P′ (k a s) (l a t)) → Both Q P′ (bind x k) (bind y l)
   both-bind (Both.on a {s} {t} h) f = f a s t h
-  both-bind (Both.stop r h) f = Both.stop r h
+  both-bind (Both.stop r n h) f = Both.stop r n h
 
   -- under one test, which the second may use
   pub guarded : {A : Type 0} {P : A → S → U → Type 0} {x x′ : Res S A} {y y′ : Res U A} (b : Bool) {c : Bool} → c ≡ b → Both Q P x y → (c ≡ false → Both Q P x′ y′) → Both Q P (pick b x x′) (pick b y y′)
@@ -45,7 +45,7 @@ module _ {S U : Type 0} {Q : S → U → Type 0} where
 
   pub both-map : {A : Type 0} {P P′ : A → S → U → Type 0} {x : Res S A} {y : Res U A} → Both Q P x y → ((a : A) (s : S) (t : U) → P a s t → P′ a s t) → Both Q P′ x y
   both-map (Both.on a {s} {t} h) f = Both.on a (f a s t h)
-  both-map (Both.stop r h) f = Both.stop r h
+  both-map (Both.stop r n h) f = Both.stop r n h
 
 -- What a simulation has to answer for. R relates states that go on, D those of them where a last Pop may be dropped: a chunk's first, and
 -- any right after an instruction. Q relates states at a stop. R and D may lean on a context W: the jumps not yet patched, and the functions
@@ -113,8 +113,8 @@ module _ {S U : Type 0} {m : Machine S} {n : Machine U} {f : Literals} {W : Type
 
   both-operate : {w : W} {s : S} {t : U} (p : ℕ) (os : List (Option ℕ)) → T (known os) → (o : ℕ) → R w s t → LikeR w (operate m p (getD os o none) s) (operate n p (getD os o none) t)
   unfolding known
-  both-operate p [] k o r = Both.stop (refusal Number.operator p) (sim .halt r)
-  both-operate p (none ∷ os) k zero r = Both.stop (refusal Number.operator p) (sim .halt r)
+  both-operate p [] k o r = Both.stop (refusal Number.operator p) tt (sim .halt r)
+  both-operate p (none ∷ os) k zero r = Both.stop (refusal Number.operator p) tt (sim .halt r)
   both-operate p (some x ∷ os) k zero r = rests (emits r p x (both-known (bare x) (known os) k .0))
   both-operate p (none ∷ os) k (suc o) r = both-operate p os k o r
   both-operate p (some x ∷ os) k (suc o) r = both-operate p os (both-known (bare x) (known os) k .1) o r
@@ -167,7 +167,7 @@ module _ {S U : Type 0} {m : Machine S} {n : Machine U} {f : Literals} {W : Type
         both-bind (sim .enter r p x xs (h .0) (h .1)) (λ _ _ _ d. both-bind (both-stmts b (h .2) (d .1)) (λ _ _ _ d₁. rests (sim .leave r d₁ p (length xs) (d .0))))
     both-expr (Expr.call p e es) {w} h r =
         both-bind (both-expr e (h .0) r) (λ _ _ _ r₁.
-        rw (count-map f es) (guarded (ltb argumentsLimit (count es)) refl (Both.stop (refusal Number.tooMany p) (sim .halt r₁))
+        rw (count-map f es) (guarded (ltb argumentsLimit (count es)) refl (Both.stop (refusal Number.tooMany p) tt (sim .halt r₁))
         (λ k. both-bind (both-exprs es (h .1) r₁) (λ _ _ _ r₂. emits-count r₂ p (instr opCall (count es) 0) (omega arith) (omega (arith, ltb-false)) (omega arith)))))
     both-expr (Expr.integer p b) h r = rests (sim .integer r p b h)
     both-expr (Expr.boolean p b) h r = rests (sim .boolean r p b)
@@ -175,7 +175,7 @@ module _ {S U : Type 0} {m : Machine S} {n : Machine U} {f : Literals} {W : Type
     both-expr (Expr.array p es) h r = both-bind (both-exprs es (h .1) r) (λ _ _ _ r₁. rw (count-map f es) (emits-count r₁ p (instr opArray (count es) 0) (omega arith) (h .0) (omega arith)))
     both-expr (Expr.index p a b) h r = both-bind (both-expr a (h .0) r) (λ _ _ _ r₁. both-bind (both-expr b (h .1) r₁) (λ _ _ _ r₂. rests (emits r₂ p opIndex tt)))
     both-expr (Expr.hash p es) h r = both-bind (both-exprs es (h .1) r) (λ _ _ _ r₁. rw (count-map f es) (emits-count r₁ p (instr opHash (count es) 0) (omega arith) (h .0) (omega arith)))
-    both-expr (Expr.macro p) h r = Both.stop (refusal Number.macro p) (sim .halt r)
+    both-expr (Expr.macro p) h r = Both.stop (refusal Number.macro p) tt (sim .halt r)
 
     both-exprs : (es : Exprs) {w : W} {s : S} {t : U} → WfExprs es → R w s t → LikeR w (walkExprs m es s) (walkExprs n (mapExprs f es) t)
     both-exprs Exprs.noExprs h r = Both.on tt r
@@ -187,10 +187,10 @@ pub record Held {S W : Type 0} (P : W → S → Type 0) (w : W) (s t : S) : Type
   pub same : s ≡ t
   pub holds : P w s
 
--- P of the value and the state, if it goes on
+-- P of the value and the state, if it goes on; or a refusal of the walk
 pub data Ends {S A : Type 0} (P : A → S → Type 0) : Res S A → Type 0 where
   on : (a : A) {s : S} → P a s → Ends P (Res.on a s)
-  stop : (r : Refusal) (s : S) → Ends P (Res.stop r s)
+  stop : (r : Refusal) (s : S) → T (walkNumber (r .number)) → Ends P (Res.stop r s)
 
 module _ {S A : Type 0} {P : A → S → Type 0} where
   pub ends-pick : {x y : Res S A} (b : Bool) → (b ≡ true → Ends P x) → (b ≡ false → Ends P y) → Ends P (pick b x y)
@@ -199,15 +199,12 @@ module _ {S A : Type 0} {P : A → S → Type 0} where
 
   pub ends-map : {P′ : A → S → Type 0} {x : Res S A} → Ends P x → ((a : A) (s : S) → P a s → P′ a s) → Ends P′ x
   ends-map (Ends.on a {s} h) f = Ends.on a (f a s h)
-  ends-map (Ends.stop r s) f = Ends.stop r s
+  ends-map (Ends.stop r s n) f = Ends.stop r s n
 
   pub ends-bind : {B : Type 0} {P′ : B → S → Type 0} {x : Res S A} {k : A → S → Res S B} → Ends P x → ((a : A) (s : S) → P a s → Ends P′ (k a s)) → Ends P′ (bind x k)
   ends-bind (Ends.on a {s} h) f = f a s h
-  ends-bind (Ends.stop r s) f = Ends.stop r s
+  ends-bind (Ends.stop r s n) f = Ends.stop r s n
 
-pub ends-any : {S A : Type 0} (x : Res S A) → Ends (λ _ _. Unit {0}) x
-ends-any (Res.on a s) = Ends.on a tt
-ends-any (Res.stop r s) = Ends.stop r s
 
 abbrev pub always : {S U : Type 0} → S → U → Type 0
 always s t = Unit {0}
@@ -218,8 +215,8 @@ module _ {S A W : Type 0} {P : W → S → Type 0} {v : A → W} where
     where
       go : {x : Res S A} → Ends (λ a. P (v a)) x → Both always (λ a. Held P (v a)) x x
       go (Ends.on a h) = Both.on a (record { same = refl; holds = h })
-      go (Ends.stop r s) = Both.stop r tt
+      go (Ends.stop r s n) = Both.stop r n tt
 
   pub ends : {x y : Res S A} → Both always (λ a. Held P (v a)) x y → Ends (λ a. P (v a)) x
   ends (Both.on a h) = Ends.on a (h .holds)
-  ends (Both.stop r {s} h) = Ends.stop r s
+  ends (Both.stop r n {s} h) = Ends.stop r s n

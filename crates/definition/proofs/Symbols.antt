@@ -5,17 +5,18 @@ use mathlib.Core.Bool.{Bool, true, false}
 use mathlib.Core.List.{List, [], _∷_}
 use mathlib.Core.Path.{_≡_, refl}
 use lib.ListN.{length}
-use lib.Dec.{leb}
+use lib.Dec.{T, leb}
 use borrow.Author.Tests.{leb-false}
 use Rattle.definition.specs.Basic.{Bytes, pick}
 use Rattle.definition.specs.Limit.{globalsLimit, localsLimit}
+use Rattle.definition.specs.Number.{walkNumber}
 use Rattle.definition.specs.SymbolTable.{Table, Defined, place}
 use Rattle.definition.specs.Valid.{ValidInstr}
 
--- a definition's instruction is valid
+-- a definition's instruction is valid, and so is the number of one without room
 abbrev pub DefinedValid : Defined → Type 0
 DefinedValid (Defined.defined i gs ts) = ValidInstr i
-DefinedValid (Defined.noRoom k) = Unit {0}
+DefinedValid (Defined.noRoom k) = T (walkNumber k)
 
 -- one of two, the second where a test is false
 defined-pick : (d e : Defined) (b : Bool) {c : Bool} → c ≡ b → DefinedValid d → (c ≡ false → DefinedValid e) → DefinedValid (pick b d e)

@@ -6,10 +6,11 @@ use mathlib.Core.List.{List, [], _∷_}
 use mathlib.Core.Option.{Option, none, some}
 use mathlib.Core.Path.{_≡_, refl}
 use lib.ListN.{length}
-use lib.Dec.{leb}
+use lib.Dec.{T, leb}
 use borrow.Author.Tests.{leb-false}
 use Rattle.definition.specs.Basic.{Bytes, pick}
 use Rattle.definition.specs.Limit.{globalsLimit, localsLimit, freeLimit}
+use Rattle.definition.specs.Number.{walkNumber}
 use Rattle.definition.specs.Opcode.{Instr}
 use Rattle.definition.specs.SymbolTable.{Symbol, Entry, Table, Resolved, Defined, same, find, findGlobal, findBuiltin, builtins, outermost, withFree, capture, cross, orOuter, resolve, loadOf, withLocal, place, named, withParams}
 use Rattle.definition.specs.Valid.{All, IsName, ValidInstr}
@@ -104,7 +105,7 @@ resolve-valid gs n h (All.more {x = t} {xs = ts} v vs) = orOuter-valid n t ts v 
 -- a definition, and the globals and tables afterwards
 pub data ValidDefined : Defined → Type 0 where
   defined : {i : Instr} {gs : List Bytes} {ts : List Table} → ValidInstr i → length gs ≤ globalsLimit → All IsName gs → All ValidTable ts → ValidDefined (Defined.defined i gs ts)
-  noRoom : (k : ℕ) → ValidDefined (Defined.noRoom k)
+  noRoom : (k : ℕ) → T (walkNumber k) → ValidDefined (Defined.noRoom k)
 
 defined-pick : {x y : Defined} (b : Bool) {c : Bool} → c ≡ b → ValidDefined x → (c ≡ false → ValidDefined y) → ValidDefined (pick b x y)
 defined-pick true e h k = h
@@ -118,10 +119,10 @@ local-valid n t h l =
 
 pub place-keeps : (n : Bytes) {gs : List Bytes} {ts : List Table} → IsName n → length gs ≤ globalsLimit → All IsName gs → All ValidTable ts → ValidDefined (place n gs ts)
 place-keeps n {gs} i h ns All.none =
-    defined-pick (leb globalsLimit (length gs)) refl (ValidDefined.noRoom _) (λ e.
+    defined-pick (leb globalsLimit (length gs)) refl (ValidDefined.noRoom _ tt) (λ e.
     ValidDefined.defined (record { known = omega arith; operand = omega (arith, leb-false); captures = omega arith }) (omega (arith, leb-false)) (All.more i ns) All.none)
 place-keeps n i h ns (All.more {x = t} v vs) =
-    defined-pick (leb localsLimit (t .definitions)) refl (ValidDefined.noRoom _) (λ e.
+    defined-pick (leb localsLimit (t .definitions)) refl (ValidDefined.noRoom _ tt) (λ e.
     ValidDefined.defined (record { known = omega arith; operand = omega (arith, leb-false); captures = omega arith }) h ns (All.more (local-valid n t v (omega (arith, leb-false))) vs))
 
 -- a function's table as it is entered

@@ -1,5 +1,8 @@
 -- The numbers sent back.
 use Prim.Native.Nat.{ℕ}
+use mathlib.Core.Bool.{Bool}
+use lib.Dec.{leb}
+use Rattle.definition.specs.Basic.{both}
 use Rattle.definition.specs.declared.Refusal.{Refusal}
 
 abbrev pub refusal : ℕ → ℕ → Refusal
@@ -72,3 +75,7 @@ badInstruction = 16
 -- a wrong field or instruction of an image
 abbrev pub badImage : ℕ
 badImage = 17
+
+-- the numbers of the walk
+abbrev pub walkNumber : ℕ → Bool
+walkNumber n = both (leb undefined n) (leb n nesting)
