@@ -7,6 +7,17 @@ pub mod Symbols
 pub mod Simulation
 pub mod Refine
 pub mod Erase
+pub mod Agreement
+pub mod Gives
+pub mod ReadWellFormed
+pub mod Steps
+pub mod Bytes
+pub mod Items
+pub mod Fields
+pub mod Instructions
+pub mod Pools
+pub mod Sessions
+pub mod Series
 pub mod Jumps
 pub mod ValidSymbols
 pub mod Limits

@@ -205,7 +205,6 @@ module _ {S A : Type 0} {P : A → S → Type 0} where
   ends-bind (Ends.on a {s} h) f = f a s h
   ends-bind (Ends.stop r s n) f = Ends.stop r s n
 
-
 abbrev pub always : {S U : Type 0} → S → U → Type 0
 always s t = Unit {0}
 

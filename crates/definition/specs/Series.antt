@@ -6,9 +6,13 @@ use mathlib.Core.List.{List, [], _∷_, map}
 use lib.ListN.{length, take}
 use Rattle.definition.specs.Basic.{Bytes}
 use Rattle.definition.specs.Limit.{sessionSize}
+use Rattle.definition.specs.Number
+use Rattle.definition.specs.Number.{refusal}
 use Rattle.definition.specs.Shape.{shape}
 use Rattle.definition.specs.Bytecode.{Image, imageBytes}
-use Rattle.definition.specs.Session.{fresh}
+use Rattle.definition.specs.Session.{Session, fresh}
+use Rattle.definition.specs.Decode.{decoded, readSession}
+use Rattle.definition.specs.Valid.{ValidSession}
 use Rattle.definition.specs.Compile.{Outcome, Step, Request, steps}
 use Rattle.definition.specs.Call.{Lent, Called, call}
 use Rattle.definition.specs.Literal.{Mask, imageMask, sessionMask}
@@ -71,3 +75,11 @@ pub record Same (p : Step) (x y : Called) : Type 0 where
 pub data Indistinguishable : List Step → List Called → List Called → Type 0 where
   done : Indistinguishable [] [] []
   step : {p : Step} {x y : Called} {ps : List Step} {xs ys : List Called} → Same p x y → Indistinguishable ps xs ys → Indistinguishable (p ∷ ps) (x ∷ xs) (y ∷ ys)
+
+-- after a call the session reads back, and the call was not refused for its session
+pub record ReadsBack (x : Called) : Type 0 where
+  pub session : Session
+  pub end : ℕ
+  pub reads : readSession (take sessionSize (x .lent .session)) ≡ decoded session end
+  pub valid : ValidSession session
+  pub sound : (p : ℕ) → x .answer ≡ Refused (refusal Number.noSession p) → ⊥

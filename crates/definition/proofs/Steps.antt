@@ -1,0 +1,169 @@
+-- A compile call in a session: it keeps the session valid, and does not see literals.
+use Prim.Native.Nat.{ℕ, _≤_, _<_}
+use native.Mathlib.Omega.{arith}
+use mathlib.Core.Bool.{Bool, true, false}
+use mathlib.Core.List.{List, [], _∷_}
+use mathlib.Core.Logic.{_↔_}
+use mathlib.Core.Option.{none, some}
+use mathlib.Core.Path.{_≡_, refl, sym, ap, subst, _∙_}
+use lib.ListN.{length}
+use lib.Dec.{leb, T, leb→le}
+use Rattle.definition.specs.Basic.{Bytes, byteAt, pick, both}
+use Rattle.definition.specs.Number
+use Rattle.definition.specs.Number.{refusal}
+use Rattle.definition.specs.Syntax.{Stmts}
+use Rattle.definition.specs.Bytecode.{Image, imageBytes}
+use Rattle.definition.specs.Walk.{Res, walkStmts}
+use Rattle.definition.specs.Compiler.{State, machine}
+use Rattle.definition.specs.Tree.{Read, Parsed, judged, readProgram, readTree}
+use Rattle.definition.specs.Shape.{shape}
+use Rattle.definition.specs.Session.{Session, fresh}
+use Rattle.definition.specs.Compile.{Outcome, Step, Request, imageOf, sessionOf, start, turnedDown, finish, translate, enough, compile}
+use Rattle.definition.specs.Valid.{All, ValidImage, ValidPool, ValidSession}
+use Rattle.definition.specs.declared.Refusal.{Refusal}
+use Rattle.definition.proofs.Basic.{picked}
+use Rattle.definition.proofs.WellFormed.{WfStmts}
+use Rattle.definition.proofs.Blank.{blank, mapStmts}
+use Rattle.definition.proofs.ReadShape.{mapParsed, read-shape}
+use Rattle.definition.proofs.ReadWellFormed.{read-well-formed}
+use Rattle.definition.proofs.Simulation.{Both, Ends}
+use Rattle.definition.proofs.Erase.{erase, Alike, self, Same, walk-shape}
+use Rattle.definition.proofs.Limits.{ValidState, walk-limits}
+use Rattle.definition.proofs.Agreement.{eraseImage, eraseSession, image-length}
+
+-- a refusal of reading is number 3 or 4
+abbrev treeNumber : ℕ → Bool
+treeNumber n = both (leb Number.badTree n) (leb n Number.tooDeep)
+
+abbrev TreeNumber : {A : Type 0} → Parsed A → Type 0
+TreeNumber (Parsed.parsed a n) = Unit {0}
+TreeNumber (Parsed.refused r) = T (treeNumber (r .number))
+
+judged-number : {A : Type 0} (x : Read A) → TreeNumber (judged x)
+judged-number (Read.ok a n none l) = tt
+judged-number (Read.ok a n (some p) l) = tt
+judged-number (Read.wrong p none l) = tt
+judged-number (Read.wrong p (some q) l) = tt
+
+read-number : (tree : Bytes) → TreeNumber (readTree tree)
+unfolding readTree
+read-number tree = judged-number (readProgram (byteAt tree) (length tree))
+
+-- what a tree that was read gives
+module _ {A : Type 0} (P : Parsed Stmts → A → Type 0) (f : Parsed Stmts → A) where
+  -- a statement about each outcome of reading
+  by-reading : ((b : Stmts) (n : ℕ) → WfStmts b → P (Parsed.parsed b n) (f (Parsed.parsed b n))) → ((r : Refusal) → T (treeNumber (r .number)) → P (Parsed.refused r) (f (Parsed.refused r)))
+      → (tree : Bytes) → P (readTree tree) (f (readTree tree))
+  by-reading h k tree = go (readTree tree) (read-number tree) (λ b n e. read-well-formed tree b n e)
+    where
+      go : (p : Parsed Stmts) → TreeNumber p → ((b : Stmts) (n : ℕ) → p ≡ Parsed.parsed b n → WfStmts b) → P p (f p)
+      go (Parsed.parsed b n) t w = h b n (w b n refl)
+      go (Parsed.refused r) t w = k r t
+
+-- A valid session stays valid
+
+pub fresh-valid : ValidSession fresh
+fresh-valid = record { count = omega arith; names = All.none; pool = record { count = omega arith; size = omega arith; each = All.none } }
+
+start-valid : (z : Session) → ValidSession z → ValidState (start z)
+start-valid z v = record { size = omega arith; code = All.none; tables = All.none; session = v }
+
+-- a step from a session: a valid session and image, or the session as it was and a refusal that is not number 2
+pub record ValidStep (z : Session) (x : Step) : Type 0 where
+  pub session : ValidSession (x .session)
+  pub image : (m : Image) → x .outcome ≡ Outcome.accepted m → ValidImage m
+  pub kept : (r : Refusal) → x .outcome ≡ Outcome.refused r → x .session ≡ z
+  pub number : (r : Refusal) → x .outcome ≡ Outcome.refused r → r .number ≡ Number.noSession → ⊥
+
+accepted-not-refused : (m : Image) (r : Refusal) → Outcome.accepted m ≡ Outcome.refused r → ⊥
+accepted-not-refused m r e = let z : _≡_ {A = ℕ} 0 1 = cc in omega arith
+
+turnedDown-valid : (z : Session) → ValidSession z → (r : Refusal) → (r .number ≡ Number.noSession → ⊥) → ValidStep z (turnedDown z r)
+turnedDown-valid z v r n = record { session = v; image = λ m e. absurd (accepted-not-refused m r (sym e)); kept = λ _ _. refl; number = λ q e h. n (number q e ∙ h) }
+  where
+    number : (q : Refusal) → Outcome.refused r ≡ Outcome.refused q → r .number ≡ q .number
+    number q e = ap (λ x. x .number) (same q e)
+      where
+        same : (q : Refusal) → Outcome.refused r ≡ Outcome.refused q → r ≡ q
+        same q e = cc
+
+accepted-valid : (z : Session) (s : State) → ValidState s → ValidStep z (record { outcome = Outcome.accepted (imageOf s); session = sessionOf s })
+accepted-valid z s v =
+    let image : ValidImage (imageOf s) = record { size = omega (arith, v .size); code = v .code; pool = v .session .pool } in
+    record {
+      session = v .session;
+      image = λ m e. subst ValidImage (same m e) image;
+      kept = λ r e. absurd (accepted-not-refused (imageOf s) r e);
+      number = λ r e _. absurd (accepted-not-refused (imageOf s) r e);
+    }
+  where
+    same : (m : Image) → Outcome.accepted (imageOf s) ≡ Outcome.accepted m → imageOf s ≡ m
+    same m e = cc
+
+valid-pick : {z : Session} {x y : Step} (b : Bool) → ValidStep z x → ValidStep z y → ValidStep z (pick b x y)
+valid-pick true h k = h
+valid-pick false h k = k
+
+-- a number that is another by a test
+other-number : (least n most : ℕ) → Number.noSession < least → T (both (leb least n) (leb n most)) → n ≡ Number.noSession → ⊥
+other-number least n most l t e = go (leb least n) (λ k. leb→le least n k) t
+  where
+    go : (b : Bool) → (T b → least ≤ n) → T (both b (leb n most)) → ⊥
+    go true h t = omega (arith, h tt)
+    go false h t = t
+
+finish-valid : (n : ℕ) (z : Session) → ValidSession z → {x : Res State (Unit {0})} → Ends (λ (_ : Unit {0}). ValidState) x → ValidStep z (finish n z x)
+finish-valid n z v (Ends.on a {s} h) = valid-pick (leb (length (imageBytes (imageOf s))) n) (accepted-valid z s h) (turnedDown-valid z v (refusal Number.outputShort 0) (λ e. omega arith))
+finish-valid n z v (Ends.stop r s w) = turnedDown-valid z v r (other-number Number.undefined (r .number) Number.nesting (omega arith) w)
+
+pub compile-valid : (z : Session) → ValidSession z → (c : Request) → ValidStep z (compile z c)
+unfolding compile
+compile-valid z v c =
+    valid-pick (enough c)
+    (by-reading (λ _ x. ValidStep z x) (λ p. translate (c .output) z p) (λ b _ w. finish-valid (c .output) z v (walk-limits b w (start-valid z v)))
+    (λ r t. turnedDown-valid z v r (other-number Number.badTree (r .number) Number.tooDeep (omega arith) t)) (c .tree))
+    (turnedDown-valid z v (refusal Number.shortBuffer 0) (λ e. omega arith))
+
+-- A call and that with the tree's shape, from sessions that differ in literals alone
+
+pub data OutcomeLike : Outcome → Outcome → Type 0 where
+  accepted : {x y : Image} → Alike eraseImage x y → OutcomeLike (Outcome.accepted x) (Outcome.accepted y)
+  refused : (r : Refusal) → OutcomeLike (Outcome.refused r) (Outcome.refused r)
+
+pub record StepLike (x y : Step) : Type 0 where
+  pub outcome : OutcomeLike (x .outcome) (y .outcome)
+  pub session : Alike eraseSession (x .session) (y .session)
+
+-- the call with its tree's shape
+abbrev pub withShape : Request → Request
+withShape c = record { code = c .code; table = c .table; session = c .session; output = c .output; tree = shape (c .tree) }
+
+images : {s t : State} → Alike erase s t → Alike eraseImage (imageOf s) (imageOf t)
+images r = record { erased = λ k. imageOf (r .erased k) }
+
+module _ {z w : Session} (e : Alike eraseSession z w) where
+  turnedDown-like : (r : Refusal) → StepLike (turnedDown z r) (turnedDown w r)
+  turnedDown-like r = record { outcome = OutcomeLike.refused r; session = e }
+
+  finish-like : (n : ℕ) {x y : Res State (Unit {0})} → Same x y → StepLike (finish n z x) (finish n w y)
+  finish-like n (Both.on a r) =
+      picked StepLike (λ k. leb (image-length (images r) k) n)
+      (record { outcome = OutcomeLike.accepted (images r); session = record { erased = λ k. sessionOf (r .erased k) } }) (turnedDown-like _)
+  finish-like n (Both.stop r _ h) = turnedDown-like r
+
+  pub compile-like : (c : Request) → StepLike (compile z c) (compile w (withShape c))
+  unfolding compile
+  compile-like c =
+      picked StepLike {b = enough c} refl
+      (subst (λ p. StepLike (translate (c .output) z (readTree (c .tree))) (translate (c .output) w p)) (read-shape (c .tree))
+      (by-reading (λ p x. StepLike x (translate (c .output) w (mapParsed (mapStmts blank) p))) (λ p. translate (c .output) z p)
+      (λ b _ h. finish-like (c .output) (walk-shape b h (record { erased = λ k. start (e .erased k) }))) (λ r _. turnedDown-like r) (c .tree)))
+      (turnedDown-like _)
+
+-- a tree and its shape are refused alike
+refused-like : {x y : Outcome} → OutcomeLike x y → (r : Refusal) → (x ≡ Outcome.refused r) ↔ (y ≡ Outcome.refused r)
+refused-like (OutcomeLike.accepted _) r = (λ e. absurd (accepted-not-refused _ r e), λ e. absurd (accepted-not-refused _ r e))
+refused-like (OutcomeLike.refused q) r = (λ e. e, λ e. e)
+
+pub shape-refused : (z : Session) (c : Request) (r : Refusal) → (compile z c .outcome ≡ Outcome.refused r) ↔ (compile z (withShape c) .outcome ≡ Outcome.refused r)
+shape-refused z c r = refused-like (compile-like (self z) c .outcome) r
