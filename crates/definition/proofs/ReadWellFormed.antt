@@ -16,7 +16,7 @@ use Rattle.definition.specs.Tree.{Read, ExprTag, StmtTag, exprTag, stmtT
 use Rattle.definition.specs.Valid.{All, IsName}
 use Rattle.definition.proofs.Basic.{chosen, both-true, length-bytes}
 use Rattle.definition.proofs.WellFormed.{WfStmt, WfStmts, WfElse, WfExpr, WfExprs}
-use Rattle.definition.proofs.Gives.{Gives, Past, Fields, Filled, gives-seq, gives-pick, gives-met, gives-child, gives-read, gives-last, gives-field, gives-byte, gives-many, past-filled, judged-gives}
+use Rattle.definition.proofs.Gives.{Gives, Past, WfFields, Filled, gives-seq, gives-pick, gives-met, gives-child, gives-read, gives-last, gives-field, gives-byte, gives-many, past-filled, judged-gives}
 
 -- what an expression's length must be, by its kind
 abbrev Sized : ExprTag → ℕ → Type 0
@@ -49,20 +49,20 @@ sized t n e =
     chosen P (eqb t tagIndex) (λ _. tt) (λ _.
     chosen P (eqb t tagHash) (λ _. tt) (λ _. tt)))))))))))
 
-module _ {f : ℕ → ℕ → Read Stmt} (F : Fields WfStmt f) where
+module _ {f : ℕ → ℕ → Read Stmt} (F : WfFields WfStmt f) where
   -- statements
   gives-stmts : (fuel at end : ℕ) → end ≤ treeLimit → Gives (Filled WfStmts (λ _. 0) at end) (stmtsOf f fuel at end)
   unfolding WfStmts
   gives-stmts = gives-many (λ _. 0) Stmts.noStmts (λ x xs. Stmts.stmts x xs) refl (λ _ _. omega arith) tt (λ _ _ w ws. (w, ws)) F
 
-module _ {f : ℕ → ℕ → Read Expr} (F : Fields WfExpr f) where
+module _ {f : ℕ → ℕ → Read Expr} (F : WfFields WfExpr f) where
   -- expressions
   gives-exprs : (fuel at end : ℕ) → end ≤ treeLimit → Gives (Filled WfExprs count at end) (exprsOf f fuel at end)
   unfolding WfExprs
   gives-exprs = gives-many count Exprs.noExprs (λ x xs. Exprs.exprs x xs) refl (λ _ _. omega arith) tt (λ _ _ w ws. (w, ws)) F
 
   -- a key and its value
-  gives-pair : (parent : ℕ) → Fields (λ x. WfExpr (x .0) × WfExpr (x .1)) (pairOf f parent)
+  gives-pair : (parent : ℕ) → WfFields (λ x. WfExpr (x .0) × WfExpr (x .1)) (pairOf f parent)
   gives-pair parent =
       record { each = λ at end h. gives-seq (F .each at end h) (λ k at₁ p. gives-seq (gives-child F parent at₁ end h) (λ v n q. gives-read n (omega arith) (p .wf, q .wf))) }
 
@@ -72,7 +72,7 @@ module _ {f : ℕ → ℕ → Read Expr} (F : Fields WfExpr f) where
   gives-pairs parent = gives-many count Exprs.noExprs (λ x xs. Exprs.exprs (x .0) (Exprs.exprs (x .1) xs)) refl (λ _ _. omega arith) tt (λ _ _ w ws. (w .0, (w .1, ws))) (gives-pair parent)
 
 -- an else, or none
-gives-else : {f : ℕ → ℕ → Read Stmts} → Fields WfStmts f → (at end : ℕ) → end ≤ treeLimit → Gives (Past WfElse at) (elseOf f at end)
+gives-else : {f : ℕ → ℕ → Read Stmts} → WfFields WfStmts f → (at end : ℕ) → end ≤ treeLimit → Gives (Past WfElse at) (elseOf f at end)
 unfolding WfElse
 gives-else F at end h =
     gives-pick (eqb at end) (λ _. gives-read at (omega arith) tt)
@@ -80,7 +80,7 @@ gives-else F at end h =
 
 module _ (byte : ℕ → ℕ) where
   -- a name of at least so many bytes
-  gives-name : {W : Bytes → Type 0} (least : ℕ) → ((b : Bytes) → least ≤ length b → length b ≤ nameLimit → W b) → (level : ℕ) → Fields W (readName byte least level)
+  gives-name : {W : Bytes → Type 0} (least : ℕ) → ((b : Bytes) → least ≤ length b → length b ≤ nameLimit → W b) → (level : ℕ) → WfFields W (readName byte least level)
   gives-name {W} least w level =
       record { each = λ at end _. gives-field byte (nameHead least) at end (λ x in₀ _ g. gives-met level at (gives-read (in₀ + x .len) (omega arith) (named x in₀ g))) }
     where
@@ -90,11 +90,11 @@ module _ (byte : ℕ → ℕ) where
           w (bytes byte in₀ (x .len)) (rw length-bytes (leb-true _ _ (e₁ .0))) (rw length-bytes (leb-true _ _ (e₁ .1)))
 
   -- a name that is not empty
-  gives-isName : (level : ℕ) → Fields IsName (readName byte 1 level)
+  gives-isName : (level : ℕ) → WfFields IsName (readName byte 1 level)
   gives-isName = gives-name 1 (λ _ s h. record { some = s; short = h })
 
   -- parameters
-  gives-params : (level : ℕ) → Fields (All IsName) (readParams byte level)
+  gives-params : (level : ℕ) → WfFields (All IsName) (readParams byte level)
   gives-params level =
       record {
         each =
@@ -103,11 +103,11 @@ module _ (byte : ℕ → ℕ) where
       }
 
   -- an operator
-  gives-operator : (level : ℕ) → Fields (λ _. Unit {0}) (readOperator byte level)
+  gives-operator : (level : ℕ) → WfFields (λ _. Unit {0}) (readOperator byte level)
   gives-operator level = record { each = λ at end _. gives-field byte operatorHead at end (λ _ in₀ _ _. gives-byte byte (λ o. o) 9 plain level at in₀ (λ _ _. tt)) }
 
-  module _ {e : ℕ → ℕ → Read Expr} (E : Fields WfExpr e) where
-    module _ {b : ℕ → ℕ → Read Stmts} (B : Fields WfStmts b) where
+  module _ {e : ℕ → ℕ → Read Expr} (E : WfFields WfExpr e) where
+    module _ {b : ℕ → ℕ → Read Stmts} (B : WfFields WfStmts b) where
       -- what an expression holds
       gives-exprBody : (x : ExprTag) (level at in₀ n : ℕ) → in₀ + n ≤ treeLimit → Sized x n → Gives (Past WfExpr in₀) (exprBody byte x e b level at in₀ n)
       unfolding WfExpr
@@ -134,7 +134,7 @@ module _ (byte : ℕ → ℕ) where
       gives-exprBody ExprTag.macroTag level at in₀ n h s =
           gives-seq (gives-child (gives-params (level + 1)) at in₀ (in₀ + n) h) (λ _ at₁ p. gives-seq (gives-child B at at₁ (in₀ + n) h) (λ _ at₂ q. gives-last (Expr.macro at) at₂ (in₀ + n) (omega arith) tt))
 
-    module _ {f : ℕ → ℕ → Read Stmt} (F : Fields WfStmt f) where
+    module _ {f : ℕ → ℕ → Read Stmt} (F : WfFields WfStmt f) where
       -- what a statement holds
       gives-stmtBody : (x : StmtTag) (level at in₀ n : ℕ) → in₀ + n ≤ treeLimit → Gives (Past WfStmt in₀) (stmtBody byte x f e level at in₀ n)
       unfolding WfStmt
@@ -149,7 +149,7 @@ module _ (byte : ℕ → ℕ) where
     unfolding readStmt WfExpr
 
     -- a statement
-    gives-stmt : (fuel level : ℕ) → Fields WfStmt (readStmt byte fuel level)
+    gives-stmt : (fuel level : ℕ) → WfFields WfStmt (readStmt byte fuel level)
     gives-stmt zero level = record { each = λ _ _ _. Gives.wrong }
     gives-stmt (suc fuel) level =
         record {
@@ -159,7 +159,7 @@ module _ (byte : ℕ → ℕ) where
         }
 
     -- a block
-    gives-block : (fuel level : ℕ) → Fields WfStmts (readBlock byte fuel level)
+    gives-block : (fuel level : ℕ) → WfFields WfStmts (readBlock byte fuel level)
     gives-block zero level = record { each = λ _ _ _. Gives.wrong }
     gives-block (suc fuel) level =
         record {
@@ -169,7 +169,7 @@ module _ (byte : ℕ → ℕ) where
         }
 
     -- an expression
-    gives-expr : (fuel level : ℕ) → Fields WfExpr (readExpr byte fuel level)
+    gives-expr : (fuel level : ℕ) → WfFields WfExpr (readExpr byte fuel level)
     gives-expr zero level = record { each = λ _ _ _. Gives.wrong }
     gives-expr (suc fuel) level =
         record {
