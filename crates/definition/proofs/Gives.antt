@@ -47,6 +47,11 @@ pub gives-seq : {A B : Type 0} {P : A → ℕ → Type 0} {Q : B → ℕ → Typ
 gives-seq (right {a = a} {n = n} {d = d} {l = l} p) f = gives-after n d l (f a n p)
 gives-seq wrong f = wrong
 
+-- something that follows
+pub gives-map : {A : Type 0} {P Q : A → ℕ → Type 0} {x : Read A} → ((a : A) (n : ℕ) → P a n → Q a n) → Gives P x → Gives Q x
+gives-map f (right {a = a} {n = n} p) = right (f a n p)
+gives-map f wrong = wrong
+
 -- one or the other, by a test
 pub gives-pick : {A : Type 0} {P : A → ℕ → Type 0} {x y : Read A} (b : Bool) → (b ≡ true → Gives P x) → (b ≡ false → Gives P y) → Gives P (pick b x y)
 gives-pick {P = P} = chosen (Gives P)
@@ -122,8 +127,7 @@ gives-many size nil cons empty more nils conses =
 
 -- items up to the end end after their start
 pub past-filled : {B : Type 0} {U : B → Type 0} {size : B → ℕ} {from at end : ℕ} {x : Read B} → from ≤ at → Gives (Filled U size at end) x → Gives (Past U from) x
-past-filled h (right {n = n} p) = gives-read n (omega arith) (p .wf)
-past-filled h wrong = wrong
+past-filled h = gives-map (λ _ _ p. record { past = omega arith; wf = p .wf })
 
 -- what is judged right
 pub judged-gives : {A : Type 0} {P : A → ℕ → Type 0} {x : Read A} (b : A) (m : ℕ) → Gives P x → judged x ≡ Parsed.parsed b m → P b m

@@ -1,0 +1,72 @@
+-- What the bytes of a tree read as: the statement, block or expression at an offset, and those in a row.
+use Prim.Native.Nat.{ℕ, zero, suc, _+_, _*_, _≤_}
+use mathlib.Core.Path.{_≡_}
+use Rattle.definition.specs.Basic.{Bytes}
+use Rattle.definition.specs.Tag.{tagExprStmt, tagReturn, tagBlock, tagIdentifier, tagMacro}
+use Rattle.definition.specs.Syntax.{Stmt, Stmts, Else, Expr, Exprs, count}
+use Rattle.definition.specs.Tree.{stmtTag}
+use Rattle.tree.specs.Layout.{tag, after, Whole}
+use Rattle.tree.specs.At.{FieldAt, Row, stmtList, exprList, ElseAt, stmtIs, exprIs, exprKind}
+
+-- something stands there that reads so
+abbrev pub Some : {A : Type 0} → (A → Type 0) → Type 0
+Some {A} R = (a : A) × R a
+
+module _ (tree : Bytes) where
+  -- with fewer levels inside than the number says
+  unfoldable mutual
+    pub StmtAt : ℕ → ℕ → Stmt → Type 0
+    StmtAt zero at s = ⊥
+    StmtAt (suc n) at s = FieldAt tree tagExprStmt tagReturn at × stmtIs tree (stmtTag (tag tree at)) (λ a x. StmtAt n a x) (λ a x. ExprAt n a x) at s
+
+    pub BlockAt : ℕ → ℕ → Stmts → Type 0
+    BlockAt zero at b = ⊥
+    BlockAt (suc n) at b = FieldAt tree tagBlock tagBlock at × Row tree (λ a x. StmtAt n a x) (at + 3) (after tree at) (stmtList b)
+
+    pub ExprAt : ℕ → ℕ → Expr → Type 0
+    ExprAt zero at e = ⊥
+    ExprAt (suc n) at e = FieldAt tree tagIdentifier tagMacro at × exprIs tree (exprKind (tag tree at)) (λ a x. BlockAt n a x) (λ a x. ExprAt n a x) at e
+
+-- the statement at an offset
+pub record ReadsStmt (tree : Bytes) (at : ℕ) (s : Stmt) : Type 0 where
+  pub whole : Whole tree at
+  pub levels : ℕ
+  pub reads : StmtAt tree levels at s
+
+-- the expression at an offset
+pub record ReadsExpr (tree : Bytes) (at : ℕ) (e : Expr) : Type 0 where
+  pub whole : Whole tree at
+  pub levels : ℕ
+  pub reads : ExprAt tree levels at e
+
+-- the statements from an offset up to an end
+pub record ReadsStmts (tree : Bytes) (at end : ℕ) (b : Stmts) : Type 0 where
+  pub row : Row tree (ReadsStmt tree) at end (stmtList b)
+
+-- the expressions from an offset up to an end
+pub record ReadsExprs (tree : Bytes) (at end : ℕ) (es : Exprs) : Type 0 where
+  pub row : Row tree (ReadsExpr tree) at end (exprList es)
+
+-- the block at an offset
+pub record ReadsBlock (tree : Bytes) (at : ℕ) (b : Stmts) : Type 0 where
+  pub whole : Whole tree at
+  pub body : ReadsStmts tree (at + 3) (after tree at) b
+
+-- the last part of the if at an offset
+pub record ReadsOther (tree : Bytes) (at : ℕ) (e : Else) : Type 0 where
+  pub reads : ElseAt tree (ReadsBlock tree) (after tree (after tree (at + 3))) (after tree at) e
+
+-- what follows the test of an if
+pub record Branches : Type 0 where
+  pub first : Stmts
+  pub other : Else
+
+-- the branches of the if at an offset
+pub record ReadsBranches (tree : Bytes) (at : ℕ) (b : Branches) : Type 0 where
+  pub on-first : ReadsBlock tree (after tree (at + 3)) (b .first)
+  pub on-other : ReadsOther tree at (b .other)
+
+-- how many expressions stand from an offset up to an end
+pub record Counted (tree : Bytes) (from end n : ℕ) : Type 0 where
+  pub are : (es : Exprs) → ReadsExprs tree from end es → n ≡ count es
+  pub small : n * 3 + from ≤ end
