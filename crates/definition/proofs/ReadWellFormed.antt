@@ -19,7 +19,7 @@ use Rattle.definition.proofs.WellFormed.{WfStmt, WfStmts, WfElse, WfExp
 use Rattle.definition.proofs.Gives.{Gives, Past, WfFields, Filled, gives-seq, gives-pick, gives-met, gives-child, gives-read, gives-last, gives-field, gives-byte, gives-many, past-filled, judged-gives}
 
 -- what an expression's length must be, by its kind
-abbrev Sized : ExprTag → ℕ → Type 0
+abbrev pub Sized : ExprTag → ℕ → Type 0
 Sized ExprTag.identifierTag n = (1 ≤ n) × (n ≤ nameLimit)
 Sized ExprTag.integerTag n = n ≡ 8
 Sized ExprTag.prefixTag n = Unit {0}
@@ -34,7 +34,7 @@ Sized ExprTag.hashTag n = Unit {0}
 Sized ExprTag.macroTag n = Unit {0}
 
 -- a head that is right has it
-sized : (t n : ℕ) → exprLen (record { tag = t; len = n }) ≡ true → Sized (exprTag t) n
+pub sized : (t n : ℕ) → exprLen (record { tag = t; len = n }) ≡ true → Sized (exprTag t) n
 sized t n e =
     let P : ExprTag → Type 0 = λ x. Sized x n in
     chosen P (eqb t tagIdentifier) (λ i. let e₁ = both-true (leb 1 n) (leb n nameLimit) (rw i at e) in (leb-true _ _ (e₁ .0), leb-true _ _ (e₁ .1))) (λ i.

@@ -1,2 +1,4 @@
 pub mod Content
+pub mod Parts
 pub mod Stood
+pub mod Stands

@@ -16,7 +16,7 @@ use Rattle.definition.specs.Tree.{Read, plain, operatorHead, pairOf, pairsOf, n
 use Rattle.definition.proofs.Basic.{both-true}
 use Rattle.definition.proofs.Gives.{Gives, right, Fields, gives-seq, gives-pick, gives-met, gives-child, gives-end, gives-head, gives-oneByte, gives-items, gives-map}
 use Rattle.tree.specs.Layout.{tag, len, after, content, Whole}
-use Rattle.tree.specs.At.{Row, stmtList, exprList, NameAt, ParamAt, ParamsAt, OperatorAt, ElseAt}
+use Rattle.tree.specs.At.{Row, stmtList, exprList, NameAt, NamedAt, ParamsAt, OperatorAt, ElseAt}
 use Rattle.tree.proofs.Content.{content-bytes}
 
 module _ (tree : Bytes) where
@@ -86,12 +86,12 @@ module _ (tree : Bytes) where
         record { whole = whole-at; tagged = eqb-true _ _ (g₁ .0); one = eqb-true _ _ (g₁ .1); known = k }
 
   -- a name of at least so many bytes
-  pub stood-name : (least level : ℕ) → Stands (λ at n. NameAt tree least at × (n ≡ content tree at)) (readName (byteAt tree) least level)
+  pub stood-name : (least level : ℕ) → Stands (NamedAt tree least) (readName (byteAt tree) least level)
   stood-name least level =
       record {
         each =
             λ at end h. gives-head (byteAt tree) (nameHead least) at end
-            (record { gives = λ fit good. gives-met level at (right (record { ends = refl; fits = fit; reads = (name-at h fit least good, content-bytes (whole-at h fit)) })) });
+            (record { gives = λ fit good. gives-met level at (right (record { ends = refl; fits = fit; reads = record { named = name-at h fit least good; is = content-bytes (whole-at h fit) } })) });
       }
 
   -- an operator
@@ -121,5 +121,5 @@ module _ (tree : Bytes) where
             });
       }
     where
-      stood-names : (level fuel at end : ℕ) → end ≤ length tree → Gives (Rowed (ParamAt tree) (λ ns. ns) at end) (namesOf (readName (byteAt tree) 1 level) fuel at end)
-      stood-names level = gives-items [] (λ x xs. x ∷ xs) (λ _ _ e. record { ends = e; row = e }) (λ _ _ _ _ xs _ p q. record { ends = q .ends; row = row-more xs (record { ends = p .ends; fits = p .fits; reads = record { named = p .reads .0; is = p .reads .1 } }) (q .row) }) (stood-name 1 level)
+      stood-names : (level fuel at end : ℕ) → end ≤ length tree → Gives (Rowed (NamedAt tree 1) (λ ns. ns) at end) (namesOf (readName (byteAt tree) 1 level) fuel at end)
+      stood-names level = gives-items [] (λ x xs. x ∷ xs) (λ _ _ e. record { ends = e; row = e }) (λ _ _ _ _ xs _ p q. record { ends = q .ends; row = row-more xs p (q .row) }) (stood-name 1 level)

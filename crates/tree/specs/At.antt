@@ -39,16 +39,16 @@ pub record NameAt (tree : Bytes) (least at : ℕ) : Type 0 where
   pub long : least ≤ len tree at
   pub short : len tree at ≤ nameLimit
 
--- a parameter
-pub record ParamAt (tree : Bytes) (at : ℕ) (name : Bytes) : Type 0 where
-  pub named : NameAt tree 1 at
+-- the name that it is
+pub record NamedAt (tree : Bytes) (least at : ℕ) (name : Bytes) : Type 0 where
+  pub named : NameAt tree least at
   pub is : name ≡ content tree at
 
 -- the parameters of a function
 pub record ParamsAt (tree : Bytes) (at : ℕ) (names : List Bytes) : Type 0 where
   pub whole : Whole tree at
   pub tagged : tag tree at ≡ tagParams
-  pub row : Row tree (ParamAt tree) (at + 3) (after tree at) names
+  pub row : Row tree (NamedAt tree 1) (at + 3) (after tree at) names
 
 -- an operator
 pub record OperatorAt (tree : Bytes) (at : ℕ) : Type 0 where

@@ -21,7 +21,7 @@ module _ (tree : Bytes) where
 
     pub BlockAt : ℕ → ℕ → Stmts → Type 0
     BlockAt zero at b = ⊥
-    BlockAt (suc n) at b = FieldAt tree tagBlock tagBlock at × Row tree (λ a x. StmtAt n a x) (at + 3) (after tree at) (stmtList b)
+    BlockAt (suc n) at b = Whole tree at × (tag tree at ≡ tagBlock) × Row tree (λ a x. StmtAt n a x) (at + 3) (after tree at) (stmtList b)
 
     pub ExprAt : ℕ → ℕ → Expr → Type 0
     ExprAt zero at e = ⊥
@@ -50,6 +50,7 @@ pub record ReadsExprs (tree : Bytes) (at end : ℕ) (es : Exprs) : Type 0 where
 -- the block at an offset
 pub record ReadsBlock (tree : Bytes) (at : ℕ) (b : Stmts) : Type 0 where
   pub whole : Whole tree at
+  pub tagged : tag tree at ≡ tagBlock
   pub body : ReadsStmts tree (at + 3) (after tree at) b
 
 -- the last part of the if at an offset
