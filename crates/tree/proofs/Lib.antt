@@ -2,3 +2,4 @@ pub mod Content
 pub mod Parts
 pub mod Stood
 pub mod Stands
+pub mod Rows

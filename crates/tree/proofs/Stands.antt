@@ -136,6 +136,11 @@ module _ (tree : Bytes) where
   boolean-len : (t n : ℕ) → eqb t tagBoolean ≡ true → exprLen (record { tag = t; len = n }) ≡ true → n ≡ 1
   boolean-len t n b g = let z = eqb-true t tagBoolean b in eqb-true n 1 (rw z at g)
 
+  -- an expression of a kind
+  expr-at : (n at : ℕ) (e : Expr) {x : ExprKind} → exprKind (tag tree at) ≡ x → FieldAt tree tagIdentifier tagMacro at → exprIs tree x (BlockAt tree n) (ExprAt tree n) at e → ExprAt tree (suc n) at e
+  unfolding StmtAt
+  expr-at n at e k f i = (f, subst (λ x. exprIs tree x (BlockAt tree n) (ExprAt tree n) at e) (sym k) i)
+
   -- by the fuel
   mutual
     unfolding readStmt StmtAt
@@ -179,13 +184,14 @@ module _ (tree : Bytes) where
                 gives =
                     λ fit good.
                     let g = both-true (both (leb tagIdentifier (tag tree at)) (leb (tag tree at) tagMacro)) (exprLen (head (byteAt tree) at)) good in
+                    let f = field-at h fit (g .0) in
                     gives-pick (eqb (tag tree at) tagBoolean)
-                    (λ b. let l = boolean-len (tag tree at) (len tree at) b (g .1) in
-                    gives-oneByte (byteAt tree) (λ x. Expr.boolean at x) 1 literal level at (at + 3) (λ small.
-                    record { ends = omega arith; fits = fit; reads = (field-at h fit (g .0), subst (λ k. exprIs tree k (BlockAt tree fuel) (ExprAt tree fuel) at (Expr.boolean at (byteAt tree (at + 3)))) (sym (pick-true booleanKind (kind (exprTag (tag tree at))) b)) (record { is = refl; one = l; known = small })) }))
-                    (λ b. gives-met level at (gives-map (λ a _ p.
-                    record { ends = p .ends; fits = fit; reads = (field-at h fit (g .0), subst (λ k. exprIs tree k (BlockAt tree fuel) (ExprAt tree fuel) at a) (sym (pick-false booleanKind (kind (exprTag (tag tree at))) b)) (p .is)) })
-                    (held-expr (stood-expr fuel (level + 1)) (stood-block fuel (level + 1)) (exprTag (tag tree at)) level at (whole-at tree h fit) (sized (tag tree at) (len tree at) (g .1)))));
+                    (λ t.
+                    let l = boolean-len (tag tree at) (len tree at) t (g .1) in
+                    gives-oneByte (byteAt tree) (λ x. Expr.boolean at x) 1 literal level at (at + 3)
+                    (λ small. record { ends = omega arith; fits = fit; reads = expr-at fuel at (Expr.boolean at (byteAt tree (at + 3))) (pick-true _ _ t) f (record { is = refl; one = l; known = small }) }))
+                    (λ t. gives-met level at (gives-map (λ e _ p. record { ends = p .ends; fits = fit; reads = expr-at fuel at e (pick-false _ _ t) f (p .is) })
+                    (held-expr (stood-expr fuel (level + 1)) (stood-block fuel (level + 1)) (exprTag (tag tree at)) level at (f .whole) (sized (tag tree at) (len tree at) (g .1)))));
               });
         }
 

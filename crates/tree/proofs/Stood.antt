@@ -116,7 +116,7 @@ module _ (tree : Bytes) where
             (record {
               gives =
                   λ fit good. gives-met level at (gives-map
-                  (λ _ _ r. record { ends = r .ends; fits = fit; reads = record { whole = whole-at h fit; tagged = eqb-true _ _ good; row = r .row } })
+                  (λ _ _ r. record { ends = r .ends; fits = fit; reads = record { whole = whole-at h fit; tagged = eqb-true _ _ good; names = record { row = r .row } } })
                   (stood-names (level + 1) (len tree at) (at + 3) (after tree at) (whole-at h fit .fits)));
             });
       }

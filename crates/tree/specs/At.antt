@@ -44,11 +44,15 @@ pub record NamedAt (tree : Bytes) (least at : ℕ) (name : Bytes) : Type 0 where
   pub named : NameAt tree least at
   pub is : name ≡ content tree at
 
+-- the names from an offset up to an end, none of them empty
+pub record ReadsNames (tree : Bytes) (at end : ℕ) (names : List Bytes) : Type 0 where
+  pub row : Row tree (NamedAt tree 1) at end names
+
 -- the parameters of a function
-pub record ParamsAt (tree : Bytes) (at : ℕ) (names : List Bytes) : Type 0 where
+pub record ParamsAt (tree : Bytes) (at : ℕ) (params : List Bytes) : Type 0 where
   pub whole : Whole tree at
   pub tagged : tag tree at ≡ tagParams
-  pub row : Row tree (NamedAt tree 1) (at + 3) (after tree at) names
+  pub names : ReadsNames tree (at + 3) (after tree at) params
 
 -- an operator
 pub record OperatorAt (tree : Bytes) (at : ℕ) : Type 0 where

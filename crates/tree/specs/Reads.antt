@@ -1,12 +1,14 @@
 -- What the bytes of a tree read as: the statement, block or expression at an offset, and those in a row.
 use Prim.Native.Nat.{ℕ, zero, suc, _+_, _*_, _≤_}
+use mathlib.Core.List.{List}
 use mathlib.Core.Path.{_≡_}
+use lib.ListN.{length}
 use Rattle.definition.specs.Basic.{Bytes}
 use Rattle.definition.specs.Tag.{tagExprStmt, tagReturn, tagBlock, tagIdentifier, tagMacro}
 use Rattle.definition.specs.Syntax.{Stmt, Stmts, Else, Expr, Exprs, count}
 use Rattle.definition.specs.Tree.{stmtTag}
 use Rattle.tree.specs.Layout.{tag, after, Whole}
-use Rattle.tree.specs.At.{FieldAt, Row, stmtList, exprList, ElseAt, stmtIs, exprIs, exprKind}
+use Rattle.tree.specs.At.{FieldAt, Row, ReadsNames, stmtList, exprList, ElseAt, stmtIs, exprIs, exprKind}
 
 -- something stands there that reads so
 abbrev pub Some : {A : Type 0} → (A → Type 0) → Type 0
@@ -67,7 +69,17 @@ pub record ReadsBranches (tree : Bytes) (at : ℕ) (b : Branches) : Type 0 where
   pub on-first : ReadsBlock tree (after tree (at + 3)) (b .first)
   pub on-other : ReadsOther tree at (b .other)
 
--- how many expressions stand from an offset up to an end
+-- so many whole fields in a row
+abbrev pub Fields : Bytes → ℕ → ℕ → ℕ → Type 0
+Fields tree at end zero = at ≡ end
+Fields tree at end (suc n) = Whole tree at × (after tree at ≤ end) × Fields tree (after tree at) end n
+
+-- so many whole fields stand in a row, from an offset up to an end
+pub record InRow (tree : Bytes) (at end n : ℕ) : Type 0 where
+  pub fields : Fields tree at end n
+
+-- how many fields stand in a row: expressions, or names
 pub record Counted (tree : Bytes) (from end n : ℕ) : Type 0 where
-  pub are : (es : Exprs) → ReadsExprs tree from end es → n ≡ count es
+  pub exprs : (es : Exprs) → ReadsExprs tree from end es → n ≡ count es
+  pub names : (ns : List Bytes) → ReadsNames tree from end ns → n ≡ length ns
   pub small : n * 3 + from ≤ end
