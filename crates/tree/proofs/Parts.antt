@@ -20,13 +20,13 @@ module _ (tree : Bytes) where
   pub as-expr : (n at : ℕ) (e : Expr) → ExprAt tree n at e → ReadsExpr tree at e
   unfolding ExprAt
   as-expr zero at e r = absurd r
-  as-expr (suc n) at e r = record { whole = r .0 .whole; levels = suc n; reads = r }
+  as-expr (suc n) at e r = record { field = r .0; levels = suc n; reads = r }
 
   -- a statement
   pub as-stmt : (n at : ℕ) (s : Stmt) → StmtAt tree n at s → ReadsStmt tree at s
   unfolding StmtAt
   as-stmt zero at s r = absurd r
-  as-stmt (suc n) at s r = record { whole = r .0 .whole; levels = suc n; reads = r }
+  as-stmt (suc n) at s r = record { field = r .0; levels = suc n; reads = r }
 
   -- statements
   pub as-stmts : (n at end : ℕ) (b : Stmts) → Row tree (StmtAt tree n) at end (stmtList b) → ReadsStmts tree at end b

@@ -66,7 +66,7 @@ module _ (tree : Bytes) where
 
   -- the fields of expressions
   exprs-fields : (at end : ℕ) (es : Exprs) → ReadsExprs tree at end es → Fields tree at end (count es)
-  exprs-fields at end es r = subst (Fields tree at end) (listed es) (row-fields (λ _ _ e. e .whole) at end (exprList es) (r .row))
+  exprs-fields at end es r = subst (Fields tree at end) (listed es) (row-fields (λ _ _ e. e .field .whole) at end (exprList es) (r .row))
     where
       listed : (es : Exprs) → length (exprList es) ≡ count es
       listed Exprs.noExprs = refl

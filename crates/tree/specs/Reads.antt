@@ -31,13 +31,13 @@ module _ (tree : Bytes) where
 
 -- the statement at an offset
 pub record ReadsStmt (tree : Bytes) (at : ℕ) (s : Stmt) : Type 0 where
-  pub whole : Whole tree at
+  pub field : FieldAt tree tagExprStmt tagReturn at
   pub levels : ℕ
   pub reads : StmtAt tree levels at s
 
 -- the expression at an offset
 pub record ReadsExpr (tree : Bytes) (at : ℕ) (e : Expr) : Type 0 where
-  pub whole : Whole tree at
+  pub field : FieldAt tree tagIdentifier tagMacro at
   pub levels : ℕ
   pub reads : ExprAt tree levels at e
 
