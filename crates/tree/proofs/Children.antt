@@ -5,20 +5,20 @@ use mathlib.Core.Path.{_≡_, refl, sym, subst}
 use Rattle.definition.specs.Basic.{Bytes}
 use Rattle.definition.specs.Tag.{tagExprStmt, tagBlock, tagLet, tagReturn, tagIdentifier, tagPrefix, tagInfix, tagIf, tagFunction, tagCall, tagInteger, tagBoolean, tagString, tagArray, tagIndex, tagHash, tagMacro}
 use Rattle.definition.specs.Syntax.{Stmt, Stmts, Else, Expr, Exprs}
-use Rattle.definition.specs.Tree.{StmtTag, stmtTag}
+use Rattle.definition.specs.Tree.{stmtTag}
 use Rattle.tree.specs.Layout.{tag, after}
-use Rattle.tree.specs.At.{ReadsNames, ValueAt, BlockStmtAt, LetAt, PrefixAt, InfixAt, IfAt, FunctionAt, CallAt, ListAt, IndexAt, stmtIs, ExprKind, exprKind, exprIs}
+use Rattle.tree.specs.At.{ReadsNames, ValueAt, BlockStmtAt, LetAt, PrefixAt, InfixAt, IfAt, FunctionAt, CallAt, ListAt, IndexAt, stmtIs, exprKind, exprIs}
 use Rattle.tree.specs.Reads.{Some, ReadsStmt, ReadsExpr, ReadsStmts, ReadsExprs, ReadsBlock, ReadsOther, ReadsBranches}
 use Rattle.tree.proofs.Parts.{stmt-is, expr-is}
 
 module _ {tree : Bytes} {at : ℕ} where
-  -- the construct of a statement's tag
-  pub stmt-here : (x : StmtTag) → stmtTag (tag tree at) ≡ x → Some (ReadsStmt tree at) → Some (stmtIs tree x (ReadsStmt tree) (ReadsExpr tree) at)
-  stmt-here x h (s, r) = (s, stmt-is x h r)
+  -- the statement of a tag
+  pub stmt-here : (t : ℕ) → tag tree at ≡ t → Some (ReadsStmt tree at) → Some (stmtIs tree (stmtTag t) (ReadsStmt tree) (ReadsExpr tree) at)
+  stmt-here t h (s, r) = (s, stmt-is t h r)
 
-  -- the construct of an expression's tag
-  pub expr-here : (x : ExprKind) → exprKind (tag tree at) ≡ x → Some (ReadsExpr tree at) → Some (exprIs tree x (ReadsBlock tree) (ReadsExpr tree) at)
-  expr-here x h (e, r) = (e, expr-is x h r)
+  -- the expression of a tag
+  pub expr-here : (t : ℕ) → tag tree at ≡ t → Some (ReadsExpr tree at) → Some (exprIs tree (exprKind t) (ReadsBlock tree) (ReadsExpr tree) at)
+  expr-here t h (e, r) = (e, expr-is t h r)
 
   -- a statement of no other tag is a return
   pub return-tag : (tag tree at ≡ tagExprStmt → ⊥) → (tag tree at ≡ tagBlock → ⊥) → (tag tree at ≡ tagLet → ⊥) → Some (ReadsStmt tree at) → tag tree at ≡ tagReturn

@@ -113,19 +113,19 @@ module _ (tree : Bytes) where
 
 module _ {tree : Bytes} {at : ℕ} where
   -- the statement of a tag
-  pub stmt-is : {s : Stmt} (x : StmtTag) → stmtTag (tag tree at) ≡ x → ReadsStmt tree at s → stmtIs tree x (ReadsStmt tree) (ReadsExpr tree) at s
+  pub stmt-is : (t : ℕ) → tag tree at ≡ t → {s : Stmt} → ReadsStmt tree at s → stmtIs tree (stmtTag t) (ReadsStmt tree) (ReadsExpr tree) at s
   unfolding StmtAt
-  stmt-is {s} x h r = go (r .levels) (r .reads)
+  stmt-is t h {s} r = go (r .levels) (r .reads)
     where
-      go : (n : ℕ) → StmtAt tree n at s → stmtIs tree x (ReadsStmt tree) (ReadsExpr tree) at s
+      go : (n : ℕ) → StmtAt tree n at s → stmtIs tree (stmtTag t) (ReadsStmt tree) (ReadsExpr tree) at s
       go zero r = absurd r
-      go (suc n) r = subst (λ k. stmtIs tree k (ReadsStmt tree) (ReadsExpr tree) at s) h (stmt-map tree (as-expr tree n) (as-stmt tree n) (stmtTag (tag tree at)) at s (r .1))
+      go (suc n) r = subst (λ k. stmtIs tree (stmtTag k) (ReadsStmt tree) (ReadsExpr tree) at s) h (stmt-map tree (as-expr tree n) (as-stmt tree n) (stmtTag (tag tree at)) at s (r .1))
 
   -- the expression of a tag
-  pub expr-is : {e : Expr} (x : ExprKind) → exprKind (tag tree at) ≡ x → ReadsExpr tree at e → exprIs tree x (ReadsBlock tree) (ReadsExpr tree) at e
+  pub expr-is : (t : ℕ) → tag tree at ≡ t → {e : Expr} → ReadsExpr tree at e → exprIs tree (exprKind t) (ReadsBlock tree) (ReadsExpr tree) at e
   unfolding StmtAt
-  expr-is {e} x h r = go (r .levels) (r .reads)
+  expr-is t h {e} r = go (r .levels) (r .reads)
     where
-      go : (n : ℕ) → ExprAt tree n at e → exprIs tree x (ReadsBlock tree) (ReadsExpr tree) at e
+      go : (n : ℕ) → ExprAt tree n at e → exprIs tree (exprKind t) (ReadsBlock tree) (ReadsExpr tree) at e
       go zero r = absurd r
-      go (suc n) r = subst (λ k. exprIs tree k (ReadsBlock tree) (ReadsExpr tree) at e) h (expr-map tree (as-expr tree n) (as-block tree n) (exprKind (tag tree at)) at e (r .1))
+      go (suc n) r = subst (λ k. exprIs tree (exprKind k) (ReadsBlock tree) (ReadsExpr tree) at e) h (expr-map tree (as-expr tree n) (as-block tree n) (exprKind (tag tree at)) at e (r .1))
