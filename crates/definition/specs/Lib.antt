@@ -19,3 +19,4 @@ pub mod Call
 pub mod Literal
 pub mod Series
 pub mod Values
+pub mod Examples
