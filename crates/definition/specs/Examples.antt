@@ -1,29 +1,13 @@
 -- Series of trees that tell wrong compilers apart: document 01's wrong turns, and what a session keeps.
-use Prim.Native.Nat.{ℕ}
 use mathlib.Core.List.{List, [], _∷_, map}
 use mathlib.Core.Path.{_≡_, refl}
 use Rattle.definition.specs.Basic.{Bytes}
-use Rattle.definition.specs.Limit.{sessionSize, codeSize, tableSize}
-use Rattle.definition.specs.Bytecode.{imageBytes}
-use Rattle.definition.specs.Session.{fresh}
 use Rattle.definition.specs.Tree.{readTree, readProgram, readStmt}
 use Rattle.definition.specs.Walk.{walkStmts}
 use Rattle.definition.specs.SymbolTable.{same, find, findGlobal, findBuiltin, resolve}
 use Rattle.definition.specs.Compiler.{emitBeside, addConstant, load, define, dropped, jump, patch, enter, returned, loads, leave}
-use Rattle.definition.specs.Compile.{Outcome, Step, Request, compile, steps}
-use Rattle.definition.specs.Values.{Given, bytes, refused, image}
-
--- a call with memory enough
-abbrev request : Bytes → Request
-request t = record { code = codeSize; table = tableSize; session = sessionSize; output = sessionSize; tree = t }
-
-abbrev given : Outcome → Given
-given (Outcome.accepted m) = bytes (imageBytes m)
-given (Outcome.refused r) = refused (r .number) (r .place)
-
--- what each tree of a series gives
-abbrev run : List Bytes → List Given
-run trees = map (λ (x : Step). given (x .outcome)) (steps fresh (map request trees))
+use Rattle.definition.specs.Compile.{compile}
+use Rattle.definition.specs.Values.{Given, refused, image, run}
 
 -- a row: a series of trees, and what they give
 pub record Example : Type 0 where

@@ -1,21 +1,22 @@
--- Document 01's ten hand values, as one table about a whole call in a fresh session.
+-- Document 01's ten hand values, as one table about a call in a fresh session.
 use Prim.Native.Nat.{ℕ}
-use mathlib.Core.Path.{_≡_, refl}
 use mathlib.Core.List.{List, [], _∷_, _++_, map}
-use lib.ListN.{take, replicate}
+use mathlib.Core.Path.{_≡_, refl}
+use lib.ListN.{replicate}
 use Rattle.definition.specs.Basic.{Bytes}
 use Rattle.definition.specs.Limit.{sessionSize, codeSize, tableSize}
 use Rattle.definition.specs.Tag.{tagMain, tagPool}
 use Rattle.definition.specs.Field.{field}
+use Rattle.definition.specs.Bytecode.{imageBytes}
 use Rattle.definition.specs.Tree.{readTree, readProgram, readStmt}
 use Rattle.definition.specs.Walk.{walkStmts}
 use Rattle.definition.specs.SymbolTable.{same, find, findGlobal, findBuiltin, resolve}
 use Rattle.definition.specs.Compiler.{emitBeside, addConstant, load, define, dropped, jump, patch, enter, returned, loads, leave}
+use Rattle.definition.specs.Session.{fresh}
 use Rattle.definition.specs.Decode.{items, readSession}
-use Rattle.definition.specs.Compile.{compile}
-use Rattle.definition.specs.Call.{Lent, call, made}
-use Rattle.definition.specs.declared.Answer.{Answer}
-use Rattle.definition.specs.declared.Answer.the-variants.{Length, Refused}
+use Rattle.definition.specs.Compile.{Outcome, Step, Request, compile, steps}
+use Rattle.definition.specs.Call.{Called, call, made}
+use Rattle.definition.specs.declared.Answer.the-variants.{Length}
 
 -- what a call gave: an image's bytes, or a number and a place
 pub data Given : Type 0 where
@@ -26,17 +27,17 @@ pub data Given : Type 0 where
 abbrev pub image : Bytes → Bytes → Given
 image main pool = bytes (field tagMain main ++ field tagPool pool)
 
-abbrev given : Answer → Bytes → Given
-given (Length n) output = bytes (take n output)
-given (Refused r) output = refused (r .number) (r .place)
+abbrev given : Outcome → Given
+given (Outcome.accepted m) = bytes (imageBytes m)
+given (Outcome.refused r) = refused (r .number) (r .place)
 
--- a session made in zeros, 64 bytes of output, and work areas of their sizes
-abbrev pub lent : Lent
-lent = record { session = made (replicate sessionSize 0) .session; output = replicate 64 0; code = replicate codeSize 0; table = replicate tableSize 0 }
+-- a call with memory enough
+abbrev request : Bytes → Request
+request t = record { code = codeSize; table = tableSize; session = sessionSize; output = sessionSize; tree = t }
 
--- a tree compiled there
-abbrev pub run : Lent → Bytes → Given
-run l tree = let c = call tree l in given (c .answer) (c .lent .output)
+-- what each tree of a series gives
+abbrev pub run : List Bytes → List Given
+run trees = map (λ (x : Step). given (x .outcome)) (steps fresh (map request trees))
 
 -- a row: a tree, and what it gives
 pub record Value : Type 0 where
@@ -71,6 +72,23 @@ table =
     ∷ []
 
 -- the whole table, by computation
-pub hand-values : (let l = lent in map (λ (v : Value). run l (v .tree)) table) ≡ map (λ (v : Value). v .gives) table
-unfolding call made compile readSession items readTree readProgram readStmt walkStmts emitBeside addConstant load define dropped jump patch enter returned loads leave resolve same find findGlobal findBuiltin
+pub hand-values : map (λ (v : Value). run (v .tree ∷ [])) table ≡ map (λ (v : Value). v .gives ∷ []) table
+unfolding compile readTree readProgram readStmt walkStmts emitBeside addConstant load define dropped jump patch enter returned loads leave resolve same find findGlobal findBuiltin
 hand-values = refl
+
+-- the empty tree, as a whole call on lent memory: a session made in 65,537 sevens, an output of eight, work areas with a number to spare
+abbrev pub whole : Called
+whole = call (0x10 ∷ 0x00 ∷ 0x00 ∷ []) (record { session = made (replicate 65537 7) .session; output = replicate 8 7; code = replicate 32769 7; table = replicate 16385 7 })
+
+-- every byte afterwards
+pub whole-call : whole ≡ record {
+  answer = Length 6;
+  lent = record {
+    session = (0x40 ∷ 0x00 ∷ 0x00 ∷ 0x51 ∷ 0x00 ∷ 0x00 ∷ replicate 65530 0) ++ 7 ∷ [];
+    output = 0x50 ∷ 0x00 ∷ 0x00 ∷ 0x51 ∷ 0x00 ∷ 0x00 ∷ 7 ∷ 7 ∷ [];
+    code = replicate 32768 0 ++ 7 ∷ [];
+    table = replicate 16384 0 ++ 7 ∷ [];
+  };
+}
+unfolding call made compile readSession items readTree readProgram readStmt walkStmts
+whole-call = refl
