@@ -1,10 +1,7 @@
--- Lemmas on choices by a test, and on bytes.
-use Prim.Native.Nat.{ℕ, zero, suc, _+_}
+-- Lemmas on choices by a test.
 use mathlib.Core.Bool.{Bool, true, false}
 use mathlib.Core.Path.{_≡_, refl, ap, subst}
-use lib.ListN.{length}
 use Rattle.definition.specs.Basic.{pick, both}
-use Rattle.definition.specs.Field.{bytes}
 
 -- a relation under two picks by one test
 pub picked : {A B : Type 0} (R : A → B → Type 0) {x x′ : A} {y y′ : B} {b c : Bool} → b ≡ c → R x y → R x′ y′ → R (pick b x x′) (pick c y y′)
@@ -20,14 +17,21 @@ chosen P true f g = f refl
 chosen P false f g = g refl
 
 -- both tests hold
-pub both-true : (a b : Bool) → both a b ≡ true → (a ≡ true) × (b ≡ true)
-both-true true b e = (refl, e)
-both-true false b e = (e, cc)
+pub both-intro : {a b : Bool} → a ≡ true → b ≡ true → both a b ≡ true
+both-intro p q = λ i. both (p i) (q i)
 
--- so many bytes
-pub length-bytes : (v : ℕ → ℕ) (a n : ℕ) → length (bytes v a n) ≡ n
-length-bytes v a zero = refl
-length-bytes v a (suc n) = ap suc (length-bytes v (a + 1) n)
+-- so the first holds
+pub both-left : (a b : Bool) → both a b ≡ true → a ≡ true
+both-left true b e = refl
+both-left false b e = e
+
+-- and the second
+pub both-right : (a b : Bool) → both a b ≡ true → b ≡ true
+both-right true b e = e
+both-right false b e = cc
+
+pub both-true : (a b : Bool) → both a b ≡ true → (a ≡ true) × (b ≡ true)
+both-true a b e = (both-left a b e, both-right a b e)
 
 -- a choice whose test is known
 pub pick-true : {A : Type 0} (x y : A) {b : Bool} → b ≡ true → pick b x y ≡ x

@@ -36,6 +36,7 @@ bytes-slice b at (suc n) h =
 pub record Stands (byte : ℕ → ℕ) (at : ℕ) (xs : Bytes) : Type 0 where
   pub same : bytes byte at (length xs) ≡ xs
 
+-- so many bytes
 pub length-bytes : (byte : ℕ → ℕ) (at n : ℕ) → length (bytes byte at n) ≡ n
 length-bytes byte at zero = refl
 length-bytes byte at (suc n) = ap suc (length-bytes byte (at + 1) n)
@@ -45,15 +46,19 @@ pub bytes-stand : (byte : ℕ → ℕ) (at n : ℕ) → Stands byte at (bytes by
 bytes-stand byte at n = record { same = ap (bytes byte at) (length-bytes byte at n) }
 
 module _ {byte : ℕ → ℕ} where
+  -- no bytes stand anywhere
   pub stands-nil : (at : ℕ) → Stands byte at []
   stands-nil at = record { same = refl }
 
+  -- one byte more
   pub stands-cons : {at x : ℕ} {xs : Bytes} → byte at ≡ x → Stands byte (at + 1) xs → Stands byte at (x ∷ xs)
   stands-cons e s = record { same = λ i. e i ∷ s .same i }
 
+  -- the first byte
   pub stands-head : {at x : ℕ} {xs : Bytes} → Stands byte at (x ∷ xs) → byte at ≡ x
   stands-head {at} {x} {xs} s = let e = s .same in cc
 
+  -- the others
   pub stands-tail : {at x : ℕ} {xs : Bytes} → Stands byte at (x ∷ xs) → Stands byte (at + 1) xs
   stands-tail {at} {x} {xs} s = let e = s .same in record { same = cc }
 
@@ -61,14 +66,17 @@ module _ {byte : ℕ → ℕ} where
   pub stands-at : {at to : ℕ} {xs : Bytes} → at ≡ to → Stands byte at xs → Stands byte to xs
   stands-at e s = rw e at s
 
+  -- the first of two parts
   pub stands-left : {at : ℕ} (xs ys : Bytes) → Stands byte at (xs ++ ys) → Stands byte at xs
   stands-left {at} [] ys s = stands-nil at
   stands-left (x ∷ xs) ys s = stands-cons (stands-head s) (stands-left xs ys (stands-tail s))
 
+  -- the second of two parts, behind the first
   pub stands-right : {at : ℕ} (xs ys : Bytes) → Stands byte at (xs ++ ys) → Stands byte (at + length xs) ys
   stands-right [] ys s = stands-at (omega arith) s
   stands-right (x ∷ xs) ys s = stands-at (omega arith) (stands-right xs ys (stands-tail s))
 
+  -- two parts
   pub stands-append : {at : ℕ} {xs ys : Bytes} → Stands byte at xs → Stands byte (at + length xs) ys → Stands byte at (xs ++ ys)
   stands-append {xs = []} s t = stands-at (omega arith) t
   stands-append {xs = x ∷ xs} s t = stands-cons (stands-head s) (stands-append (stands-tail s) (stands-at (omega arith) t))
@@ -88,6 +96,10 @@ module _ {byte : ℕ → ℕ} where
 -- a list's bytes stand in it
 pub stands-front : (xs rest : Bytes) → Stands (byteAt (xs ++ rest)) 0 xs
 stands-front xs rest = record { same = bytes-slice (xs ++ rest) 0 (length xs) (omega (arith, length-append xs rest)) ∙ take-append-seam xs rest }
+
+-- a list stands in itself
+pub stands-self : (b : Bytes) → Stands (byteAt b) 0 b
+stands-self b = record { same = bytes-slice b 0 (length b) (omega arith) ∙ take-length b }
 
 -- what stands at the front of a list is its front
 pub stands-take : (b : Bytes) {xs : Bytes} → Stands (byteAt b) 0 xs → length xs ≤ length b → xs ≡ take (length xs) b

@@ -13,7 +13,8 @@ use Rattle.definition.specs.Decode.{Decoded, decoded, malformed, then, i
 use Rattle.definition.specs.Bytecode.{written}
 use Rattle.definition.specs.Valid.{All}
 use Rattle.definition.proofs.Bytes.{Stands, stands-cons, stands-head, stands-tail, stands-at, stands-number, number-stands}
-use Rattle.definition.proofs.Items.{both-true, both-left, both-right, passed, first, Reads, Writes, read-items, write-items}
+use Rattle.definition.proofs.Basic.{both-intro, both-left, both-right}
+use Rattle.definition.proofs.Items.{passed, first, Reads, Writes, read-items, write-items}
 
 -- the head of a field
 abbrev pub headOf : ℕ → Bytes → Head
@@ -36,7 +37,7 @@ module _ {byte : ℕ → ℕ} where
   pub read-head : (good : Head → Bool) {at : ℕ} (end t : ℕ) (c : Bytes) → length c < 65536 → good (headOf t c) ≡ true → Stands byte at (field t c)
       → at + length (field t c) ≤ end → readHead byte good at end ≡ decoded (headOf t c) (at + 3)
   read-head good {at} end t c h g s k =
-      let fit = both-true (both-true (le-leb (at + 3) end (omega arith)) (le-leb (at + 3 + length c) end (omega arith))) g in
+      let fit = both-intro (both-intro (le-leb (at + 3) end (omega arith)) (le-leb (at + 3 + length c) end (omega arith))) g in
       (λ i. let x = head-field t c h s i in pick (both (fits at end x) (good x)) (decoded x (at + 3)) (malformed at))
       ∙ (λ i. pick (fit i) (decoded (headOf t c) (at + 3)) (malformed at))
 
@@ -47,6 +48,7 @@ pub record Headed (byte : ℕ → ℕ) (good : Head → Bool) (at end : ℕ) (h 
   pub right : good h ≡ true
   pub fit : next + h .len ≤ end
 
+-- what a head was read as
 pub headed : (byte : ℕ → ℕ) (good : Head → Bool) (at end : ℕ) {h : Head} {n : ℕ} → readHead byte good at end ≡ decoded h n → Headed byte good at end h n
 headed byte good at end {h} {n} e =
     let g = head byte at in
@@ -71,6 +73,7 @@ then-assoc (malformed p) g k = refl
 
 -- Fields of items: a head that passes a test, and at most so many items
 module _ {A : Type 0} (byte : ℕ → ℕ) (test : Head → Bool) (most : Head → ℕ) (f : ℕ → ℕ → Decoded A) where
+  -- such a field at an offset
   abbrev pub readRow : ℕ → ℕ → Decoded (List A)
   readRow at end = then (readHead byte test at end) (λ h in₀. items f (most h) [] in₀ (in₀ + h .len))
 

@@ -1,7 +1,7 @@
 -- Instructions and code: written then read, and read then written.
-use Prim.Native.Nat.{ℕ, zero, suc, _+_, _*_, _/_, _%_, _≤_, _<_}
+use Prim.Native.Nat.{ℕ, zero, suc, _+_, _≤_, _<_}
 use native.Mathlib.Omega.{arith}
-use mathlib.Core.Bool.{Bool, true, false}
+use mathlib.Core.Bool.{Bool, true}
 use mathlib.Core.List.{List, [], _∷_, _++_}
 use mathlib.Core.Path.{_≡_, refl, sym, ap, _∙_}
 use lib.ListN.{length, getD, take, length-append}
@@ -10,16 +10,18 @@ use borrow.Author.Tests.{le-leb, leb-true}
 use Rattle.definition.specs.Basic.{Bytes, byteAt, pick, both}
 use Rattle.definition.specs.Opcode.{Instr, instr, widths, width, size, operands, bytesOf, operandAt, capturesAt, instrAt, whole, opLast}
 use Rattle.definition.specs.Bytecode.{Code, sizeOf, encode}
-use Rattle.definition.specs.Decode.{Decoded, decoded, malformed, readInstr, readCode}
-use Rattle.definition.specs.Valid.{All, none, more, AreBytes, operandBound, capturesBound, ValidInstr}
+use Rattle.definition.specs.Decode.{decoded, malformed, readInstr, readCode}
+use Rattle.definition.specs.Valid.{All, AreBytes, operandBound, capturesBound, ValidInstr}
 use Rattle.definition.proofs.Bytes.{Stands, stands-nil, stands-cons, stands-head, stands-tail, stands-at, stands-front, stands-take, stands-number, number-stands, one-byte}
-use Rattle.definition.proofs.Items.{both-true, both-left, both-right, passed, Reads, Item, Writes, Whole, item-same, read-items, write-items}
+use Rattle.definition.proofs.Basic.{both-intro, both-left, both-right}
+use Rattle.definition.proofs.Items.{passed, Reads, Item, Writes, Whole, item-same, read-items, write-items}
 
 -- a test of every entry of a table
 every : (ℕ → Bool) → List ℕ → Bool
 every p [] = true
 every p (x ∷ xs) = both (p x) (every p xs)
 
+-- then the test holds of each entry
 every-getD : (p : ℕ → Bool) (d : ℕ) → p d ≡ true → (l : List ℕ) → every p l ≡ true → (i : ℕ) → p (getD l i d) ≡ true
 unfolding every
 every-getD p d h [] e i = h
@@ -48,7 +50,7 @@ code-length [] = refl
 code-length (i ∷ is) = length-append (encode is) (bytesOf i) ∙ (λ k. code-length is k + size-bytes i k)
 
 -- and has no more instructions than bytes
-code-count : (c : Code) → length c ≤ sizeOf c
+pub code-count : (c : Code) → length c ≤ sizeOf c
 code-count [] = omega arith
 code-count (i ∷ is) = omega (arith, code-count is)
 
@@ -79,10 +81,11 @@ module _ {byte : ℕ → ℕ} where
   pub read-instr : {at : ℕ} (end : ℕ) {i : Instr} → ValidInstr i → Stands byte at (bytesOf i) → at + length (bytesOf i) ≤ end → readInstr byte at end ≡ decoded i (at + length (bytesOf i))
   read-instr {at} end {i} v s h =
       let l = size-bytes i in
-      let t = both-true (le-leb (i .op) opLast (v .known)) (le-leb (at + 1 + width (i .op)) end (omega arith)) in
+      let t = both-intro (le-leb (i .op) opLast (v .known)) (le-leb (at + 1 + width (i .op)) end (omega arith)) in
       (λ k. let j = instr-stands at i v s k in pick (both (leb (j .op) opLast) (leb (at + 1 + width (j .op)) end)) (decoded j (at + size j)) (malformed at))
       ∙ (λ k. pick (t k) (decoded i (at + sym l k)) (malformed at))
 
+  -- instructions are items that read back
   pub reads-instr : Reads byte bytesOf ValidInstr (readInstr byte)
   reads-instr = record { some = λ i. omega arith; read = λ end v s h. read-instr end v s h }
 
@@ -114,6 +117,7 @@ module _ {byte : ℕ → ℕ} (small : (i : ℕ) → byte i < 256) where
   operand-bound at (suc zero) = small (at + 1)
   operand-bound at (suc (suc n)) = omega (arith, small (at + 1), small (at + 2))
 
+  -- so are the captures
   captures-bound : (at n : ℕ) → capturesAt byte n at < capturesBound n
   captures-bound at zero = omega arith
   captures-bound at (suc zero) = omega arith
@@ -134,6 +138,7 @@ module _ {byte : ℕ → ℕ} (small : (i : ℕ) → byte i < 256) where
         sound = record { known = leb-true (byte at) opLast k; operand = operand-bound at w; captures = captures-bound at w };
       })
 
+  -- instructions are items that are written back
   pub writes-instr : Writes byte bytesOf ValidInstr (readInstr byte)
   writes-instr = record { wrote = λ at end e. write-instr at end e }
 

@@ -1,7 +1,6 @@
 -- Rows of items: what is written reads back, and what was read is written back.
 use Prim.Native.Nat.{ℕ, zero, suc, _+_, _-_, _≤_, _<_}
 use native.Mathlib.Omega.{arith}
-use native.Mathlib.Nat.{le-refl}
 use mathlib.Core.Bool.{Bool, true, false}
 use mathlib.Core.List.{List, [], _∷_, _++_}
 use mathlib.Core.Path.{_≡_, refl, sym, ap, _∙_}
@@ -14,24 +13,13 @@ use Rattle.definition.specs.Decode.{Decoded, decoded, malformed, then, e
 use Rattle.definition.specs.Valid.{All, none, more}
 use Rattle.definition.proofs.Bytes.{Stands, stands-nil, stands-at, stands-left, stands-right, stands-append}
 
--- both tests hold
-pub both-true : {a b : Bool} → a ≡ true → b ≡ true → both a b ≡ true
-both-true p q = λ i. both (p i) (q i)
-
-pub both-left : (a b : Bool) → both a b ≡ true → a ≡ true
-both-left true b e = refl
-both-left false b e = e
-
-pub both-right : (a b : Bool) → both a b ≡ true → b ≡ true
-both-right true b e = e
-both-right false b e = cc
-
 -- a test that let something be read held
 pub record Passed {A : Type 0} (t : Bool) (x : A) (m : ℕ) (y : A) (n : ℕ) : Type 0 where
   pub test : t ≡ true
   pub value : x ≡ y
   pub next : m ≡ n
 
+-- what was read passed its test
 pub passed : {A : Type 0} (t : Bool) (x : A) (m p : ℕ) {y : A} {n : ℕ} → pick t (decoded x m) (malformed p) ≡ decoded y n → Passed t x m y n
 passed true x m p e = record { test = refl; value = cc; next = cc }
 passed false x m p e = record { test = cc; value = cc; next = cc }
@@ -43,6 +31,7 @@ pub record First {A B : Type 0} (r : Decoded A) (k : A → ℕ → Decoded B) (b
   pub read : r ≡ decoded value next
   pub rest : k value next ≡ decoded b n
 
+-- where two were read, the first was
 pub first : {A B : Type 0} (r : Decoded A) (k : A → ℕ → Decoded B) {b : B} {n : ℕ} → then r k ≡ decoded b n → First r k b n
 first (decoded a m) k e = record { value = a; next = m; read = refl; rest = e }
 first (malformed p) k e = let z : _≡_ {A = ℕ} 0 1 = cc in absurd (omega arith)
@@ -50,6 +39,19 @@ first (malformed p) k e = let z : _≡_ {A = ℕ} 0 1 = cc in absurd (omega arit
 -- nothing follows
 pub ends : {A : Type 0} (a : A) (at : ℕ) → ending a at at ≡ decoded a at
 ends a at = rw (eq-eqb at at refl) refl
+
+-- what was read of bytes, valid, and written as these bytes
+pub record Rewritten {A : Type 0} (w : A → Bytes) (valid : A → Type 0) (b : Bytes) (x : A) : Type 0 where
+  pub bytes : w x ≡ b
+  pub sound : valid x
+
+-- the same thing
+pub rewritten-same : {A : Type 0} {w : A → Bytes} {valid : A → Type 0} {b : Bytes} {x y : A} → x ≡ y → Rewritten w valid b x → Rewritten w valid b y
+rewritten-same e r = rw e at r
+
+-- bytes that were read as one thing are the same
+pub rewritten-once : {A : Type 0} {w : A → Bytes} {valid : A → Type 0} {b c : Bytes} {x : A} → Rewritten w valid b x → Rewritten w valid c x → b ≡ c
+rewritten-once r s = sym (r .bytes) ∙ s .bytes
 
 -- Items that `w` writes
 module _ {A : Type 0} (byte : ℕ → ℕ) (w : A → Bytes) (good : A → Type 0) where
@@ -125,6 +127,7 @@ data Next {A : Type 0} (f : ℕ → ℕ → Decoded A) (most : ℕ) (xs : List A
   done : at ≡ end → _≡_ {A = Decoded (List A)} (decoded xs at) (decoded ys n) → Next f most xs at end ys n
   item : First (f at end) (λ x m. items f most (x ∷ xs) m end) ys n → Next f most xs at end ys n
 
+-- a reading went on in one of the two ways
 next : {A : Type 0} (f : ℕ → ℕ → Decoded A) (most : ℕ) (xs : List A) (at end : ℕ) {ys : List A} {n : ℕ} → items f (suc most) xs at end ≡ decoded ys n → Next f most xs at end ys n
 unfolding items
 next {A} f most xs at end {ys} {n} e = go (eqb at end) refl e

@@ -17,6 +17,7 @@ pub mod Fields
 pub mod Instructions
 pub mod Pools
 pub mod Sessions
+pub mod Images
 pub mod Series
 pub mod Jumps
 pub mod ValidSymbols

@@ -11,13 +11,13 @@ use Rattle.definition.specs.Basic.{Bytes, pick, both}
 use Rattle.definition.specs.Limit.{constantsLimit, poolLimit}
 use Rattle.definition.specs.Tag.{tagPool, tagIntegerConst, tagStringConst, tagFunctionConst}
 use Rattle.definition.specs.Field.{Head, field, tagged, bytes}
-use Rattle.definition.specs.Opcode.{bytesOf}
 use Rattle.definition.specs.Bytecode.{Const, encode, content, tagOf, constBytes, poolBytes, poolSize}
 use Rattle.definition.specs.Decode.{Decoded, decoded, then, readCode, constHead, readHead, readFunction, readContent, readConst, poolHead, readPool}
-use Rattle.definition.specs.Valid.{All, none, more, ValidInstr, ValidConst, ValidPool}
-use Rattle.definition.proofs.Bytes.{Stands, stands-cons, stands-head, stands-tail, stands-at, stands-right, bytes-stand, length-bytes, stands-number, number-stands, one-byte}
-use Rattle.definition.proofs.Items.{both-left, both-right, first, Reads, Item, Writes, item-same}
-use Rattle.definition.proofs.Fields.{headOf, tagged-true, stands-content, read-head, headed, field-stands, RowField, read-row, write-row}
+use Rattle.definition.specs.Valid.{All, none, more, ValidConst, ValidPool}
+use Rattle.definition.proofs.Bytes.{Stands, stands-cons, stands-head, stands-tail, stands-at, stands-right, stands-append, bytes-stand, length-bytes, stands-number, number-stands, one-byte}
+use Rattle.definition.proofs.Basic.{both-left}
+use Rattle.definition.proofs.Items.{first, Reads, Item, Writes}
+use Rattle.definition.proofs.Fields.{headOf, tagged-true, stands-content, read-head, headed, field-stands, read-row, write-row}
 use Rattle.definition.proofs.Instructions.{code-length, read-code, write-code}
 
 -- a pool is as long as its size says
@@ -65,6 +65,7 @@ module _ {byte : ℕ → ℕ} where
       ∙ read-content c (v .valid) (stands-content (tagOf c) (content c) s)
       ∙ ap (decoded c) p
 
+  -- constants are items that read back
   pub reads-const : Reads byte constBytes Storable (readConst byte)
   reads-const = record { some = λ c. omega arith; read = λ end v s h. read-const end v s h }
 
@@ -82,6 +83,13 @@ record Content (byte : ℕ → ℕ) (h : Head) (at : ℕ) (c : Const) (n : ℕ) 
   len : h .len ≡ length (content c)
   upto : at + h .len ≡ n
   sound : ValidConst c
+
+-- what a pool was read as
+pub record PoolField (byte : ℕ → ℕ) (at end : ℕ) (cs : List Const) (n : ℕ) : Type 0 where
+  pub stands : Stands byte at (field tagPool (poolBytes cs))
+  pub upto : at + length (field tagPool (poolBytes cs)) ≡ n
+  pub fit : n ≤ end
+  pub sound : ValidPool cs
 
 -- the same constant
 content-same : {byte : ℕ → ℕ} {h : Head} {at m n : ℕ} {x c : Const} → _≡_ {A = Decoded Const} (decoded x m) (decoded c n) → Content byte h at x m → Content byte h at c n
@@ -147,21 +155,25 @@ module _ {byte : ℕ → ℕ} (small : (i : ℕ) → byte i < 256) where
         sound = k .sound;
       }
 
+  -- constants are items that are written back
   pub writes-const : Writes byte constBytes ValidConst (readConst byte)
   writes-const = record { wrote = λ at end e. write-const at end e }
 
   -- a pool that is read stands there
-  pub write-pool : (at end : ℕ) {cs : List Const} {n : ℕ} → readPool byte at end ≡ decoded cs n → Item byte (λ cs. field tagPool (poolBytes cs)) ValidPool at cs n
+  pub write-pool : (at end : ℕ) {cs : List Const} {n : ℕ} → readPool byte at end ≡ decoded cs n → PoolField byte at end cs n
   write-pool at end {cs} {n} e =
-      let r = write-row (poolHead byte) (λ _. constantsLimit) tagPool small (λ h t. tagged-true tagPool h (both-left (tagged tagPool h) (leb (h .len) poolLimit) t)) writes-const at end e in
+      let tag : (h : Head) → poolHead byte h ≡ true → h .tag ≡ tagPool = λ h t. tagged-true tagPool h (both-left (tagged tagPool h) (leb (h .len) poolLimit) t) in
+      let r = write-row (poolHead byte) (λ _. constantsLimit) tagPool small tag writes-const at end e in
       record {
         stands = r .stands;
         upto = r .upto;
+        fit = r .fit;
         sound = record { count = r .count; size = omega (arith, leb-true (length (poolBytes cs)) poolLimit (r .right), pool-length cs); each = r .each };
       }
 
--- A field of items, the pool, and then `k`
+-- What stands in front of a pool, the pool, and then `k`
 module _ {A B : Type 0} (byte : ℕ → ℕ) (r : ℕ → ℕ → Decoded A) (end : ℕ) (k : A → List Const → ℕ → Decoded B) where
+  -- the whole reading
   abbrev pub withPool : Decoded B
   withPool = then (r 0 end) (λ a at. then (readPool byte at end) (k a))
 
@@ -173,3 +185,41 @@ module _ {A B : Type 0} (byte : ℕ → ℕ) (r : ℕ → ℕ → Decoded A) (en
       let l = length-append fields pool in
       let p = read-pool v {at = length fields} end (stands-at (omega arith) (stands-right fields pool s)) (omega arith) in
       (λ i. then (e i) (λ a at. then (readPool byte at end) (k a))) ∙ (λ i. then (p i) (k a)) ∙ ap (k a cs) (sym l)
+
+  -- what was read in front of the pool, and the pool
+  pub record FrontAndPool (b : B) (n : ℕ) : Type 0 where
+    pub front : A
+    pub at : ℕ
+    pub read : r 0 end ≡ decoded front at
+    pub constants : List Const
+    pub next : ℕ
+    pub pool : PoolField byte at end constants next
+    pub rest : k front constants next ≡ decoded b n
+
+  -- both stand where they were read
+  pub write-with-pool : ((i : ℕ) → byte i < 256) → {b : B} {n : ℕ} → withPool ≡ decoded b n → FrontAndPool b n
+  write-with-pool small e =
+      let f = first (r 0 end) (λ a at. then (readPool byte at end) (k a)) e in
+      let g = first (readPool byte (f .next) end) (k (f .value)) (f .rest) in
+      record {
+        front = f .value;
+        at = f .next;
+        read = f .read;
+        constants = g .value;
+        next = g .next;
+        pool = write-pool small (f .next) end (g .read);
+        rest = g .rest;
+      }
+
+-- bytes and the pool behind them, up to what follows
+pub record Joined (byte : ℕ → ℕ) (x : Bytes) (cs : List Const) (n : ℕ) : Type 0 where
+  pub stands : Stands byte 0 (x ++ field tagPool (poolBytes cs))
+  pub upto : length (x ++ field tagPool (poolBytes cs)) ≡ n
+
+-- a pool that was read joins what stands before it
+pub joined : {byte : ℕ → ℕ} {x : Bytes} {at end n : ℕ} {cs : List Const} → Stands byte 0 x → 0 + length x ≡ at → PoolField byte at end cs n → Joined byte x cs n
+joined {x = x} {cs = cs} s l p =
+    record {
+      stands = stands-append s (stands-at (sym l) (p .stands));
+      upto = omega (arith, length-append x (field tagPool (poolBytes cs)), p .upto);
+    }

@@ -19,7 +19,7 @@ use Rattle.definition.specs.Syntax.{Stmt, Stmts, Else, Expr, Exprs}
 use Rattle.definition.specs.Field.{tagged, nameHead, bytes}
 use Rattle.definition.specs.Tree.{Read, ExprTag, StmtTag, after, seq, plain, literal, met, exprTag, stmtTag, exprHead, stmtHead, operatorHead, pairOf, stmtsOf, exprsOf, pairsOf, elseOf, readName, readOperator, readParams, exprBody, stmtBody, readStmt, readBlock, readExpr, readProgram, readTree, literals, Parsed, judged}
 use Rattle.definition.specs.Shape.{blanked, shape}
-use Rattle.definition.proofs.Basic.{length-bytes}
+use Rattle.definition.proofs.Bytes.{length-bytes}
 use Rattle.definition.proofs.Blank.{blank, mapStmt, mapStmts, mapElse, mapExpr, mapExprs}
 use Rattle.definition.proofs.Follows.{mapRead, Follows, bytes-same, follows-seq, follows-next, follows-pick, follows-read, follows-fault, follows-child, follows-last, follows-many, follows-head, follows-met, follows-bytes, follows-literal, follows-byte}
 
@@ -238,10 +238,3 @@ judged-met {A} level at (Read.wrong p d l) = go (ltb levelLimit level)
     go : (b : Bool) → _≡_ {A = Parsed A} (judged (Read.wrong p (pick b (some at) d) l)) (pick b (Parsed.refused (refusal Number.tooDeep at)) (judged (Read.wrong p d l)))
     go true = refl
     go false = refl
-
--- bytes as a part of the tree
-pub bytes-slice : (tree : Bytes) (at n : ℕ) → at + n ≤ length tree → bytes (byteAt tree) at n ≡ take n (drop at tree)
-bytes-slice tree at zero h = refl
-bytes-slice tree at (suc n) h =
-    let lt : at < length tree = omega arith in
-    rw (drop-cons tree at 0 lt) (ap (λ l. getD tree at 0 ∷ l) (bytes-slice tree (at + 1) n (omega arith) ∙ rw (add-one at) refl))

@@ -14,7 +14,8 @@ use Rattle.definition.specs.Syntax.{Stmt, Stmts, Else, Expr, Exprs, coun
 use Rattle.definition.specs.Field.{Head, tagged, nameHead, bytes}
 use Rattle.definition.specs.Tree.{Read, ExprTag, StmtTag, exprTag, stmtTag, plain, literal, exprLen, exprHead, stmtHead, operatorHead, pairOf, pairsOf, stmtsOf, exprsOf, elseOf, readName, readOperator, readParams, exprBody, stmtBody, readStmt, readBlock, readExpr, readProgram, readTree, Parsed}
 use Rattle.definition.specs.Valid.{All, IsName}
-use Rattle.definition.proofs.Basic.{chosen, both-true, length-bytes}
+use Rattle.definition.proofs.Basic.{chosen, both-true}
+use Rattle.definition.proofs.Bytes.{length-bytes}
 use Rattle.definition.proofs.WellFormed.{WfStmt, WfStmts, WfElse, WfExpr, WfExprs}
 use Rattle.definition.proofs.Gives.{Gives, Past, WfFields, Filled, gives-seq, gives-pick, gives-met, gives-child, gives-read, gives-last, gives-field, gives-byte, gives-many, past-filled, judged-gives}
 

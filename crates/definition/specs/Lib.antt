@@ -18,3 +18,5 @@ pub mod Compile
 pub mod Call
 pub mod Literal
 pub mod Series
+pub mod Values
+pub mod Examples

@@ -6,7 +6,7 @@ use Rattle.definition.specs.Basic.{Bytes}
 use Rattle.definition.specs.Tag.{tagExprStmt, tagBlock, tagLet, tagReturn, tagIdentifier, tagPrefix, tagInfix, tagIf, tagFunction, tagCall, tagInteger, tagBoolean, tagString, tagArray, tagIndex, tagHash, tagMacro}
 use Rattle.definition.specs.Syntax.{Stmt, Stmts, Else, Expr, Exprs}
 use Rattle.definition.specs.Tree.{stmtTag}
-use Rattle.tree.specs.Layout.{tag, after}
+use Rattle.field.specs.Layout.{tag, after}
 use Rattle.tree.specs.At.{ReadsNames, ValueAt, BlockStmtAt, LetAt, PrefixAt, InfixAt, IfAt, FunctionAt, CallAt, ListAt, IndexAt, stmtIs, exprKind, exprIs}
 use Rattle.tree.specs.Reads.{Some, ReadsStmt, ReadsExpr, ReadsStmts, ReadsExprs, ReadsBlock, ReadsOther, ReadsBranches}
 use Rattle.tree.proofs.Parts.{stmt-is, expr-is}

@@ -3,7 +3,7 @@ use Prim.Native.Nat.{ℕ, _+_, _≤_}
 use native.Mathlib.Omega.{arith}
 use Rattle.definition.specs.Basic.{Bytes}
 use Rattle.definition.specs.Syntax.{Stmt, Stmts, Else, Expr}
-use Rattle.tree.specs.Layout.{after}
+use Rattle.field.specs.Layout.{after}
 use Rattle.tree.specs.At.{ValueAt, LetAt, PrefixAt, InfixAt, IfAt, FunctionAt, CallAt, IndexAt}
 use Rattle.tree.specs.Reads.{ReadsOther}
 

@@ -6,7 +6,7 @@ use mathlib.Core.Path.{_≡_, subst}
 use Rattle.definition.specs.Basic.{Bytes}
 use Rattle.definition.specs.Syntax.{Stmt, Stmts, Else, Expr, Exprs}
 use Rattle.definition.specs.Tree.{ExprTag, StmtTag, stmtTag}
-use Rattle.tree.specs.Layout.{tag, after, Whole}
+use Rattle.field.specs.Layout.{tag, after, Whole}
 use Rattle.tree.specs.At.{Row, stmtList, exprList, ElseAt, stmtIs, ExprKind, booleanKind, kind, exprKind, exprIs}
 use Rattle.tree.specs.Reads.{StmtAt, BlockAt, ExprAt, ReadsStmt, ReadsExpr, ReadsStmts, ReadsBlock}
 

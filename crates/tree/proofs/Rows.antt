@@ -7,7 +7,7 @@ use mathlib.Core.Path.{_≡_, refl, ap, subst, _∙_}
 use lib.ListN.{length}
 use Rattle.definition.specs.Basic.{Bytes}
 use Rattle.definition.specs.Syntax.{Stmt, Stmts, Expr, Exprs, count}
-use Rattle.tree.specs.Layout.{after, Whole}
+use Rattle.field.specs.Layout.{after, Whole}
 use Rattle.tree.specs.At.{Row, exprList, NamedAt, ReadsNames}
 use Rattle.tree.specs.Reads.{Some, ReadsStmt, ReadsStmts, ReadsExpr, ReadsExprs, Fields, InRow, Counted}
 

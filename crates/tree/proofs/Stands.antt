@@ -16,10 +16,10 @@ use Rattle.definition.specs.Tree.{readStmt, readBlock, readExpr, readProgram, r
 use Rattle.definition.proofs.Basic.{both-true, pick-true, pick-false}
 use Rattle.definition.proofs.ReadWellFormed.{Sized, sized}
 use Rattle.definition.proofs.Gives.{Gives, right, wrong, gives-seq, gives-pick, gives-met, gives-child, gives-end, gives-head, gives-oneByte, gives-map, judged-gives}
-use Rattle.tree.specs.Layout.{tag, len, after, content, Whole}
+use Rattle.field.specs.Layout.{tag, len, after, content, Whole}
 use Rattle.tree.specs.At.{Row, stmtList, exprList, FieldAt, NameAt, ParamsAt, OperatorAt, ElseAt, ValueAt, ListAt, stmtIs, ExprKind, booleanKind, kind, exprKind, exprIs}
 use Rattle.tree.specs.Reads.{StmtAt, BlockAt, ExprAt, ReadsStmt, ReadsStmts}
-use Rattle.tree.proofs.Content.{content-bytes}
+use Rattle.field.proofs.Content.{content-bytes}
 use Rattle.tree.proofs.Parts.{as-stmts}
 use Rattle.tree.proofs.Stood.{Stood, Rowed, Stands, stood-stmts, stood-exprs, stood-pairs, stood-else, whole-at, stood-name, stood-operator, stood-params}
 

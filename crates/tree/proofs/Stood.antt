@@ -15,9 +15,9 @@ use Rattle.definition.specs.Field.{Head, head, tagged, nameHead}
 use Rattle.definition.specs.Tree.{Read, plain, operatorHead, pairOf, pairsOf, namesOf, stmtsOf, exprsOf, elseOf, readName, readOperator, readParams}
 use Rattle.definition.proofs.Basic.{both-true}
 use Rattle.definition.proofs.Gives.{Gives, right, Fields, gives-seq, gives-pick, gives-met, gives-child, gives-end, gives-head, gives-oneByte, gives-items, gives-map}
-use Rattle.tree.specs.Layout.{tag, len, after, content, Whole}
+use Rattle.field.specs.Layout.{tag, len, after, content, Whole}
 use Rattle.tree.specs.At.{Row, stmtList, exprList, NameAt, NamedAt, ParamsAt, OperatorAt, ElseAt}
-use Rattle.tree.proofs.Content.{content-bytes}
+use Rattle.field.proofs.Content.{content-bytes}
 
 module _ (tree : Bytes) where
   -- a field that was read: P at its offset, up to the offset after it, which is not past the end

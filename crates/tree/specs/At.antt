@@ -9,7 +9,7 @@ use Rattle.definition.specs.Limit.{nameLimit}
 use Rattle.definition.specs.Tag.{tagBoolean, tagName, tagParams, tagOperator}
 use Rattle.definition.specs.Syntax.{Stmt, Stmts, Else, Expr, Exprs}
 use Rattle.definition.specs.Tree.{ExprTag, StmtTag, exprTag}
-use Rattle.tree.specs.Layout.{tag, len, after, content, Whole}
+use Rattle.field.specs.Layout.{tag, len, after, content, Whole}
 
 -- a whole field of a tag from one to another
 pub record FieldAt (tree : Bytes) (low high at : ℕ) : Type 0 where

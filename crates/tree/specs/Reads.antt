@@ -7,7 +7,7 @@ use Rattle.definition.specs.Basic.{Bytes}
 use Rattle.definition.specs.Tag.{tagExprStmt, tagReturn, tagBlock, tagIdentifier, tagMacro}
 use Rattle.definition.specs.Syntax.{Stmt, Stmts, Else, Expr, Exprs, count}
 use Rattle.definition.specs.Tree.{stmtTag}
-use Rattle.tree.specs.Layout.{tag, after, Whole}
+use Rattle.field.specs.Layout.{tag, after, Whole}
 use Rattle.tree.specs.At.{FieldAt, Row, ReadsNames, stmtList, exprList, ElseAt, stmtIs, exprIs, exprKind}
 
 -- something stands there that reads so

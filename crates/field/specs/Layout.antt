@@ -1,4 +1,4 @@
--- The fields of a tree by their offsets in its bytes.
+-- The fields in some bytes, by their offsets.
 use Prim.Native.Nat.{ℕ, _+_, _≤_}
 use lib.ListN.{length, take, drop}
 use Rattle.definition.specs.Basic.{Bytes, byteAt}
