@@ -73,6 +73,7 @@ pub record ValueAt (tree : Bytes) (E : ℕ → Expr → Type 0) (make : ℕ → 
   pub on-value : E (at + 3) value
   pub ends : after tree (at + 3) ≡ after tree at
 
+-- a let: its name, then its value
 pub record LetAt (tree : Bytes) (E : ℕ → Expr → Type 0) (at : ℕ) (s : Stmt) : Type 0 where
   pub value : Expr
   pub is : s ≡ Stmt.letStmt at (content tree (at + 3)) value
@@ -80,16 +81,19 @@ pub record LetAt (tree : Bytes) (E : ℕ → Expr → Type 0) (at : ℕ) (s : St
   pub on-value : E (after tree (at + 3)) value
   pub ends : after tree (after tree (at + 3)) ≡ after tree at
 
+-- a block as a statement
 pub record BlockStmtAt (tree : Bytes) (S : ℕ → Stmt → Type 0) (at : ℕ) (s : Stmt) : Type 0 where
   pub body : Stmts
   pub is : s ≡ Stmt.block at body
   pub on-body : Row tree S (at + 3) (after tree at) (stmtList body)
 
+-- an identifier: its name is its content
 pub record IdentifierAt (tree : Bytes) (at : ℕ) (e : Expr) : Type 0 where
   pub is : e ≡ Expr.identifier at (content tree at)
   pub long : 1 ≤ len tree at
   pub short : len tree at ≤ nameLimit
 
+-- a prefix: its operator, then its operand
 pub record PrefixAt (tree : Bytes) (E : ℕ → Expr → Type 0) (at : ℕ) (e : Expr) : Type 0 where
   pub operand : Expr
   pub is : e ≡ Expr.prefix at (byteAt tree (at + 6)) operand
@@ -97,6 +101,7 @@ pub record PrefixAt (tree : Bytes) (E : ℕ → Expr → Type 0) (at : ℕ) (e :
   pub on-operand : E (at + 7) operand
   pub ends : after tree (at + 7) ≡ after tree at
 
+-- an infix: its left operand, its operator, its right operand
 pub record InfixAt (tree : Bytes) (E : ℕ → Expr → Type 0) (at : ℕ) (e : Expr) : Type 0 where
   pub left : Expr
   pub right : Expr
@@ -106,6 +111,7 @@ pub record InfixAt (tree : Bytes) (E : ℕ → Expr → Type 0) (at : ℕ) (e : 
   pub on-right : E (after tree (at + 3) + 4) right
   pub ends : after tree (after tree (at + 3) + 4) ≡ after tree at
 
+-- an if: its test, its branch, and the other branch or nothing
 pub record IfAt (tree : Bytes) (B : ℕ → Stmts → Type 0) (E : ℕ → Expr → Type 0) (at : ℕ) (e : Expr) : Type 0 where
   pub test : Expr
   pub branch : Stmts
@@ -116,6 +122,7 @@ pub record IfAt (tree : Bytes) (B : ℕ → Stmts → Type 0) (E : ℕ → Expr 
   pub fits : after tree (after tree (at + 3)) ≤ after tree at
   pub on-other : ElseAt tree B (after tree (after tree (at + 3))) (after tree at) other
 
+-- a function: its name, which may be empty, its parameters, its body
 pub record FunctionAt (tree : Bytes) (B : ℕ → Stmts → Type 0) (at : ℕ) (e : Expr) : Type 0 where
   pub params : List Bytes
   pub body : Stmts
@@ -125,6 +132,7 @@ pub record FunctionAt (tree : Bytes) (B : ℕ → Stmts → Type 0) (at : ℕ) (
   pub on-body : B (after tree (after tree (at + 3))) body
   pub ends : after tree (after tree (after tree (at + 3))) ≡ after tree at
 
+-- a call: its callee, then its arguments
 pub record CallAt (tree : Bytes) (E : ℕ → Expr → Type 0) (at : ℕ) (e : Expr) : Type 0 where
   pub callee : Expr
   pub args : Exprs
@@ -133,10 +141,12 @@ pub record CallAt (tree : Bytes) (E : ℕ → Expr → Type 0) (at : ℕ) (e : E
   pub fits : after tree (at + 3) ≤ after tree at
   pub on-args : Row tree E (after tree (at + 3)) (after tree at) (exprList args)
 
+-- an integer: eight bytes
 pub record IntegerAt (tree : Bytes) (at : ℕ) (e : Expr) : Type 0 where
   pub is : e ≡ Expr.integer at (content tree at)
   pub eight : len tree at ≡ 8
 
+-- a boolean: one byte, 0 or 1
 pub record BooleanAt (tree : Bytes) (at : ℕ) (e : Expr) : Type 0 where
   pub is : e ≡ Expr.boolean at (byteAt tree (at + 3))
   pub one : len tree at ≡ 1
@@ -148,6 +158,7 @@ pub record ListAt (tree : Bytes) (E : ℕ → Expr → Type 0) (make : ℕ → E
   pub is : e ≡ make at items
   pub on-items : Row tree E (at + 3) (after tree at) (exprList items)
 
+-- an index: what is indexed, then by what
 pub record IndexAt (tree : Bytes) (E : ℕ → Expr → Type 0) (at : ℕ) (e : Expr) : Type 0 where
   pub left : Expr
   pub right : Expr
