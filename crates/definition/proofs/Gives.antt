@@ -9,7 +9,7 @@ use borrow.Author.Tests.{eqb-true, leb-true}
 use Rattle.definition.specs.Basic.{pick, both}
 use Rattle.definition.specs.Limit.{treeLimit}
 use Rattle.definition.specs.Field.{Head, fits, head}
-use Rattle.definition.specs.Tree.{Read, after, seq, read, met, child, last, many, headAt, oneByte, Parsed, judged}
+use Rattle.definition.specs.Tree.{Read, after, seq, met, child, last, many, headAt, oneByte, Parsed, judged}
 use Rattle.definition.proofs.Basic.{chosen, both-true}
 
 -- what was read is P, with the offset after it; or something is wrong

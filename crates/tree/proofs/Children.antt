@@ -1,7 +1,7 @@
 -- The children of what stands at an offset, at their own offsets, as the walk's functions ask for them.
 use Prim.Native.Nat.{ℕ, _+_, _≤_, _<_}
 use native.Mathlib.Omega.{arith}
-use mathlib.Core.Path.{_≡_, refl, sym, subst}
+use mathlib.Core.Path.{_≡_, refl}
 use Rattle.definition.specs.Basic.{Bytes}
 use Rattle.definition.specs.Tag.{tagExprStmt, tagBlock, tagLet, tagReturn, tagIdentifier, tagPrefix, tagInfix, tagIf, tagFunction, tagCall, tagInteger, tagBoolean, tagString, tagArray, tagIndex, tagHash, tagMacro}
 use Rattle.definition.specs.Syntax.{Stmt, Stmts, Else, Expr, Exprs}

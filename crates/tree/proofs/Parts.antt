@@ -1,12 +1,11 @@
 -- What stands at an offset, by its tag: the construct, whose parts read as statements, blocks and expressions in turn.
-use Prim.Native.Nat.{ℕ, zero, suc, _+_, _≤_, _<_}
-use native.Mathlib.Omega.{arith}
+use Prim.Native.Nat.{ℕ, zero, suc, _+_}
 use mathlib.Core.List.{List, [], _∷_}
 use mathlib.Core.Path.{_≡_, subst}
 use Rattle.definition.specs.Basic.{Bytes}
-use Rattle.definition.specs.Syntax.{Stmt, Stmts, Else, Expr, Exprs}
+use Rattle.definition.specs.Syntax.{Stmt, Stmts, Else, Expr}
 use Rattle.definition.specs.Tree.{ExprTag, StmtTag, stmtTag}
-use Rattle.field.specs.Layout.{tag, after, Whole}
+use Rattle.field.specs.Layout.{tag, after}
 use Rattle.tree.specs.At.{Row, stmtList, exprList, ElseAt, stmtIs, ExprKind, booleanKind, kind, exprKind, exprIs}
 use Rattle.tree.specs.Reads.{StmtAt, BlockAt, ExprAt, ReadsStmt, ReadsExpr, ReadsStmts, ReadsBlock}
 

@@ -1,15 +1,15 @@
--- Fields in a row: the first of them, and how many there are.
+-- Chain in a row: the first of them, and how many there are.
 use Prim.Native.Nat.{ℕ, zero, suc, _+_, _*_, _≤_, _<_}
 use native.Mathlib.Nat.{zero-add}
 use native.Mathlib.Omega.{arith}
 use mathlib.Core.List.{List, [], _∷_}
-use mathlib.Core.Path.{_≡_, refl, ap, subst, _∙_}
+use mathlib.Core.Path.{_≡_, refl, ap, subst}
 use lib.ListN.{length}
 use Rattle.definition.specs.Basic.{Bytes}
-use Rattle.definition.specs.Syntax.{Stmt, Stmts, Expr, Exprs, count}
+use Rattle.definition.specs.Syntax.{Stmts, Exprs, count}
 use Rattle.field.specs.Layout.{after, Whole}
 use Rattle.tree.specs.At.{Row, exprList, NamedAt, ReadsNames}
-use Rattle.tree.specs.Reads.{Some, ReadsStmt, ReadsStmts, ReadsExpr, ReadsExprs, Fields, InRow, Counted}
+use Rattle.tree.specs.Reads.{Some, ReadsStmt, ReadsStmts, ReadsExpr, ReadsExprs, Chain, InRow, Counted}
 
 -- the first of a row, and the others behind it
 pub record First {A B : Type 0} (tree : Bytes) (cons : A → B → B) (P : ℕ → A → Type 0) (R : ℕ → ℕ → B → Type 0) (at end : ℕ) (b : B) : Type 0 where
@@ -53,27 +53,27 @@ module _ {tree : Bytes} {at end : ℕ} where
 
 module _ (tree : Bytes) where
   -- there are as many as there are
-  fields-same : (at end n m : ℕ) → Fields tree at end n → Fields tree at end m → n ≡ m
+  fields-same : (at end n m : ℕ) → Chain tree at end n → Chain tree at end m → n ≡ m
   fields-same at end zero zero f g = refl
   fields-same at end zero (suc m) f g = absurd (omega (arith, g .1))
   fields-same at end (suc n) zero f g = absurd (omega (arith, f .1))
   fields-same at end (suc n) (suc m) f g = ap suc (fields-same (after tree at) end n m (f .2) (g .2))
 
   -- the fields of a row
-  row-fields : {A : Type 0} {P : ℕ → A → Type 0} → ((at : ℕ) (x : A) → P at x → Whole tree at) → (at end : ℕ) (xs : List A) → Row tree P at end xs → Fields tree at end (length xs)
+  row-fields : {A : Type 0} {P : ℕ → A → Type 0} → ((at : ℕ) (x : A) → P at x → Whole tree at) → (at end : ℕ) (xs : List A) → Row tree P at end xs → Chain tree at end (length xs)
   row-fields w at end [] r = r
   row-fields w at end (x ∷ xs) r = (w at x (r .1), r .0, row-fields w (after tree at) end xs (r .2))
 
   -- the fields of expressions
-  exprs-fields : (at end : ℕ) (es : Exprs) → ReadsExprs tree at end es → Fields tree at end (count es)
-  exprs-fields at end es r = subst (Fields tree at end) (listed es) (row-fields (λ _ _ e. e .field .whole) at end (exprList es) (r .row))
+  exprs-fields : (at end : ℕ) (es : Exprs) → ReadsExprs tree at end es → Chain tree at end (count es)
+  exprs-fields at end es r = subst (Chain tree at end) (listed es) (row-fields (λ _ _ e. e .field .whole) at end (exprList es) (r .row))
     where
       listed : (es : Exprs) → length (exprList es) ≡ count es
       listed Exprs.noExprs = refl
       listed (Exprs.exprs x xs) = ap suc (listed xs)
 
   -- the fields of names
-  names-fields : (at end : ℕ) (ns : List Bytes) → ReadsNames tree at end ns → Fields tree at end (length ns)
+  names-fields : (at end : ℕ) (ns : List Bytes) → ReadsNames tree at end ns → Chain tree at end (length ns)
   names-fields at end ns r = row-fields (λ _ _ n. n .named .whole) at end ns (r .row)
 
 -- a turn of counting: n fields stand before `at`
@@ -104,7 +104,7 @@ module _ {tree : Bytes} {from end : ℕ} where
   pub count-again : {at next n : ℕ} → at < end → next ≡ after tree at → CountTurn tree from end at n → CountTurn tree from end next (n + 1)
   count-again {at} {next} {n} h q t = go (t .left .0) (t .left .1 .fields)
     where
-      go : (m : ℕ) → Fields tree at end m → CountTurn tree from end next (n + 1)
+      go : (m : ℕ) → Chain tree at end m → CountTurn tree from end next (n + 1)
       go zero f = absurd (omega arith)
       go (suc m) f =
           record {
@@ -117,7 +117,7 @@ module _ {tree : Bytes} {from end : ℕ} where
   pub count-ends : {at n : ℕ} → end ≤ at → CountTurn tree from end at n → Counted tree from end n
   count-ends {at} {n} h t = go (t .left .0) (t .left .1 .fields)
     where
-      go : (m : ℕ) → Fields tree at end m → Counted tree from end n
+      go : (m : ℕ) → Chain tree at end m → Counted tree from end n
       go zero f =
           let e : n + 0 ≡ n = omega arith in
           let r : InRow tree from end n = rw e at (t .counted 0 (record { fields = f })) in

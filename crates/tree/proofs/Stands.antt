@@ -1,27 +1,27 @@
 -- A tree that was read stands there: from the definition's reading to what the walk goes by.
 use Prim.Native.Nat.{ℕ, zero, suc, _+_, _≤_}
 use native.Mathlib.Omega.{arith}
-use mathlib.Core.Bool.{true, false}
+use mathlib.Core.Bool.{true}
 use mathlib.Core.Path.{_≡_, refl, sym, ap, subst, _∙_}
 use lib.ListN.{length}
 use lib.Dec.{leb, eqb}
 use borrow.Author.Tests.{eqb-true, leb-true}
-use Rattle.definition.specs.Basic.{Bytes, byteAt, both, pick}
-use Rattle.definition.specs.Limit.{treeLimit, nameLimit}
-use Rattle.definition.specs.Tag.{tagExprStmt, tagReturn, tagBlock, tagIdentifier, tagInteger, tagBoolean, tagMacro, tagProgram}
-use Rattle.definition.specs.Syntax.{Stmt, Stmts, Else, Expr, Exprs}
-use Rattle.definition.specs.Field.{Head, head, tagged}
+use Rattle.definition.specs.Basic.{Bytes, byteAt, both}
+use Rattle.definition.specs.Limit.{treeLimit}
+use Rattle.definition.specs.Tag.{tagBlock, tagIdentifier, tagBoolean, tagMacro, tagProgram}
+use Rattle.definition.specs.Syntax.{Stmt, Stmts, Expr, Exprs}
+use Rattle.definition.specs.Field.{head, tagged}
 use Rattle.definition.specs.Tree.{Read, seq, read, child, last, ExprTag, StmtTag, exprTag, stmtTag, literal, exprLen, exprHead, stmtHead, exprBody, stmtBody}
 use Rattle.definition.specs.Tree.{readStmt, readBlock, readExpr, readProgram, readTree, Parsed}
 use Rattle.definition.proofs.Basic.{both-true, pick-true, pick-false}
 use Rattle.definition.proofs.ReadWellFormed.{Sized, sized}
 use Rattle.definition.proofs.Gives.{Gives, right, wrong, gives-seq, gives-pick, gives-met, gives-child, gives-end, gives-head, gives-oneByte, gives-map, judged-gives}
 use Rattle.field.specs.Layout.{tag, len, after, content, Whole}
-use Rattle.tree.specs.At.{Row, stmtList, exprList, FieldAt, NameAt, ParamsAt, OperatorAt, ElseAt, ValueAt, ListAt, stmtIs, ExprKind, booleanKind, kind, exprKind, exprIs}
-use Rattle.tree.specs.Reads.{StmtAt, BlockAt, ExprAt, ReadsStmt, ReadsStmts}
+use Rattle.tree.specs.At.{stmtList, exprList, FieldAt, ValueAt, ListAt, stmtIs, ExprKind, kind, exprKind, exprIs}
+use Rattle.tree.specs.Reads.{StmtAt, BlockAt, ExprAt, ReadsStmts}
 use Rattle.field.proofs.Content.{content-bytes}
 use Rattle.tree.proofs.Parts.{as-stmts}
-use Rattle.tree.proofs.Stood.{Stood, Rowed, Stands, stood-stmts, stood-exprs, stood-pairs, stood-else, whole-at, stood-name, stood-operator, stood-params}
+use Rattle.tree.proofs.Stood.{Rowed, StandFields, stood-stmts, stood-exprs, stood-pairs, stood-else, whole-at, stood-name, stood-operator, stood-params}
 
 module _ (tree : Bytes) where
   -- a field's content was read to its end, as W
@@ -29,7 +29,7 @@ module _ (tree : Bytes) where
     ends : n ≡ after tree at
     is : W a
 
-  module _ {E : ℕ → Expr → Type 0} {e : ℕ → ℕ → Read Expr} (F : Stands tree E e) where
+  module _ {E : ℕ → Expr → Type 0} {e : ℕ → ℕ → Read Expr} (F : StandFields tree E e) where
     -- a statement that is one expression
     held-value : (make : ℕ → Expr → Stmt) (at : ℕ) → after tree at ≤ length tree
         → Gives (Held (ValueAt tree E make at) at) (seq (child e at (at + 3) (after tree at)) (λ x at₁. last (make at x) at₁ (after tree at)))
@@ -41,7 +41,7 @@ module _ (tree : Bytes) where
     held-list : {x : Read Exprs} (make : ℕ → Exprs → Expr) (at : ℕ) → Gives (Rowed tree E exprList (at + 3) (after tree at)) x → Gives (Held (ListAt tree E make at) at) (seq x (λ xs. read (make at xs)))
     held-list make at g = gives-seq g (λ xs _ p. right (record { ends = p .ends; is = record { items = xs; is = refl; on-items = p .row } }))
 
-    module _ {S : ℕ → Stmt → Type 0} {f : ℕ → ℕ → Read Stmt} (G : Stands tree S f) where
+    module _ {S : ℕ → Stmt → Type 0} {f : ℕ → ℕ → Read Stmt} (G : StandFields tree S f) where
       -- what a statement holds
       held-stmt : (x : StmtTag) (level at : ℕ) → after tree at ≤ length tree → Gives (Held (stmtIs tree x S E at) at) (stmtBody (byteAt tree) x f e level at (at + 3) (len tree at))
       held-stmt StmtTag.exprStmtTag level at h = held-value (λ p x. Stmt.exprStmt p x) at h
@@ -54,7 +54,7 @@ module _ (tree : Bytes) where
           record { ends = z; is = record { value = v; is = ap (λ n. Stmt.letStmt at n v) (p .reads .is); named = p .reads .named; on-value = q .reads; ends = sym (q .ends) ∙ z } }))))
       held-stmt StmtTag.returnTag level at h = held-value (λ p x. Stmt.returnStmt p x) at h
 
-    module _ {B : ℕ → Stmts → Type 0} {b : ℕ → ℕ → Read Stmts} (G : Stands tree B b) where
+    module _ {B : ℕ → Stmts → Type 0} {b : ℕ → ℕ → Read Stmts} (G : StandFields tree B b) where
       -- what an expression holds
       held-expr : (x : ExprTag) (level at : ℕ) → Whole tree at → Sized x (len tree at)
           → Gives (Held (exprIs tree (kind x) B E at) at) (exprBody (byteAt tree) x e b level at (at + 3) (len tree at))
@@ -146,7 +146,7 @@ module _ (tree : Bytes) where
     unfolding readStmt StmtAt
 
     -- a statement
-    stood-stmt : (fuel level : ℕ) → Stands tree (StmtAt tree fuel) (readStmt (byteAt tree) fuel level)
+    stood-stmt : (fuel level : ℕ) → StandFields tree (StmtAt tree fuel) (readStmt (byteAt tree) fuel level)
     stood-stmt zero level = record { each = λ _ _ _. wrong }
     stood-stmt (suc fuel) level =
         record {
@@ -160,7 +160,7 @@ module _ (tree : Bytes) where
         }
 
     -- a block
-    stood-block : (fuel level : ℕ) → Stands tree (BlockAt tree fuel) (readBlock (byteAt tree) fuel level)
+    stood-block : (fuel level : ℕ) → StandFields tree (BlockAt tree fuel) (readBlock (byteAt tree) fuel level)
     stood-block zero level = record { each = λ _ _ _. wrong }
     stood-block (suc fuel) level =
         record {
@@ -174,7 +174,7 @@ module _ (tree : Bytes) where
         }
 
     -- an expression
-    stood-expr : (fuel level : ℕ) → Stands tree (ExprAt tree fuel) (readExpr (byteAt tree) fuel level)
+    stood-expr : (fuel level : ℕ) → StandFields tree (ExprAt tree fuel) (readExpr (byteAt tree) fuel level)
     stood-expr zero level = record { each = λ _ _ _. wrong }
     stood-expr (suc fuel) level =
         record {

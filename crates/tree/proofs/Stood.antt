@@ -1,5 +1,5 @@
 -- What reading a field gives, where nothing is wrong: what stands at its offset, up to the offset after it.
-use Prim.Native.Nat.{ℕ, suc, _+_, _≤_}
+use Prim.Native.Nat.{ℕ, _+_, _≤_}
 use native.Mathlib.Omega.{arith}
 use mathlib.Core.Bool.{true}
 use mathlib.Core.List.{List, [], _∷_}
@@ -11,11 +11,11 @@ use Rattle.definition.specs.Basic.{Bytes, byteAt, both}
 use Rattle.definition.specs.Limit.{nameLimit}
 use Rattle.definition.specs.Tag.{tagName, tagParams, tagOperator}
 use Rattle.definition.specs.Syntax.{Stmt, Stmts, Else, Expr, Exprs}
-use Rattle.definition.specs.Field.{Head, head, tagged, nameHead}
+use Rattle.definition.specs.Field.{head, tagged, nameHead}
 use Rattle.definition.specs.Tree.{Read, plain, operatorHead, pairOf, pairsOf, namesOf, stmtsOf, exprsOf, elseOf, readName, readOperator, readParams}
 use Rattle.definition.proofs.Basic.{both-true}
 use Rattle.definition.proofs.Gives.{Gives, right, Fields, gives-seq, gives-pick, gives-met, gives-child, gives-end, gives-head, gives-oneByte, gives-items, gives-map}
-use Rattle.field.specs.Layout.{tag, len, after, content, Whole}
+use Rattle.field.specs.Layout.{len, after, Whole}
 use Rattle.tree.specs.At.{Row, stmtList, exprList, NameAt, NamedAt, ParamsAt, OperatorAt, ElseAt}
 use Rattle.field.proofs.Content.{content-bytes}
 
@@ -32,18 +32,18 @@ module _ (tree : Bytes) where
     pub row : Row tree P at end (list b)
 
   -- a reader of fields that are P at their offsets
-  abbrev pub Stands : {A : Type 0} → (ℕ → A → Type 0) → (ℕ → ℕ → Read A) → Type 0
-  Stands P f = Fields (length tree) (Stood P) f
+  abbrev pub StandFields : {A : Type 0} → (ℕ → A → Type 0) → (ℕ → ℕ → Read A) → Type 0
+  StandFields P f = Fields (length tree) (Stood P) f
 
   -- one more in front of a row
   row-more : {A : Type 0} {P : ℕ → A → Type 0} {at end : ℕ} {x : A} {n : ℕ} (xs : List A) → Stood P at end x n → Row tree P n end xs → Row tree P at end (x ∷ xs)
   row-more {P = P} {end = end} xs s r = (s .fits, s .reads, subst (λ k. Row tree P k end xs) (s .ends) r)
 
   -- statements
-  pub stood-stmts : {S : ℕ → Stmt → Type 0} {f : ℕ → ℕ → Read Stmt} → Stands S f → (fuel at end : ℕ) → end ≤ length tree → Gives (Rowed S stmtList at end) (stmtsOf f fuel at end)
+  pub stood-stmts : {S : ℕ → Stmt → Type 0} {f : ℕ → ℕ → Read Stmt} → StandFields S f → (fuel at end : ℕ) → end ≤ length tree → Gives (Rowed S stmtList at end) (stmtsOf f fuel at end)
   stood-stmts = gives-items Stmts.noStmts (λ x xs. Stmts.stmts x xs) (λ _ _ e. record { ends = e; row = e }) (λ _ _ _ _ xs _ p q. record { ends = q .ends; row = row-more (stmtList xs) p (q .row) })
 
-  module _ {E : ℕ → Expr → Type 0} {f : ℕ → ℕ → Read Expr} (F : Stands E f) where
+  module _ {E : ℕ → Expr → Type 0} {f : ℕ → ℕ → Read Expr} (F : StandFields E f) where
     -- a key and its value
     abbrev Pair : ℕ → ℕ → Expr × Expr → ℕ → Type 0
     Pair at end x n = (at₁ : ℕ) × Stood E at end (x .0) at₁ × Stood E at₁ end (x .1) n
@@ -62,7 +62,7 @@ module _ (tree : Bytes) where
     stood-exprs = gives-items Exprs.noExprs (λ x xs. Exprs.exprs x xs) (λ _ _ e. record { ends = e; row = e }) (λ _ _ _ _ xs _ p q. record { ends = q .ends; row = row-more (exprList xs) p (q .row) }) F
 
   -- an else, or none
-  pub stood-else : {B : ℕ → Stmts → Type 0} {f : ℕ → ℕ → Read Stmts} → Stands B f → (at end : ℕ) → end ≤ length tree → Gives (λ e n. (n ≡ end) × ElseAt tree B at end e) (elseOf f at end)
+  pub stood-else : {B : ℕ → Stmts → Type 0} {f : ℕ → ℕ → Read Stmts} → StandFields B f → (at end : ℕ) → end ≤ length tree → Gives (λ e n. (n ≡ end) × ElseAt tree B at end e) (elseOf f at end)
   stood-else F at end h =
       gives-pick (eqb at end) (λ e. let z = eqb-true at end e in right (z, z))
       (λ _. gives-seq (F .each at end h) (λ b at₁ p. gives-end (Else.else b) at₁ end (λ e. (e, (sym (p .ends) ∙ e, p .reads)))))
@@ -86,7 +86,7 @@ module _ (tree : Bytes) where
         record { whole = whole-at; tagged = eqb-true _ _ (g₁ .0); one = eqb-true _ _ (g₁ .1); known = k }
 
   -- a name of at least so many bytes
-  pub stood-name : (least level : ℕ) → Stands (NamedAt tree least) (readName (byteAt tree) least level)
+  pub stood-name : (least level : ℕ) → StandFields (NamedAt tree least) (readName (byteAt tree) least level)
   stood-name least level =
       record {
         each =
@@ -95,7 +95,7 @@ module _ (tree : Bytes) where
       }
 
   -- an operator
-  pub stood-operator : (level : ℕ) → Stands (λ at o. OperatorAt tree at × (o ≡ byteAt tree (at + 3))) (readOperator (byteAt tree) level)
+  pub stood-operator : (level : ℕ) → StandFields (λ at o. OperatorAt tree at × (o ≡ byteAt tree (at + 3))) (readOperator (byteAt tree) level)
   stood-operator level =
       record {
         each =
@@ -108,7 +108,7 @@ module _ (tree : Bytes) where
       }
 
   -- parameters
-  pub stood-params : (level : ℕ) → Stands (ParamsAt tree) (readParams (byteAt tree) level)
+  pub stood-params : (level : ℕ) → StandFields (ParamsAt tree) (readParams (byteAt tree) level)
   stood-params level =
       record {
         each =

@@ -1,6 +1,6 @@
 -- What stands at an offset of a tree: each construct, with its parts at their offsets.
 -- `S`, `B` and `E` say of a statement, a block and an expression that it stands at an offset.
-use Prim.Native.Nat.{ℕ, zero, suc, _+_, _≤_}
+use Prim.Native.Nat.{ℕ, _+_, _≤_}
 use mathlib.Core.Path.{_≡_}
 use mathlib.Core.List.{List, [], _∷_}
 use lib.Dec.{eqb}

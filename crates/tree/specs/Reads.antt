@@ -70,13 +70,13 @@ pub record ReadsBranches (tree : Bytes) (at : ℕ) (b : Branches) : Type 0 where
   pub on-other : ReadsOther tree at (b .other)
 
 -- so many whole fields in a row
-abbrev pub Fields : Bytes → ℕ → ℕ → ℕ → Type 0
-Fields tree at end zero = at ≡ end
-Fields tree at end (suc n) = Whole tree at × (after tree at ≤ end) × Fields tree (after tree at) end n
+abbrev pub Chain : Bytes → ℕ → ℕ → ℕ → Type 0
+Chain tree at end zero = at ≡ end
+Chain tree at end (suc n) = Whole tree at × (after tree at ≤ end) × Chain tree (after tree at) end n
 
 -- so many whole fields stand in a row, from an offset up to an end
 pub record InRow (tree : Bytes) (at end n : ℕ) : Type 0 where
-  pub fields : Fields tree at end n
+  pub fields : Chain tree at end n
 
 -- how many fields stand in a row: expressions, or names
 pub record Counted (tree : Bytes) (from end n : ℕ) : Type 0 where
