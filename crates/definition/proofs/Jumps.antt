@@ -43,20 +43,20 @@ Pending [] s = Unit {0}
 Pending (j ∷ js) s = T (jumpAt j (s .code)) × Pending js s
 
 -- code that keeps the jumps
-record Keeps (c d : Code) : Type 0 where
-  keep : (j : ℕ) → T (jumpAt j c) → T (jumpAt j d)
+pub record Keeps (c d : Code) : Type 0 where
+  pub keep : (j : ℕ) → T (jumpAt j c) → T (jumpAt j d)
 
-pending : (js : List ℕ) (s t : State) → Keeps (s .code) (t .code) → Pending js s → Pending js t
+pub pending : (js : List ℕ) (s t : State) → Keeps (s .code) (t .code) → Pending js s → Pending js t
 pending [] s t k h = tt
 pending (j ∷ js) s t k h = (k .keep j (h .0), pending js s t k (h .1))
 
-same : (c : Code) → Keeps c c
+pub same : (c : Code) → Keeps c c
 same c = record { keep = λ j h. h }
 
-then : {c d e : Code} → Keeps c d → Keeps d e → Keeps c e
+pub then : {c d e : Code} → Keeps c d → Keeps d e → Keeps c e
 then k l = record { keep = λ j h. l .keep j (k .keep j h) }
 
-before : (j : ℕ) (c : Code) → T (jumpAt j c) → j < sizeOf c
+pub before : (j : ℕ) (c : Code) → T (jumpAt j c) → j < sizeOf c
 before j [] h = absurd h
 before j (i ∷ is) h = go (before j is) (eqb (sizeOf is) j) refl h
   where
@@ -64,10 +64,10 @@ before j (i ∷ is) h = go (before j is) (eqb (sizeOf is) j) refl h
     go f true e h = omega (arith, eqb-true (sizeOf is) j e)
     go f false e h = omega (arith, f h)
 
-more : (i : Instr) (c : Code) → Keeps c (i ∷ c)
+pub more : (i : Instr) (c : Code) → Keeps c (i ∷ c)
 more i c = record { keep = λ j h. subst (λ b. T (pick b (isJump i) (jumpAt j c))) (sym (ne-eqb (sizeOf c) j (λ e. omega (arith, before j c h)))) h }
 
-less : (c : Code) → lastIs opPop c ≡ true → Keeps c (withoutLast c)
+pub less : (c : Code) → lastIs opPop c ≡ true → Keeps c (withoutLast c)
 less [] e = same []
 less (i ∷ is) e = record { keep = λ j h. go j (eqb (sizeOf is) j) h }
   where
@@ -75,7 +75,7 @@ less (i ∷ is) e = record { keep = λ j h. go j (eqb (sizeOf is) j) h }
     go j true h = absurd (subst (λ o. T (pick (eqb o opJumpNotTruthy) true (eqb o opJump))) (eqb-true (i .op) 2 e) h)
     go j false h = h
 
-jumpAt-changeOperand : (j p t : ℕ) (c : Code) → jumpAt j (changeOperand p t c) ≡ jumpAt j c
+pub jumpAt-changeOperand : (j p t : ℕ) (c : Code) → jumpAt j (changeOperand p t c) ≡ jumpAt j c
 jumpAt-changeOperand j p t [] = refl
 jumpAt-changeOperand j p t (i ∷ is) = go (jumpAt-changeOperand j p t is) (eqb (sizeOf is) p)
   where
@@ -188,7 +188,7 @@ appended : (s : State) (d p : ℕ) (i : Instr) → Ends (λ (_ : Unit {0}) s₁.
 unfolding emitBeside
 appended s d p i = ends-pick (leb (s .around + sizeOf (s .code) + d + size i) codeSize) (λ _. Ends.on tt refl) (λ _. Ends.stop _ s tt)
 
-at-last : (b : Bool) (c : Code) → T (jumpAt (sizeOf c) (instr (pick b opJumpNotTruthy opJump) unpatched 0 ∷ c))
+pub at-last : (b : Bool) (c : Code) → T (jumpAt (sizeOf c) (instr (pick b opJumpNotTruthy opJump) unpatched 0 ∷ c))
 at-last b c = go (eqb (sizeOf c) (sizeOf c)) (eqb-refl (sizeOf c)) b
   where
     go : (e : Bool) → T e → (b : Bool) → T (pick e (isJump (instr (pick b opJumpNotTruthy opJump) unpatched 0)) (jumpAt (sizeOf c) c))

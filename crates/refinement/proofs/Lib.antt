@@ -1,0 +1,4 @@
+pub mod Stores
+pub mod Tests
+pub mod Area
+pub mod Constants
