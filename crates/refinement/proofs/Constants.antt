@@ -19,7 +19,7 @@ use Rattle.definition.specs.Compiler.{State, withPool}
 use Rattle.definition.proofs.Simulation.{Both}
 use Rattle.definition.proofs.Sessions.{names-length}
 use Rattle.definition.proofs.Pools.{pool-length}
-use Rattle.scope.specs.View.{View, view}
+use Rattle.scope.specs.View.{View, view, Outline, outline}
 use Rattle.scope.specs.Machine.{addConstant, withConstant}
 use Rattle.refinement.specs.Relation.{namesEnd, poolEnd, Appended, Pooled, Stopped}
 use Rattle.refinement.proofs.Tests.{compared, on-same}
@@ -30,17 +30,18 @@ names-end : (z : Session) → ValidSession z → namesEnd z ≤ 35843
 names-end z v = omega (arith, names-length (v .names), v .count)
 
 -- the pool in the buffer begins behind its head, which follows the names
-pool-end : {z : Session} {e : Bytes} {cs : List Const} {v : View} → Pooled z e cs v → v .state .«pool_end» ≡ namesEnd z + 3 + poolSize cs
-pool-end {z} {e} {cs} {v} r =
+pool-end : {z : Session} {e : Bytes} {cs : List Const} {b : Bytes} {o : Outline} → Pooled z e cs b o → o .poolEnd ≡ namesEnd z + 3 + poolSize cs
+pool-end {z} {cs = cs} r =
     omega
     (arith, r .appended .upto, pool-length cs, ap length (r .pool), length-append (poolBytes (z .pool)) (r .appended .new), length-append (field tagNames (namesBytes (z .globals))) (field tagPool (poolBytes (z .pool))))
 
--- a constant more: its bytes behind the pool
+-- a constant's bytes behind the pool
 abbrev pub withField : Const → View → View
 withField c v = view (v .code) (sets (v .session) (v .state .«pool_end») (constBytes c)) (v .symbols) (withConstant (length (content c)) (v .state))
 
-pooled-more : {z : Session} {e : Bytes} {cs : List Const} {v : View} → ValidSession z → Pooled z e cs v → (c : Const) → poolSize (c ∷ cs) ≤ poolLimit → Pooled z e (c ∷ cs) (withField c v)
-pooled-more {z} {e} {cs} {v} valid r c h =
+pooled-more : {z : Session} {e : Bytes} {cs : List Const} {b : Bytes} {o : Outline} → ValidSession z → Pooled z e cs b o → (c : Const) → poolSize (c ∷ cs) ≤ poolLimit
+    → Pooled z e (c ∷ cs) (sets b (o .poolEnd) (constBytes c)) (record { level = o .level; constants = o .constants + 1; namesEnd = o .namesEnd; poolEnd = o .poolEnd + (3 + length (content c)) })
+pooled-more {z} {e} valid r c h =
     let new = r .appended .new in
     record {
       appended =
@@ -56,15 +57,15 @@ pooled-more {z} {e} {cs} {v} valid r c h =
       size = h;
     }
 
--- what both do where a constant is added
+-- both have the constant more
 pub record Added (z : Session) (e : Bytes) (c : Const) (s : State) (v : View) (k : ℕ) (s′ : State) (v′ : View) : Type 0 where
   pub index : k ≡ length (s .pool)
   pub state : s′ ≡ withPool (c ∷ s .pool) s
   pub memory : v′ ≡ withField c v
-  pub pooled : Pooled z e (c ∷ s .pool) v′
+  pub pooled : Pooled z e (c ∷ s .pool) (v′ .session) (outline (v′ .state))
 
 -- a constant is added, or both refuse
-pub added : {z : Session} {e : Bytes} {n : ℕ} {s : State} {v : View} → ValidSession z → Pooled z e (s .pool) v → length (v .code) ≡ n → (p : ℕ) (c : Const)
+pub added : {z : Session} {e : Bytes} {n : ℕ} {s : State} {v : View} → ValidSession z → Pooled z e (s .pool) (v .session) (outline (v .state)) → length (v .code) ≡ n → (p : ℕ) (c : Const)
     → Both (λ _. Stopped z e n) (Added z e c s v) (Structured.addConstant p c s) (addConstant p (tagOf c) (content c) v)
 unfolding Structured.addConstant addConstant
 added {z} {e} {n} {s} {v} valid r a p c =

@@ -5,16 +5,19 @@ use mathlib.Core.List.{List, [], _++_}
 use mathlib.Core.Path.{_≡_}
 use lib.ListN.{length}
 use lib.Seq.{sets}
+use lib.Dec.{T}
 use Rattle.definition.specs.Basic.{Bytes}
 use Rattle.definition.specs.Limit.{codeSize, sessionSize, poolLimit}
 use Rattle.definition.specs.Tag.{tagNames}
 use Rattle.definition.specs.Field.{field}
-use Rattle.definition.specs.Bytecode.{Const, encode, sizeOf, poolBytes, poolSize}
+use Rattle.definition.specs.Bytecode.{Code, Const, encode, sizeOf, poolBytes, poolSize}
 use Rattle.definition.specs.Session.{Session, namesBytes, sessionFields}
 use Rattle.definition.specs.Compiler.{State, withoutLast}
-use Rattle.definition.proofs.Jumps.{Pending}
-use Rattle.scope.specs.View.{Symbols, View, view}
+use Rattle.definition.specs.Valid.{All}
+use Rattle.definition.proofs.Jumps.{jumpAt}
+use Rattle.scope.specs.View.{Symbols, View, view, Outline, outline}
 use Rattle.scope.specs.Machine.{chunk}
+use Rattle.scope.specs.declared.Chunk.{Chunk}
 
 -- where the names end in a session's bytes
 abbrev pub namesEnd : Session → ℕ
@@ -30,31 +33,31 @@ startView z e c =
     view c e (record { globals = z .globals; tables = [] })
     (record { chunk = chunk 0 0 0 0; level = 0; constants = length (z .pool); «names_end» = namesEnd z; «pool_end» = poolEnd z })
 
--- the session's buffer: new bytes behind the pool, and all else as it was
-pub record Appended (z : Session) (e : Bytes) (v : View) : Type 0 where
+-- the session's buffer, and what the state has of it: new bytes behind the pool, and all else as it was
+pub record Appended (z : Session) (e b : Bytes) (o : Outline) : Type 0 where
   pub new : Bytes
-  pub session : v .session ≡ sets e (poolEnd z) new
-  pub upto : v .state .«pool_end» ≡ poolEnd z + length new
-  pub within : v .state .«pool_end» ≤ sessionSize
-  pub names : v .state .«names_end» ≡ namesEnd z
+  pub session : b ≡ sets e (poolEnd z) new
+  pub upto : o .poolEnd ≡ poolEnd z + length new
+  pub within : o .poolEnd ≤ sessionSize
+  pub names : o .namesEnd ≡ namesEnd z
 
 -- the new bytes are the pool's new constants
-pub record Pooled (z : Session) (e : Bytes) (cs : List Const) (v : View) : Type 0 where
-  pub appended : Appended z e v
+pub record Pooled (z : Session) (e : Bytes) (cs : List Const) (b : Bytes) (o : Outline) : Type 0 where
+  pub appended : Appended z e b o
   pub pool : poolBytes cs ≡ poolBytes (z .pool) ++ appended .new
-  pub constants : v .state .constants ≡ length cs
+  pub constants : o .constants ≡ length cs
   pub size : poolSize cs ≤ poolLimit
 
--- the code area: the open chunks around the chunk in work, the chunk in work, and bytes that don't matter
-pub record Coded (n : ℕ) (around : Bytes) (s : State) (v : View) : Type 0 where
+-- the code area, and the chunk in work: the `a` bytes of the open chunks around it, its code, and bytes that don't matter
+pub record Coded (n : ℕ) (around : Bytes) (a : ℕ) (c : Code) (b : Bytes) (k : Chunk) : Type 0 where
   pub rest : Bytes
-  pub bytes : v .code ≡ around ++ (encode (s .code) ++ rest)
-  pub area : length (v .code) ≡ n
-  pub before : length around ≡ s .around
-  pub start : v .state .chunk .start ≡ s .around
-  pub len : v .state .chunk .len ≡ sizeOf (s .code)
-  pub last : v .state .chunk .last ≡ sizeOf (withoutLast (s .code))
-  pub room : s .around + sizeOf (s .code) ≤ codeSize
+  pub bytes : b ≡ around ++ (encode c ++ rest)
+  pub area : length b ≡ n
+  pub before : length around ≡ a
+  pub start : k .start ≡ a
+  pub len : k .len ≡ sizeOf c
+  pub last : k .last ≡ sizeOf (withoutLast c)
+  pub room : a + sizeOf c ≤ codeSize
 
 -- what a chunk is compiled in: its jumps not yet patched, the bytes of the open chunks around it, the number of open functions
 pub record Context : Type 0 where
@@ -67,12 +70,12 @@ outermost = record { jumps = []; around = []; depth = 0 }
 
 -- a view stands for a state
 pub record Refines (z : Session) (e : Bytes) (n : ℕ) (w : Context) (s : State) (v : View) : Type 0 where
-  pub code : Coded n (w .around) s v
-  pub pool : Pooled z e (s .pool) v
+  pub code : Coded n (w .around) (s .around) (s .code) (v .code) (v .state .chunk)
+  pub pool : Pooled z e (s .pool) (v .session) (outline (v .state))
   pub symbols : v .symbols ≡ record { globals = s .globals; tables = s .tables }
   pub level : v .state .level ≡ w .depth
   pub depth : length (s .tables) ≡ w .depth
-  pub pending : Pending (w .jumps) s
+  pub pending : All (λ j. T (jumpAt j (s .code))) (w .jumps)
 
 -- and its last instruction may be dropped: the position of the one before it is right too
 pub record Droppable (z : Session) (e : Bytes) (n : ℕ) (w : Context) (s : State) (v : View) : Type 0 where
@@ -81,5 +84,5 @@ pub record Droppable (z : Session) (e : Bytes) (n : ℕ) (w : Context) (s : Stat
 
 -- what a refusal leaves
 pub record Stopped (z : Session) (e : Bytes) (n : ℕ) (v : View) : Type 0 where
-  pub appended : Appended z e v
+  pub appended : Appended z e (v .session) (outline (v .state))
   pub area : length (v .code) ≡ n

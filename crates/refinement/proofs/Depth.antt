@@ -1,0 +1,61 @@
+-- Lookups and definitions keep the number of tables.
+use Prim.Native.Nat.{ℕ, suc}
+use mathlib.Core.Bool.{Bool, true, false}
+use mathlib.Core.List.{List, [], _∷_}
+use mathlib.Core.Option.{Option, none, some}
+use mathlib.Core.Path.{_≡_, refl, ap}
+use lib.ListN.{length}
+use lib.Dec.{leb}
+use Rattle.definition.specs.Basic.{Bytes, pick}
+use Rattle.definition.specs.Limit.{globalsLimit, localsLimit, freeLimit}
+use Rattle.definition.specs.Opcode.{Instr}
+use Rattle.definition.specs.SymbolTable.{Symbol, Table, Resolved, Defined, findGlobal, findBuiltin, find, outermost, withFree, capture, cross, orOuter, resolve, place}
+
+-- the tables after a lookup
+pub data Looked (k : ℕ) : Resolved → Type 0 where
+  found : {y : Symbol} {ts : List Table} → length ts ≡ k → Looked k (Resolved.found y ts)
+  undefined : Looked k Resolved.undefined
+  full : Looked k Resolved.full
+
+looked-pick : {k : ℕ} {x y : Resolved} (b : Bool) → Looked k x → Looked k y → Looked k (pick b x y)
+looked-pick true h h′ = h
+looked-pick false h h′ = h′
+
+outermost-looked : (g b : Option ℕ) → Looked 0 (outermost g b)
+outermost-looked (some k) b = Looked.found refl
+outermost-looked none (some k) = Looked.found refl
+outermost-looked none none = Looked.undefined
+
+capture-looked : {k : ℕ} (n : Bytes) (y : Symbol) (t : Table) (ts : List Table) → length ts ≡ k → Looked (suc k) (capture n y t ts)
+capture-looked n y t ts e = looked-pick (leb freeLimit (length (t .originals))) Looked.full (Looked.found (ap suc e))
+
+cross-looked : {k : ℕ} (n : Bytes) (t : Table) {x : Resolved} → Looked k x → Looked (suc k) (cross n t x)
+cross-looked n t (Looked.found {y = Symbol.global k} e) = Looked.found (ap suc e)
+cross-looked n t (Looked.found {y = Symbol.builtin k} e) = Looked.found (ap suc e)
+cross-looked n t (Looked.found {y = Symbol.function} e) = Looked.found (ap suc e)
+cross-looked n t (Looked.found {y = Symbol.local k} {ts = ts} e) = capture-looked n (Symbol.local k) t ts e
+cross-looked n t (Looked.found {y = Symbol.free k} {ts = ts} e) = capture-looked n (Symbol.free k) t ts e
+cross-looked n t Looked.undefined = Looked.undefined
+cross-looked n t Looked.full = Looked.full
+
+outer-looked : (n : Bytes) (t : Table) (ts : List Table) (y : Option Symbol) {x : Resolved} → Looked (length ts) x → Looked (suc (length ts)) (orOuter n t ts y x)
+outer-looked n t ts (some y) h = Looked.found refl
+outer-looked n t ts none h = cross-looked n t h
+
+pub resolve-depth : (bs gs : List Bytes) (n : Bytes) (ts : List Table) → Looked (length ts) (resolve bs gs n ts)
+unfolding resolve
+resolve-depth bs gs n [] = outermost-looked (findGlobal n gs) (findBuiltin n bs 0)
+resolve-depth bs gs n (t ∷ ts) = outer-looked n t ts (find n (t .entries)) (resolve-depth bs gs n ts)
+
+-- the tables after a definition
+pub data Placed (k : ℕ) : Defined → Type 0 where
+  defined : (i : Instr) (gs : List Bytes) (ts : List Table) → length ts ≡ k → Placed k (Defined.defined i gs ts)
+  noRoom : (m : ℕ) → Placed k (Defined.noRoom m)
+
+placed-pick : {k : ℕ} {x y : Defined} (b : Bool) → Placed k x → Placed k y → Placed k (pick b x y)
+placed-pick true h h′ = h
+placed-pick false h h′ = h′
+
+pub place-depth : (n : Bytes) (gs : List Bytes) (ts : List Table) → Placed (length ts) (place n gs ts)
+place-depth n gs [] = placed-pick (leb globalsLimit (length gs)) (Placed.noRoom _) (Placed.defined _ _ _ refl)
+place-depth n gs (t ∷ ts) = placed-pick (leb localsLimit (t .definitions)) (Placed.noRoom _) (Placed.defined _ _ _ refl)
