@@ -75,13 +75,16 @@ less (i ∷ is) e = record { keep = λ j h. go j (eqb (sizeOf is) j) h }
     go j true h = absurd (subst (λ o. T (pick (eqb o opJumpNotTruthy) true (eqb o opJump))) (eqb-true (i .op) 2 e) h)
     go j false h = h
 
-pub jumpAt-changeOperand : (j p t : ℕ) (c : Code) → jumpAt j (changeOperand p t c) ≡ jumpAt j c
+jumpAt-changeOperand : (j p t : ℕ) (c : Code) → jumpAt j (changeOperand p t c) ≡ jumpAt j c
 jumpAt-changeOperand j p t [] = refl
 jumpAt-changeOperand j p t (i ∷ is) = go (jumpAt-changeOperand j p t is) (eqb (sizeOf is) p)
   where
     go : jumpAt j (changeOperand p t is) ≡ jumpAt j is → (b : Bool) → jumpAt j (pick b (instr (i .op) t (i .b) ∷ is) (i ∷ changeOperand p t is)) ≡ jumpAt j (i ∷ is)
     go e true = refl
     go e false = λ k. pick (eqb (sizeOf-changeOperand p t is k) j) (isJump i) (e k)
+
+pub changed : (p t : ℕ) (c : Code) → Keeps c (changeOperand p t c)
+changed p t c = record { keep = λ j h. subst T (sym (jumpAt-changeOperand j p t c)) h }
 
 -- each step keeps them
 abbrev Grows : {A : Type 0} → Code → Res State A → Type 0
@@ -169,7 +172,7 @@ unfolding patch
 landed j w {s} {t} e h r =
     record {
       same = go (jumpAt j (s .code)) h ∙ (λ i. strict .patch j (e i));
-      holds = pending w s (patch j s) (record { keep = λ k q. subst T (sym (jumpAt-changeOperand k j _ (s .code))) q }) r;
+      holds = pending w s (patch j s) (changed j (sizeOf (s .code)) (s .code)) r;
     }
   where
     go : (b : Bool) → T b → patch j s ≡ pick b (patch j s) s

@@ -62,7 +62,7 @@ pub record Added (z : Session) (e : Bytes) (c : Const) (s : State) (v : View) (k
   pub index : k ≡ length (s .pool)
   pub state : s′ ≡ withPool (c ∷ s .pool) s
   pub memory : v′ ≡ withField c v
-  pub pooled : Pooled z e (c ∷ s .pool) (v′ .session) (outline (v′ .state))
+  pub pooled : Pooled z e (c ∷ s .pool) (withField c v .session) (outline (withField c v .state))
 
 -- a constant is added, or both refuse
 pub added : {z : Session} {e : Bytes} {n : ℕ} {s : State} {v : View} → ValidSession z → Pooled z e (s .pool) (v .session) (outline (v .state)) → length (v .code) ≡ n → (p : ℕ) (c : Const)

@@ -4,3 +4,4 @@ pub mod Area
 pub mod Operands
 pub mod Constants
 pub mod Depth
+pub mod Steps

@@ -1,7 +1,7 @@
 -- How a view of the lent memory stands for a state of the definition, in a call on session `z`, whose buffer was `e` at the start, with a code
 -- area of `n` bytes.
-use Prim.Native.Nat.{ℕ, _+_, _≤_}
-use mathlib.Core.List.{List, [], _++_}
+use Prim.Native.Nat.{ℕ, suc, _+_, _≤_}
+use mathlib.Core.List.{List, [], _∷_, _++_}
 use mathlib.Core.Path.{_≡_}
 use lib.ListN.{length}
 use lib.Seq.{sets}
@@ -67,6 +67,14 @@ pub record Context : Type 0 where
 
 abbrev pub outermost : Context
 outermost = record { jumps = []; around = []; depth = 0 }
+
+-- with a jump not yet patched
+abbrev pub jumped : Context → ℕ → Context
+jumped w j = record { jumps = j ∷ w .jumps; around = w .around; depth = w .depth }
+
+-- of a chunk behind the chunk of this code
+abbrev pub inside : Context → Code → Context
+inside w c = record { jumps = []; around = w .around ++ encode c; depth = suc (w .depth) }
 
 -- a view stands for a state
 pub record Refines (z : Session) (e : Bytes) (n : ℕ) (w : Context) (s : State) (v : View) : Type 0 where
