@@ -19,9 +19,9 @@ use Rattle.definition.specs.Compiler.{State, withPool}
 use Rattle.definition.proofs.Simulation.{Both}
 use Rattle.definition.proofs.Sessions.{names-length}
 use Rattle.definition.proofs.Pools.{pool-length}
-use Rattle.scope.specs.View.{View, view, Outline, outline}
+use Rattle.scope.specs.View.{View, view}
 use Rattle.scope.specs.Machine.{addConstant, withConstant}
-use Rattle.refinement.specs.Relation.{namesEnd, poolEnd, Appended, Pooled, Stopped}
+use Rattle.refinement.specs.Relation.{namesEnd, poolEnd, Marks, marks, Appended, Pooled, Stopped}
 use Rattle.refinement.proofs.Tests.{compared, on-same}
 use Rattle.refinement.proofs.Stores.{sets-append}
 
@@ -30,7 +30,7 @@ names-end : (z : Session) → ValidSession z → namesEnd z ≤ 35843
 names-end z v = omega (arith, names-length (v .names), v .count)
 
 -- the pool in the buffer begins behind its head, which follows the names
-pool-end : {z : Session} {e : Bytes} {cs : List Const} {b : Bytes} {o : Outline} → Pooled z e cs b o → o .poolEnd ≡ namesEnd z + 3 + poolSize cs
+pool-end : {z : Session} {e : Bytes} {cs : List Const} {b : Bytes} {m : Marks} → Pooled z e cs b m → m .poolEnd ≡ namesEnd z + 3 + poolSize cs
 pool-end {z} {cs = cs} r =
     omega
     (arith, r .appended .upto, pool-length cs, ap length (r .pool), length-append (poolBytes (z .pool)) (r .appended .new), length-append (field tagNames (namesBytes (z .globals))) (field tagPool (poolBytes (z .pool))))
@@ -39,8 +39,8 @@ pool-end {z} {cs = cs} r =
 abbrev pub withField : Const → View → View
 withField c v = view (v .code) (sets (v .session) (v .state .«pool_end») (constBytes c)) (v .symbols) (withConstant (length (content c)) (v .state))
 
-pooled-more : {z : Session} {e : Bytes} {cs : List Const} {b : Bytes} {o : Outline} → ValidSession z → Pooled z e cs b o → (c : Const) → poolSize (c ∷ cs) ≤ poolLimit
-    → Pooled z e (c ∷ cs) (sets b (o .poolEnd) (constBytes c)) (record { level = o .level; constants = o .constants + 1; namesEnd = o .namesEnd; poolEnd = o .poolEnd + (3 + length (content c)) })
+pooled-more : {z : Session} {e : Bytes} {cs : List Const} {b : Bytes} {m : Marks} → ValidSession z → Pooled z e cs b m → (c : Const) → poolSize (c ∷ cs) ≤ poolLimit
+    → Pooled z e (c ∷ cs) (sets b (m .poolEnd) (constBytes c)) (record { constants = m .constants + 1; namesEnd = m .namesEnd; poolEnd = m .poolEnd + (3 + length (content c)) })
 pooled-more {z} {e} valid r c h =
     let new = r .appended .new in
     record {
@@ -62,10 +62,10 @@ pub record Added (z : Session) (e : Bytes) (c : Const) (s : State) (v : View) (k
   pub index : k ≡ length (s .pool)
   pub state : s′ ≡ withPool (c ∷ s .pool) s
   pub memory : v′ ≡ withField c v
-  pub pooled : Pooled z e (c ∷ s .pool) (withField c v .session) (outline (withField c v .state))
+  pub pooled : Pooled z e (c ∷ s .pool) (withField c v .session) (marks (withField c v .state))
 
 -- a constant is added, or both refuse
-pub added : {z : Session} {e : Bytes} {n : ℕ} {s : State} {v : View} → ValidSession z → Pooled z e (s .pool) (v .session) (outline (v .state)) → length (v .code) ≡ n → (p : ℕ) (c : Const)
+pub added : {z : Session} {e : Bytes} {n : ℕ} {s : State} {v : View} → ValidSession z → Pooled z e (s .pool) (v .session) (marks (v .state)) → length (v .code) ≡ n → (p : ℕ) (c : Const)
     → Both (λ _. Stopped z e n) (Added z e c s v) (Structured.addConstant p c s) (addConstant p (tagOf c) (content c) v)
 unfolding Structured.addConstant addConstant
 added {z} {e} {n} {s} {v} valid r a p c =

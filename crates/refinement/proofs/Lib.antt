@@ -5,3 +5,6 @@ pub mod Operands
 pub mod Constants
 pub mod Depth
 pub mod Steps
+pub mod Loads
+pub mod Functions
+pub mod Closing

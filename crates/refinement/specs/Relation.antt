@@ -15,9 +15,10 @@ use Rattle.definition.specs.Session.{Session, namesBytes, sessionFields}
 use Rattle.definition.specs.Compiler.{State, withoutLast}
 use Rattle.definition.specs.Valid.{All}
 use Rattle.definition.proofs.Jumps.{jumpAt}
-use Rattle.scope.specs.View.{Symbols, View, view, Outline, outline}
+use Rattle.scope.specs.View.{Symbols, View, view}
 use Rattle.scope.specs.Machine.{chunk}
 use Rattle.scope.specs.declared.Chunk.{Chunk}
+use Rattle.scope.specs.declared.State as Memory
 
 -- where the names end in a session's bytes
 abbrev pub namesEnd : Session → ℕ
@@ -33,19 +34,28 @@ startView z e c =
     view c e (record { globals = z .globals; tables = [] })
     (record { chunk = chunk 0 0 0 0; level = 0; constants = length (z .pool); «names_end» = namesEnd z; «pool_end» = poolEnd z })
 
+-- what the compiler's state has of the session's buffer: the number of constants, and where names and constants end
+pub record Marks : Type 0 where
+  pub constants : ℕ
+  pub namesEnd : ℕ
+  pub poolEnd : ℕ
+
+abbrev pub marks : Memory.State → Marks
+marks s = record { constants = s .constants; namesEnd = s .«names_end»; poolEnd = s .«pool_end» }
+
 -- the session's buffer, and what the state has of it: new bytes behind the pool, and all else as it was
-pub record Appended (z : Session) (e b : Bytes) (o : Outline) : Type 0 where
+pub record Appended (z : Session) (e b : Bytes) (m : Marks) : Type 0 where
   pub new : Bytes
   pub session : b ≡ sets e (poolEnd z) new
-  pub upto : o .poolEnd ≡ poolEnd z + length new
-  pub within : o .poolEnd ≤ sessionSize
-  pub names : o .namesEnd ≡ namesEnd z
+  pub upto : m .poolEnd ≡ poolEnd z + length new
+  pub within : m .poolEnd ≤ sessionSize
+  pub names : m .namesEnd ≡ namesEnd z
 
 -- the new bytes are the pool's new constants
-pub record Pooled (z : Session) (e : Bytes) (cs : List Const) (b : Bytes) (o : Outline) : Type 0 where
-  pub appended : Appended z e b o
+pub record Pooled (z : Session) (e : Bytes) (cs : List Const) (b : Bytes) (m : Marks) : Type 0 where
+  pub appended : Appended z e b m
   pub pool : poolBytes cs ≡ poolBytes (z .pool) ++ appended .new
-  pub constants : o .constants ≡ length cs
+  pub constants : m .constants ≡ length cs
   pub size : poolSize cs ≤ poolLimit
 
 -- the code area, and the chunk in work: the `a` bytes of the open chunks around it, its code, and bytes that don't matter
@@ -79,7 +89,7 @@ inside w c = record { jumps = []; around = w .around ++ encode c; depth = suc (w
 -- a view stands for a state
 pub record Refines (z : Session) (e : Bytes) (n : ℕ) (w : Context) (s : State) (v : View) : Type 0 where
   pub code : Coded n (w .around) (s .around) (s .code) (v .code) (v .state .chunk)
-  pub pool : Pooled z e (s .pool) (v .session) (outline (v .state))
+  pub pool : Pooled z e (s .pool) (v .session) (marks (v .state))
   pub symbols : v .symbols ≡ record { globals = s .globals; tables = s .tables }
   pub level : v .state .level ≡ w .depth
   pub depth : length (s .tables) ≡ w .depth
@@ -92,5 +102,5 @@ pub record Droppable (z : Session) (e : Bytes) (n : ℕ) (w : Context) (s : Stat
 
 -- what a refusal leaves
 pub record Stopped (z : Session) (e : Bytes) (n : ℕ) (v : View) : Type 0 where
-  pub appended : Appended z e (v .session) (outline (v .state))
+  pub appended : Appended z e (v .session) (marks (v .state))
   pub area : length (v .code) ≡ n
