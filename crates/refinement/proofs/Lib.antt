@@ -8,3 +8,4 @@ pub mod Steps
 pub mod Loads
 pub mod Functions
 pub mod Closing
+pub mod Walk

@@ -3,18 +3,22 @@
 use Prim.Native.Nat.{ℕ, suc, _+_, _≤_}
 use mathlib.Core.List.{List, [], _∷_, _++_}
 use mathlib.Core.Path.{_≡_}
-use lib.ListN.{length}
+use lib.ListN.{length, take}
 use lib.Seq.{sets}
 use lib.Dec.{T}
 use Rattle.definition.specs.Basic.{Bytes}
 use Rattle.definition.specs.Limit.{codeSize, sessionSize, poolLimit}
+use Rattle.definition.specs.Number.{walkNumber}
 use Rattle.definition.specs.Tag.{tagNames}
 use Rattle.definition.specs.Field.{field}
 use Rattle.definition.specs.Bytecode.{Code, Const, encode, sizeOf, poolBytes, poolSize}
 use Rattle.definition.specs.Session.{Session, namesBytes, sessionFields}
+use Rattle.definition.specs.Walk.{Res, on, stop}
+use Rattle.definition.specs.declared.Refusal.{Refusal}
 use Rattle.definition.specs.Compiler.{State, withoutLast}
 use Rattle.definition.specs.Valid.{All}
 use Rattle.definition.proofs.Jumps.{jumpAt}
+use Rattle.definition.proofs.Limits.{ValidState}
 use Rattle.scope.specs.View.{Symbols, View, view}
 use Rattle.scope.specs.Machine.{chunk}
 use Rattle.scope.specs.declared.Chunk.{Chunk}
@@ -104,3 +108,18 @@ pub record Droppable (z : Session) (e : Bytes) (n : ℕ) (w : Context) (s : Stat
 pub record Stopped (z : Session) (e : Bytes) (n : ℕ) (v : View) : Type 0 where
   pub appended : Appended z e (v .session) (marks (v .state))
   pub area : length (v .code) ≡ n
+
+-- what a walk that goes through leaves: the main code at the start of the code area, the symbols, the new constants behind the pool
+pub record Compiled (z : Session) (e : Bytes) (n : ℕ) (s : State) (v : View) : Type 0 where
+  pub start : v .state .chunk .start ≡ 0
+  pub len : v .state .chunk .len ≡ sizeOf (s .code)
+  pub code : take (sizeOf (s .code)) (v .code) ≡ encode (s .code)
+  pub area : length (v .code) ≡ n
+  pub symbols : v .symbols ≡ record { globals = s .globals; tables = s .tables }
+  pub pool : Pooled z e (s .pool) (v .session) (marks (v .state))
+  pub valid : ValidState s
+
+-- how the walk of the definition and the walk on memory end: both go through, or both stop with one refusal of the walk
+pub data WalkEnds (z : Session) (e : Bytes) (n : ℕ) (x : Res State (Unit {0})) (y : Res View (Unit {0})) : Type 0 where
+  through : (s : State) (v : View) → x ≡ on tt s → y ≡ on tt v → Compiled z e n s v → WalkEnds z e n x y
+  stopped : (r : Refusal) (s : State) (v : View) → x ≡ stop r s → y ≡ stop r v → T (walkNumber (r .number)) → Stopped z e n v → WalkEnds z e n x y
