@@ -62,6 +62,7 @@ module _ {z : Session} {e : Bytes} {n : ℕ} {w : Context} {s : State} {v : View
         code = outside-coded (r .code) (r₁ .code);
         pool = h;
         symbols = λ i. record { globals = r₁ .symbols i .globals; tables = ts };
+        globals = r₁ .globals;
         level = r .level;
         depth = l;
         pending = r .pending;

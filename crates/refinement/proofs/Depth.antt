@@ -1,15 +1,16 @@
--- Lookups and definitions keep the number of tables.
+-- Lookups and definitions keep the number of tables, and definitions extend the globals.
 use Prim.Native.Nat.{ℕ, suc}
 use mathlib.Core.Bool.{Bool, true, false}
-use mathlib.Core.List.{List, [], _∷_}
+use mathlib.Core.List.{List, [], _∷_, _++_, append-assoc}
 use mathlib.Core.Option.{Option, none, some}
-use mathlib.Core.Path.{_≡_, refl, ap}
+use mathlib.Core.Path.{_≡_, refl, sym, ap, _∙_}
 use lib.ListN.{length}
 use lib.Dec.{leb}
 use Rattle.definition.specs.Basic.{Bytes, pick}
 use Rattle.definition.specs.Limit.{globalsLimit, localsLimit, freeLimit}
 use Rattle.definition.specs.Opcode.{Instr}
-use Rattle.definition.specs.SymbolTable.{Symbol, Table, Resolved, Defined, findGlobal, findBuiltin, find, outermost, withFree, capture, cross, orOuter, resolve, place}
+use Rattle.definition.specs.SymbolTable.{Symbol, Table, Resolved, Defined, findGlobal, findBuiltin, find, outermost, capture, cross, orOuter, resolve, place}
+use Rattle.refinement.specs.Relation.{Extends}
 
 -- the tables after a lookup
 pub data Looked (k : ℕ) : Resolved → Type 0 where
@@ -47,15 +48,19 @@ unfolding resolve
 resolve-depth bs gs n [] = outermost-looked (findGlobal n gs) (findBuiltin n bs 0)
 resolve-depth bs gs n (t ∷ ts) = outer-looked n t ts (find n (t .entries)) (resolve-depth bs gs n ts)
 
--- the tables after a definition
-pub data Placed (k : ℕ) : Defined → Type 0 where
-  defined : (i : Instr) (gs : List Bytes) (ts : List Table) → length ts ≡ k → Placed k (Defined.defined i gs ts)
-  noRoom : (m : ℕ) → Placed k (Defined.noRoom m)
+-- the globals and the tables after a definition
+pub data Placed (k : ℕ) (gs : List Bytes) : Defined → Type 0 where
+  defined : (i : Instr) {gs′ : List Bytes} {ts : List Table} → Extends gs gs′ → length ts ≡ k → Placed k gs (Defined.defined i gs′ ts)
+  noRoom : (m : ℕ) → Placed k gs (Defined.noRoom m)
 
-placed-pick : {k : ℕ} {x y : Defined} (b : Bool) → Placed k x → Placed k y → Placed k (pick b x y)
+placed-pick : {k : ℕ} {gs : List Bytes} {x y : Defined} (b : Bool) → Placed k gs x → Placed k gs y → Placed k gs (pick b x y)
 placed-pick true h h′ = h
 placed-pick false h h′ = h′
 
-pub place-depth : (n : Bytes) (gs : List Bytes) (ts : List Table) → Placed (length ts) (place n gs ts)
-place-depth n gs [] = placed-pick (leb globalsLimit (length gs)) (Placed.noRoom _) (Placed.defined _ _ _ refl)
-place-depth n gs (t ∷ ts) = placed-pick (leb localsLimit (t .definitions)) (Placed.noRoom _) (Placed.defined _ _ _ refl)
+pub place-depth : (n : Bytes) (gs : List Bytes) (ts : List Table) → Placed (length ts) gs (place n gs ts)
+place-depth n gs [] = placed-pick (leb globalsLimit (length gs)) (Placed.noRoom _) (Placed.defined _ (record { more = n ∷ []; same = refl }) refl)
+place-depth n gs (t ∷ ts) = placed-pick (leb localsLimit (t .definitions)) (Placed.noRoom _) (Placed.defined _ (record { more = []; same = refl }) refl)
+
+-- an extension of an extension
+pub extends-more : {A : Type 0} {xs ys zs : List A} → Extends xs ys → Extends ys zs → Extends xs zs
+extends-more {xs = xs} f g = record { more = g .more ++ f .more; same = g .same ∙ ap (λ l. g .more ++ l) (f .same) ∙ sym (append-assoc (g .more) (f .more) xs) }

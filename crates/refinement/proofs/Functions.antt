@@ -52,6 +52,7 @@ module _ {z : Session} {e : Bytes} {n : ℕ} where
                 code = inside-coded (r .code);
                 pool = r .pool;
                 symbols = λ i. record { globals = r .symbols i .globals; tables = withParams xs (named x) ∷ r .symbols i .tables };
+                globals = r .globals;
                 level = omega (arith, r .level);
                 depth = ap suc (r .depth);
                 pending = All.none;
@@ -73,6 +74,7 @@ module _ {z : Session} {e : Bytes} {n : ℕ} where
           code = return-coded (r .code) t;
           pool = r .pool;
           symbols = r .symbols;
+          globals = r .globals;
           level = r .level;
           depth = r .depth;
           pending = still (Jumps.then (Jumps.less (s .code) t) (Jumps.more (plain opReturnValue) (withoutLast (s .code)))) (r .pending);

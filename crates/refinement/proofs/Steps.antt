@@ -28,7 +28,7 @@ use Rattle.refinement.proofs.Tests.{forked, compared, on-same}
 use Rattle.refinement.proofs.Area.{put-coded, last-is, drop-coded, return-coded}
 use Rattle.refinement.proofs.Operands.{patch-fits, patch-coded, prev-changed}
 use Rattle.refinement.proofs.Constants.{Added, added, withField}
-use Rattle.refinement.proofs.Depth.{Looked, resolve-depth, Placed, place-depth}
+use Rattle.refinement.proofs.Depth.{Looked, resolve-depth, Placed, place-depth, extends-more}
 
 -- jumps that code keeps are still there
 pub still : {c d : Code} {js : List ℕ} → Keeps c d → All (λ j. T (jumpAt j c)) js → All (λ j. T (jumpAt j d)) js
@@ -59,6 +59,7 @@ module _ {z : Session} {e : Bytes} {n : ℕ} where
                 code = put-coded (r .code) wide i h;
                 pool = r .pool;
                 symbols = r .symbols;
+                globals = r .globals;
                 level = r .level;
                 depth = r .depth;
                 pending = still (Jumps.more i (s .code)) (r .pending);
@@ -79,7 +80,7 @@ module _ {z : Session} {e : Bytes} {n : ℕ} where
     -- a constant, then its instruction
     constant-refines : {w : Context} {c : Const} {s : State} {v : View} {k : ℕ} {s′ : State} {v′ : View} → Refines z e n w s v → Added z e c s v k s′ v′ → Refines z e n w s′ v′
     constant-refines {w} r h =
-        subst₂ (Refines z e n w) (sym (h .state)) (sym (h .memory)) (record { code = r .code; pool = h .pooled; symbols = r .symbols; level = r .level; depth = r .depth; pending = r .pending })
+        subst₂ (Refines z e n w) (sym (h .state)) (sym (h .memory)) (record { code = r .code; pool = h .pooled; symbols = r .symbols; globals = r .globals; level = r .level; depth = r .depth; pending = r .pending })
 
     pub constant : {w : Context} {s : State} {v : View} → ValidSession z → Refines z e n w s v → (p : ℕ) (c : Const) → Like z e n w (Structured.literal p c s) (Machine.literal p (tagOf c) (content c) v)
     constant valid r p c = both-bind (added valid (r .pool) (r .code .area) p c) (λ k _ _ h. emitted (constant-refines r h) p (instr opConstant k 0))
@@ -88,7 +89,7 @@ module _ {z : Session} {e : Bytes} {n : ℕ} where
     loaded-refines : {w : Context} {s : State} {v : View} → Refines z e n w s v → (p : ℕ) {f : Resolved} → Looked (length (s .tables)) f → Like z e n w (Structured.loaded p s f) (Machine.loaded p v f)
     loaded-refines {w} {s} {v} r p (Looked.found {y = y} {ts = ts} l) =
         let r₁ : Refines z e n w (withTables ts s) (Machine.withTables ts v) =
-        record { code = r .code; pool = r .pool; symbols = λ i. record { globals = r .symbols i .globals; tables = ts }; level = r .level; depth = l ∙ r .depth; pending = r .pending }
+        record { code = r .code; pool = r .pool; symbols = λ i. record { globals = r .symbols i .globals; tables = ts }; globals = r .globals; level = r .level; depth = l ∙ r .depth; pending = r .pending }
         in
         emitted r₁ p (loadOf y)
     loaded-refines r p Looked.undefined = Both.stop _ tt (halted r)
@@ -110,13 +111,13 @@ module _ {z : Session} {e : Bytes} {n : ℕ} where
         let r₁ = d .refines in
         let there = subst (λ c. T (jumpAt (sizeOf (s .code)) c)) (sym (h .code)) (at-last b (s .code)) in
         on-same (r .code .len)
-        (record { refines = record { code = r₁ .code; pool = r₁ .pool; symbols = r₁ .symbols; level = r₁ .level; depth = r₁ .depth; pending = All.more there (r₁ .pending) }; prev = d .prev }))
+        (record { refines = record { code = r₁ .code; pool = r₁ .pool; symbols = r₁ .symbols; globals = r₁ .globals; level = r₁ .level; depth = r₁ .depth; pending = All.more there (r₁ .pending) }; prev = d .prev }))
 
   -- a definition
-  placed-refines : {w : Context} {s : State} {v : View} → Refines z e n w s v → (p : ℕ) {d : Defined} → Placed (length (s .tables)) d → DefinedValid d
+  placed-refines : {w : Context} {s : State} {v : View} → Refines z e n w s v → (p : ℕ) {d : Defined} → Placed (length (s .tables)) (s .globals) d → DefinedValid d
       → Both (λ _. Stopped z e n) (λ i s v. ValidInstr i × Refines z e n w s v) (Structured.placed p s d) (Machine.placed p v d)
-  placed-refines r p (Placed.defined i gs ts l) valid =
-      Both.on i (valid, record { code = r .code; pool = r .pool; symbols = refl; level = r .level; depth = l ∙ r .depth; pending = r .pending })
+  placed-refines r p (Placed.defined i g l) valid =
+      Both.on i (valid, record { code = r .code; pool = r .pool; symbols = refl; globals = extends-more (r .globals) g; level = r .level; depth = l ∙ r .depth; pending = r .pending })
   placed-refines r p (Placed.noRoom k) valid = Both.stop _ valid (halted r)
 
   pub define-refines : {w : Context} {s : State} {v : View} → Refines z e n w s v → (p : ℕ) (x : Bytes)
@@ -136,6 +137,7 @@ module _ {z : Session} {e : Bytes} {n : ℕ} where
         code = patch-coded (r .code) j h;
         pool = r .pool;
         symbols = r .symbols;
+        globals = r .globals;
         level = r .level;
         depth = r .depth;
         pending = still (Jumps.changed j (sizeOf (s .code)) (s .code)) (r .pending);
@@ -152,5 +154,5 @@ module _ {z : Session} {e : Bytes} {n : ℕ} where
   drop-refines {w} {s} {v} d =
       let r = d .refines in
       forked (Refines z e n w) (Structured.lastIs opPop (s .code)) (lastIs opPop (v .code) (v .state .chunk)) (last-is (r .code) opPop)
-      (λ t. record { code = drop-coded (r .code) (d .prev); pool = r .pool; symbols = r .symbols; level = r .level; depth = r .depth; pending = still (Jumps.less (s .code) t) (r .pending) })
+      (λ t. record { code = drop-coded (r .code) (d .prev); pool = r .pool; symbols = r .symbols; globals = r .globals; level = r .level; depth = r .depth; pending = still (Jumps.less (s .code) t) (r .pending) })
       (λ _. r)

@@ -31,7 +31,7 @@ use Rattle.refinement.proofs.Closing.{leave-refines}
 
 -- the jump that waits first, patched
 patched : {z : Session} {e : Bytes} {n : ℕ} {w : Context} {s : State} {v : View} (j : ℕ) → Refines z e n (jumped w j) s v → Refines z e n w (Structured.patch j s) (Machine.patch j v)
-patched j r = patch-refines j (all-first (r .pending)) (record { code = r .code; pool = r .pool; symbols = r .symbols; level = r .level; depth = r .depth; pending = all-rest (r .pending) })
+patched j r = patch-refines j (all-first (r .pending)) (record { code = r .code; pool = r .pool; symbols = r .symbols; globals = r .globals; level = r .level; depth = r .depth; pending = all-rest (r .pending) })
 
 -- the one behind it
 patched-under : {z : Session} {e : Bytes} {n : ℕ} {w : Context} {s : State} {v : View} (j k : ℕ) → Droppable z e n (jumped (jumped w j) k) s v → Droppable z e n (jumped w k) (Structured.patch j s) (Machine.patch j v)
@@ -39,7 +39,7 @@ patched-under j k d =
     let r = d .refines in
     let js = all-rest (r .pending) in
     patch-droppable j (all-first js)
-    (record { refines = record { code = r .code; pool = r .pool; symbols = r .symbols; level = r .level; depth = r .depth; pending = All.more (all-first (r .pending)) (all-rest js) }; prev = d .prev })
+    (record { refines = record { code = r .code; pool = r .pool; symbols = r .symbols; globals = r .globals; level = r .level; depth = r .depth; pending = All.more (all-first (r .pending)) (all-rest js) }; prev = d .prev })
 
 -- each step on views does what the definition's does
 pub refinement : (z : Session) → ValidSession z → (e : Bytes) (n : ℕ) → codeSize ≤ n → Simulation Structured.machine Machine.machine asIs (Refines z e n) (Droppable z e n) (λ _. Stopped z e n)
@@ -78,6 +78,7 @@ started z valid e c =
                   size = valid .pool .size;
                 };
             symbols = refl;
+            globals = record { more = []; same = refl };
             level = refl;
             depth = refl;
             pending = All.none;
@@ -102,6 +103,7 @@ compiled {s = s} {v} r valid =
       code = ap (take (sizeOf (s .code))) (r .code .bytes) ∙ take-at (encode (s .code)) (r .code .rest) (sizeOf (s .code)) (code-length (s .code));
       area = r .code .area;
       symbols = r .symbols;
+      globals = r .globals;
       pool = r .pool;
       valid = valid;
     }

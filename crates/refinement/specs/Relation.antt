@@ -62,6 +62,11 @@ pub record Pooled (z : Session) (e : Bytes) (cs : List Const) (b : Bytes) (m : M
   pub constants : m .constants ≡ length cs
   pub size : poolSize cs ≤ poolLimit
 
+-- a list with items in front of an older one
+pub record Extends {A : Type 0} (xs ys : List A) : Type 0 where
+  pub more : List A
+  pub same : ys ≡ more ++ xs
+
 -- the code area, and the chunk in work: the `a` bytes of the open chunks around it, its code, and bytes that don't matter
 pub record Coded (n : ℕ) (around : Bytes) (a : ℕ) (c : Code) (b : Bytes) (k : Chunk) : Type 0 where
   pub rest : Bytes
@@ -95,6 +100,7 @@ pub record Refines (z : Session) (e : Bytes) (n : ℕ) (w : Context) (s : State)
   pub code : Coded n (w .around) (s .around) (s .code) (v .code) (v .state .chunk)
   pub pool : Pooled z e (s .pool) (v .session) (marks (v .state))
   pub symbols : v .symbols ≡ record { globals = s .globals; tables = s .tables }
+  pub globals : Extends (z .globals) (s .globals)
   pub level : v .state .level ≡ w .depth
   pub depth : length (s .tables) ≡ w .depth
   pub pending : All (λ j. T (jumpAt j (s .code))) (w .jumps)
@@ -116,6 +122,7 @@ pub record Compiled (z : Session) (e : Bytes) (n : ℕ) (s : State) (v : View) :
   pub code : take (sizeOf (s .code)) (v .code) ≡ encode (s .code)
   pub area : length (v .code) ≡ n
   pub symbols : v .symbols ≡ record { globals = s .globals; tables = s .tables }
+  pub globals : Extends (z .globals) (s .globals)
   pub pool : Pooled z e (s .pool) (v .session) (marks (v .state))
   pub valid : ValidState s
 
