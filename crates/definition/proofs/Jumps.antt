@@ -46,17 +46,17 @@ Pending (j ∷ js) s = T (jumpAt j (s .code)) × Pending js s
 pub record Keeps (c d : Code) : Type 0 where
   pub keep : (j : ℕ) → T (jumpAt j c) → T (jumpAt j d)
 
-pub pending : (js : List ℕ) (s t : State) → Keeps (s .code) (t .code) → Pending js s → Pending js t
+pending : (js : List ℕ) (s t : State) → Keeps (s .code) (t .code) → Pending js s → Pending js t
 pending [] s t k h = tt
 pending (j ∷ js) s t k h = (k .keep j (h .0), pending js s t k (h .1))
 
-pub same : (c : Code) → Keeps c c
+same : (c : Code) → Keeps c c
 same c = record { keep = λ j h. h }
 
 pub then : {c d e : Code} → Keeps c d → Keeps d e → Keeps c e
 then k l = record { keep = λ j h. l .keep j (k .keep j h) }
 
-pub before : (j : ℕ) (c : Code) → T (jumpAt j c) → j < sizeOf c
+before : (j : ℕ) (c : Code) → T (jumpAt j c) → j < sizeOf c
 before j [] h = absurd h
 before j (i ∷ is) h = go (before j is) (eqb (sizeOf is) j) refl h
   where

@@ -1,19 +1,17 @@
 -- The session's buffer: a constant more behind the pool.
-use Prim.Native.Nat.{ℕ, suc, _+_, _≤_, _<_}
+use Prim.Native.Nat.{ℕ, _+_, _≤_}
 use native.Mathlib.Omega.{arith}
-use mathlib.Core.Bool.{Bool, true, false}
-use mathlib.Core.List.{List, [], _∷_, _++_, append-assoc, append-nil}
-use mathlib.Core.Path.{_≡_, refl, sym, ap, subst, _∙_}
+use mathlib.Core.List.{List, _∷_, _++_, append-assoc}
+use mathlib.Core.Path.{_≡_, refl, ap, _∙_}
 use lib.ListN.{length, length-append}
 use lib.Seq.{sets}
-use Rattle.definition.specs.Basic.{Bytes, pick}
-use Rattle.definition.specs.Limit.{codeSize, sessionSize, constantsLimit, poolLimit}
+use Rattle.definition.specs.Basic.{Bytes}
+use Rattle.definition.specs.Limit.{constantsLimit, poolLimit}
 use Rattle.definition.specs.Tag.{tagNames, tagPool}
 use Rattle.definition.specs.Field.{field}
 use Rattle.definition.specs.Bytecode.{Const, content, tagOf, constBytes, poolBytes, poolSize}
-use Rattle.definition.specs.Session.{Session, namesBytes, sessionFields}
+use Rattle.definition.specs.Session.{Session, namesBytes}
 use Rattle.definition.specs.Valid.{ValidSession}
-use Rattle.definition.specs.Walk.{Res}
 use Rattle.definition.specs.Compiler as Structured
 use Rattle.definition.specs.Compiler.{State, withPool}
 use Rattle.definition.proofs.Simulation.{Both}
@@ -21,7 +19,7 @@ use Rattle.definition.proofs.Sessions.{names-length}
 use Rattle.definition.proofs.Pools.{pool-length}
 use Rattle.scope.specs.View.{View, view}
 use Rattle.scope.specs.Machine.{addConstant, withConstant}
-use Rattle.refinement.specs.Relation.{namesEnd, poolEnd, Marks, marks, Appended, Pooled, Stopped}
+use Rattle.refinement.specs.Relation.{namesEnd, poolEnd, Marks, marks, Pooled, Stopped}
 use Rattle.refinement.proofs.Tests.{compared, on-same}
 use Rattle.refinement.proofs.Stores.{sets-append}
 
@@ -30,7 +28,7 @@ names-end : (z : Session) → ValidSession z → namesEnd z ≤ 35843
 names-end z v = omega (arith, names-length (v .names), v .count)
 
 -- the pool in the buffer begins behind its head, which follows the names
-pool-end : {z : Session} {e : Bytes} {cs : List Const} {b : Bytes} {m : Marks} → Pooled z e cs b m → m .poolEnd ≡ namesEnd z + 3 + poolSize cs
+pub pool-end : {z : Session} {e : Bytes} {cs : List Const} {b : Bytes} {m : Marks} → Pooled z e cs b m → m .poolEnd ≡ namesEnd z + 3 + poolSize cs
 pool-end {z} {cs = cs} r =
     omega
     (arith, r .appended .upto, pool-length cs, ap length (r .pool), length-append (poolBytes (z .pool)) (r .appended .new), length-append (field tagNames (namesBytes (z .globals))) (field tagPool (poolBytes (z .pool))))

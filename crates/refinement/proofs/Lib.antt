@@ -9,3 +9,5 @@ pub mod Loads
 pub mod Functions
 pub mod Closing
 pub mod Walk
+pub mod Outcome
+pub mod Buffer

@@ -3,10 +3,10 @@ use Prim.Native.Nat.{ℕ, _+_, _≤_, _<_}
 use native.Mathlib.Omega.{arith}
 use mathlib.Core.Bool.{Bool, true, false}
 use mathlib.Core.List.{List, [], _∷_}
-use mathlib.Core.Path.{_≡_, refl, sym, ap, _∙_}
+use mathlib.Core.Path.{_≡_, refl, ap, _∙_}
 use lib.Dec.{leb}
 use borrow.Author.Tests.{leb-true, leb-false, le-leb, lt-leb}
-use Rattle.definition.specs.Basic.{Bytes, pick}
+use Rattle.definition.specs.Basic.{Bytes}
 use Rattle.definition.specs.Limit.{codeSize}
 use Rattle.definition.specs.Number
 use Rattle.definition.specs.Number.{refusal}

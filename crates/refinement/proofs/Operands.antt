@@ -1,5 +1,5 @@
 -- The operand of a jump that stands in the code area.
-use Prim.Native.Nat.{ℕ, _+_, _<_, _/_, _%_}
+use Prim.Native.Nat.{ℕ, _+_, _/_, _%_}
 use native.Mathlib.Omega.{arith}
 use mathlib.Core.Bool.{Bool, true, false}
 use mathlib.Core.List.{[], _∷_, _++_, append-assoc}

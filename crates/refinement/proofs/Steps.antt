@@ -1,33 +1,33 @@
 -- Each step on views refines the definition's, but for opening and closing functions.
 use Prim.Native.Nat.{ℕ, _+_, _≤_}
 use native.Mathlib.Omega.{arith}
-use mathlib.Core.Bool.{Bool, true, false}
-use mathlib.Core.List.{List, [], _∷_}
-use mathlib.Core.Path.{_≡_, refl, sym, ap, subst, subst₂, _∙_}
+use mathlib.Core.Bool.{Bool}
+use mathlib.Core.List.{List, _∷_}
+use mathlib.Core.Path.{_≡_, refl, sym, subst, subst₂, _∙_}
 use lib.ListN.{length}
 use lib.Dec.{T}
 use Rattle.definition.specs.Basic.{Bytes, pick}
 use Rattle.definition.specs.Limit.{codeSize}
-use Rattle.definition.specs.Opcode.{Instr, instr, plain, size, opConstant, opPop, opJumpNotTruthy, opJump, opReturnValue, opReturn}
+use Rattle.definition.specs.Opcode.{Instr, instr, size, opConstant, opPop, opJumpNotTruthy, opJump}
 use Rattle.definition.specs.Bytecode.{Code, Const, sizeOf, content, tagOf}
 use Rattle.definition.specs.Session.{Session}
 use Rattle.definition.specs.Valid.{All, ValidInstr, ValidSession}
 use Rattle.definition.specs.Walk.{Res}
-use Rattle.definition.specs.SymbolTable.{Table, Resolved, Defined, builtins, resolve, place, loadOf}
+use Rattle.definition.specs.SymbolTable.{Resolved, Defined, builtins, resolve, place, loadOf}
 use Rattle.definition.specs.Compiler as Structured
-use Rattle.definition.specs.Compiler.{State, withCode, withTables, withPool, withoutLast, unpatched}
+use Rattle.definition.specs.Compiler.{State, withCode, withTables, unpatched}
 use Rattle.definition.proofs.Simulation.{Both, both-bind, both-map}
 use Rattle.definition.proofs.Symbols.{DefinedValid, place-valid}
 use Rattle.definition.proofs.Jumps as Jumps
 use Rattle.definition.proofs.Jumps.{Keeps, jumpAt, at-last}
-use Rattle.scope.specs.View.{View, view}
+use Rattle.scope.specs.View.{View}
 use Rattle.scope.specs.Machine as Machine
 use Rattle.scope.specs.Machine.{here, put, lastIs}
 use Rattle.refinement.specs.Relation.{Context, jumped, Refines, Droppable, Stopped}
 use Rattle.refinement.proofs.Tests.{forked, compared, on-same}
-use Rattle.refinement.proofs.Area.{put-coded, last-is, drop-coded, return-coded}
+use Rattle.refinement.proofs.Area.{put-coded, last-is, drop-coded}
 use Rattle.refinement.proofs.Operands.{patch-fits, patch-coded, prev-changed}
-use Rattle.refinement.proofs.Constants.{Added, added, withField}
+use Rattle.refinement.proofs.Constants.{Added, added}
 use Rattle.refinement.proofs.Depth.{Looked, resolve-depth, Placed, place-depth, extends-more}
 
 -- jumps that code keeps are still there

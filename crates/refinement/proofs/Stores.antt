@@ -2,8 +2,8 @@
 use Prim.Native.Nat.{ℕ, suc, _+_, _≤_}
 use native.Mathlib.Omega.{arith}
 use mathlib.Core.List.{List, [], _∷_, _++_, append-assoc}
-use mathlib.Core.Path.{_≡_, refl, sym, ap, _∙_}
-use lib.ListN.{length, set, take, drop, getD, length-append, take-append-drop}
+use mathlib.Core.Path.{_≡_, sym, ap, _∙_}
+use lib.ListN.{length, set, take, drop, length-append, take-append-drop}
 use lib.Seq.{sets, sets-eq, take-at, drop-at, length-take-le}
 
 module _ {A : Type 0} where

@@ -1,8 +1,8 @@
 -- The walk on memory refines the definition's walk.
-use Prim.Native.Nat.{ℕ, _+_, _≤_}
+use Prim.Native.Nat.{ℕ, _≤_}
 use native.Mathlib.Omega.{arith}
-use mathlib.Core.List.{List, [], _∷_, _++_, append-nil}
-use mathlib.Core.Path.{_≡_, refl, sym, ap, subst, _∙_}
+use mathlib.Core.List.{[], append-nil}
+use mathlib.Core.Path.{refl, sym, ap, _∙_}
 use lib.ListN.{length, take}
 use lib.Seq.{take-at}
 use Rattle.definition.specs.Basic.{Bytes}

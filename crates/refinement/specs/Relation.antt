@@ -19,7 +19,7 @@ use Rattle.definition.specs.Compiler.{State, withoutLast}
 use Rattle.definition.specs.Valid.{All}
 use Rattle.definition.proofs.Jumps.{jumpAt}
 use Rattle.definition.proofs.Limits.{ValidState}
-use Rattle.scope.specs.View.{Symbols, View, view}
+use Rattle.scope.specs.View.{View, view}
 use Rattle.scope.specs.Machine.{chunk}
 use Rattle.scope.specs.declared.Chunk.{Chunk}
 use Rattle.scope.specs.declared.State as Memory
