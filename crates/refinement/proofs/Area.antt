@@ -36,11 +36,13 @@ lastBytes : Code → Bytes
 lastBytes [] = []
 lastBytes (i ∷ is) = bytesOf i
 
+-- code is the code before its last instruction, and that
 encode-last : (c : Code) → encode c ≡ encode (withoutLast c) ++ lastBytes c
 unfolding lastBytes
 encode-last [] = refl
 encode-last (i ∷ is) = refl
 
+-- without it code is no longer
 without-size : (c : Code) → sizeOf (withoutLast c) ≤ sizeOf c
 without-size [] = omega arith
 without-size (i ∷ is) = omega arith
@@ -50,6 +52,7 @@ record PopLast (c : Code) : Type 0 where
   bytes : encode c ≡ encode (withoutLast c) ++ (opPop ∷ [])
   size : sizeOf c ≡ sizeOf (withoutLast c) + 1
 
+-- where the test says so
 pop-last : (c : Code) → Structured.lastIs opPop c ≡ true → PopLast c
 pop-last [] e =
     let z : _≡_ {A = ℕ} 0 1 = cc in

@@ -1,18 +1,18 @@
 -- The session's buffer after the walk: what stands in it, and how a refusal restores it.
 use Prim.Native.Nat.{ℕ, zero, suc, _+_, _-_, _/_, _%_, _≤_}
 use native.Mathlib.Omega.{arith}
-use mathlib.Core.List.{List, [], _∷_, _++_, append-assoc}
+use mathlib.Core.List.{List, [], _∷_, _++_, append-assoc, append-nil}
 use mathlib.Core.Path.{_≡_, refl, sym, ap, _∙_}
 use lib.ListN.{length, take, drop, replicate, length-append, length-replicate, take-append-drop}
-use lib.Seq.{sets, take-at, drop-at}
+use lib.Seq.{sets, take-at, drop-at, length-sets}
 use Rattle.definition.specs.Basic.{Bytes}
 use Rattle.definition.specs.Limit.{sessionSize}
 use Rattle.definition.specs.Tag.{tagNames, tagPool}
 use Rattle.definition.specs.Field.{field}
 use Rattle.definition.specs.Bytecode.{Const, poolBytes, poolSize}
-use Rattle.definition.specs.Session.{Session, namesBytes, sessionFields, sessionBytes}
+use Rattle.definition.specs.Session.{Session, nameBytes, namesBytes, sessionFields, sessionBytes}
 use Rattle.definition.proofs.Pools.{pool-length}
-use Rattle.refinement.specs.Relation.{namesEnd, poolEnd, Marks, Appended, Pooled}
+use Rattle.refinement.specs.Relation.{namesEnd, poolEnd, Marks, Appended, Pooled, Extends}
 use Rattle.refinement.proofs.Stores.{sets-over, sets-behind}
 
 -- zeros in place of as many zeros
@@ -74,3 +74,15 @@ module _ (z : Session) (e : Bytes) (held : take sessionSize e ≡ sessionBytes z
       ap (λ l. take (poolSize cs) (drop (namesEnd z + 3) l)) p
       ∙ ap (take (poolSize cs)) (drop-at (names ++ head) (poolBytes cs ++ after) (namesEnd z + 3) (length-append names head))
       ∙ take-at (poolBytes cs) after (poolSize cs) (pool-length cs)
+
+-- the buffer keeps its length
+pub appended-length : {z : Session} {e b : Bytes} {m : Marks} → Appended z e b m → length b ≡ length e
+appended-length {z} {e} a = ap length (a .session) ∙ length-sets e (poolEnd z) (a .new)
+
+-- the bytes of names are those of the old ones, then those of the new ones
+pub names-extended : {ns gs : List Bytes} (x : Extends ns gs) → namesBytes gs ≡ namesBytes ns ++ namesBytes (x .more)
+names-extended {ns} x = ap namesBytes (x .same) ∙ go (x .more)
+  where
+    go : (more : List Bytes) → namesBytes (more ++ ns) ≡ namesBytes ns ++ namesBytes more
+    go [] = sym (append-nil (namesBytes ns))
+    go (g ∷ gs) = ap (λ b. b ++ nameBytes g) (go gs) ∙ append-assoc (namesBytes ns) (namesBytes gs) (nameBytes g)

@@ -35,6 +35,7 @@ use Rattle.refinement.proofs.Loads.{withLoads, loads-fit, loads-refused
 abbrev closedState : State → State → List Table → State
 closedState s s₁ ts = record { code = s .code; around = s .around; tables = ts; globals = s₁ .globals; pool = s₁ .pool }
 
+-- and the view
 abbrev closedView : View → View → List Table → View
 closedView v v₁ ts = view (v₁ .code) (v₁ .session) (record { globals = v₁ .symbols .globals; tables = ts }) (outside (v .state) (v₁ .state))
 
@@ -85,9 +86,11 @@ module _ {z : Session} {e : Bytes} {n : ℕ} {w : Context} {s : State} {v : View
         absurd no
     close-refines (t ∷ ts) l = go (leb total codeSize) refl
       where
+        -- the open chunks with the loads
         total : ℕ
         total = here (v .state) + v₁ .state .chunk .len + loadsSize (t .originals)
 
+        -- the closing chunk
         closing : ℕ
         closing = sizeOf (s₁ .code)
 

@@ -37,6 +37,7 @@ pool-end {z} {cs = cs} r =
 abbrev pub withField : Const → View → View
 withField c v = view (v .code) (sets (v .session) (v .state .«pool_end») (constBytes c)) (v .symbols) (withConstant (length (content c)) (v .state))
 
+-- the pool with it
 pooled-more : {z : Session} {e : Bytes} {cs : List Const} {b : Bytes} {m : Marks} → ValidSession z → Pooled z e cs b m → (c : Const) → poolSize (c ∷ cs) ≤ poolLimit
     → Pooled z e (c ∷ cs) (sets b (m .poolEnd) (constBytes c)) (record { constants = m .constants + 1; namesEnd = m .namesEnd; poolEnd = m .poolEnd + (3 + length (content c)) })
 pooled-more {z} {e} valid r c h =

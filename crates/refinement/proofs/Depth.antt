@@ -18,18 +18,22 @@ pub data Looked (k : ℕ) : Resolved → Type 0 where
   undefined : Looked k Resolved.undefined
   full : Looked k Resolved.full
 
+-- one of two lookups
 looked-pick : {k : ℕ} {x y : Resolved} (b : Bool) → Looked k x → Looked k y → Looked k (pick b x y)
 looked-pick true h h′ = h
 looked-pick false h h′ = h′
 
+-- outside all functions there is no table
 outermost-looked : (g b : Option ℕ) → Looked 0 (outermost g b)
 outermost-looked (some k) b = Looked.found refl
 outermost-looked none (some k) = Looked.found refl
 outermost-looked none none = Looked.undefined
 
+-- a free symbol more
 capture-looked : {k : ℕ} (n : Bytes) (y : Symbol) (t : Table) (ts : List Table) → length ts ≡ k → Looked (suc k) (capture n y t ts)
 capture-looked n y t ts e = looked-pick (leb freeLimit (length (t .originals))) Looked.full (Looked.found (ap suc e))
 
+-- through a table
 cross-looked : {k : ℕ} (n : Bytes) (t : Table) {x : Resolved} → Looked k x → Looked (suc k) (cross n t x)
 cross-looked n t (Looked.found {y = Symbol.global k} e) = Looked.found (ap suc e)
 cross-looked n t (Looked.found {y = Symbol.builtin k} e) = Looked.found (ap suc e)
@@ -39,10 +43,12 @@ cross-looked n t (Looked.found {y = Symbol.free k} {ts = ts} e) = capture-looked
 cross-looked n t Looked.undefined = Looked.undefined
 cross-looked n t Looked.full = Looked.full
 
+-- in a table or outside of it
 outer-looked : (n : Bytes) (t : Table) (ts : List Table) (y : Option Symbol) {x : Resolved} → Looked (length ts) x → Looked (suc (length ts)) (orOuter n t ts y x)
 outer-looked n t ts (some y) h = Looked.found refl
 outer-looked n t ts none h = cross-looked n t h
 
+-- a lookup
 pub resolve-depth : (bs gs : List Bytes) (n : Bytes) (ts : List Table) → Looked (length ts) (resolve bs gs n ts)
 unfolding resolve
 resolve-depth bs gs n [] = outermost-looked (findGlobal n gs) (findBuiltin n bs 0)
@@ -53,10 +59,12 @@ pub data Placed (k : ℕ) (gs : List Bytes) : Defined → Type 0 where
   defined : (i : Instr) {gs′ : List Bytes} {ts : List Table} → Extends gs gs′ → length ts ≡ k → Placed k gs (Defined.defined i gs′ ts)
   noRoom : (m : ℕ) → Placed k gs (Defined.noRoom m)
 
+-- one of two definitions
 placed-pick : {k : ℕ} {gs : List Bytes} {x y : Defined} (b : Bool) → Placed k gs x → Placed k gs y → Placed k gs (pick b x y)
 placed-pick true h h′ = h
 placed-pick false h h′ = h′
 
+-- a definition
 pub place-depth : (n : Bytes) (gs : List Bytes) (ts : List Table) → Placed (length ts) gs (place n gs ts)
 place-depth n gs [] = placed-pick (leb globalsLimit (length gs)) (Placed.noRoom _) (Placed.defined _ (record { more = n ∷ []; same = refl }) refl)
 place-depth n gs (t ∷ ts) = placed-pick (leb localsLimit (t .definitions)) (Placed.noRoom _) (Placed.defined _ (record { more = []; same = refl }) refl)

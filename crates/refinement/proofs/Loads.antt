@@ -29,6 +29,7 @@ abbrev pub withLoads : List Symbol → Code → Code
 withLoads [] c = c
 withLoads (y ∷ ys) c = loadOf y ∷ withLoads ys c
 
+-- its length
 loads-size : (ys : List Symbol) (c : Code) → sizeOf (withLoads ys c) ≡ sizeOf c + loadsSize ys
 loads-size [] c = omega arith
 loads-size (y ∷ ys) c = omega (arith, loads-size ys c)
@@ -47,6 +48,7 @@ module _ (closing p : ℕ) where
     pub state : State
     pub same : r ≡ stop (refusal Number.code p) state
 
+  -- then the definition refuses at the place of the function
   pub loads-refused : (ys : List Symbol) (s : State) → s .around + sizeOf (s .code) + closing ≤ codeSize → codeSize < s .around + sizeOf (s .code) + closing + loadsSize ys → Refused (Structured.loads closing p ys s)
   unfolding Structured.loads emitBeside
   loads-refused [] s h l =
@@ -54,6 +56,7 @@ module _ (closing p : ℕ) where
       absurd no
   loads-refused (y ∷ ys) s h l = go (leb total codeSize) refl (loads-refused ys s h)
     where
+      -- all but the last one
       total : ℕ
       total = s .around + sizeOf (s .code) + closing + loadsSize ys
 
@@ -75,6 +78,7 @@ pub record Loaded (z : Session) (e : Bytes) (n : ℕ) (w : Context) (s : State) 
   pub same : r ≡ on tt memory
   pub refines : Refines z e n w s memory
 
+-- the loads one by one
 pub loads-put : {z : Session} {e : Bytes} {n : ℕ} → codeSize ≤ n → {w : Context} {s : State} {v : View} → Refines z e n w s v → (p : ℕ) (ys : List Symbol) → s .around + sizeOf (s .code) + loadsSize ys ≤ codeSize
     → Loaded z e n w (withCode (withLoads ys (s .code)) s) (Machine.loads p ys v)
 unfolding Machine.loads Machine.emit

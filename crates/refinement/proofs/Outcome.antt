@@ -36,6 +36,7 @@ module _ {z : Session} {e : Bytes} {n : ℕ} {x : Res State (Unit {0})} {y : Res
       let no : ⊥ = omega arith in
       absurd no
 
+  -- and where it stopped
   pub memory-halts : WalkEnds z e n x y → {r : Refusal} {v : View} → y ≡ stop r v → Halts (λ (_ : State). Stopped z e n) x r v
   memory-halts (WalkEnds.through s v p q c) k =
       let l : _≡_ {A = ℕ} 0 1 = cc in
@@ -56,6 +57,7 @@ module _ {z : Session} {e : Bytes} {n : ℕ} {x : Res State (Unit {0})} {y : Res
       let no : ⊥ = omega arith in
       absurd no
 
+  -- and where it stopped
   pub definition-halts : WalkEnds z e n x y → {r : Refusal} {s : State} → x ≡ stop r s → Halts (λ v (_ : State). Stopped z e n v) y r s
   definition-halts (WalkEnds.through s v p q c) k =
       let l : _≡_ {A = ℕ} 0 1 = cc in

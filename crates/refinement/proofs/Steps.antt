@@ -35,7 +35,7 @@ pub still : {c d : Code} {js : List ℕ} → Keeps c d → All (λ j. T (jumpAt 
 still k All.none = All.none
 still k (All.more {x = j} h hs) = All.more (k .keep j h) (still k hs)
 
--- an instruction more: both have it, or both refuse
+-- an instruction more, in the definition's code and in memory
 record Emitted (z : Session) (e : Bytes) (n : ℕ) (w : Context) (i : Instr) (s s′ : State) (v′ : View) : Type 0 where
   code : s′ .code ≡ i ∷ s .code
   droppable : Droppable z e n w s′ v′
@@ -45,6 +45,7 @@ abbrev pub Like : Session → Bytes → ℕ → Context → Res State (Unit {0})
 Like z e n w = Both (λ _. Stopped z e n) (λ (_ : Unit {0}). Droppable z e n w)
 
 module _ {z : Session} {e : Bytes} {n : ℕ} where
+  -- where both refuse
   pub halted : {w : Context} {s : State} {v : View} → Refines z e n w s v → Stopped z e n v
   halted r = record { appended = r .pool .appended; area = r .code .area }
 
@@ -67,6 +68,7 @@ module _ {z : Session} {e : Bytes} {n : ℕ} where
           prev = r .code .last;
         }
 
+    -- an instruction, and the code with it
     emit-shows : {w : Context} {s : State} {v : View} → Refines z e n w s v → (p : ℕ) (i : Instr)
         → Both (λ _. Stopped z e n) (λ (_ : Unit {0}). Emitted z e n w i s) (Structured.emit p i s) (Machine.emit p i v)
     unfolding Structured.emitBeside Machine.emit
@@ -74,6 +76,7 @@ module _ {z : Session} {e : Bytes} {n : ℕ} where
         compared (s .around + sizeOf (s .code) + 0 + size i) codeSize (here (v .state) + size i) codeSize 0 (omega (arith, r .code .start, r .code .len)) refl
         (λ h. Both.on tt (record { code = refl; droppable = put-refines r i (omega arith) })) (λ _. Both.stop _ tt (halted r))
 
+    -- an instruction
     pub emitted : {w : Context} {s : State} {v : View} → Refines z e n w s v → (p : ℕ) (i : Instr) → Like z e n w (Structured.emit p i s) (Machine.emit p i v)
     emitted r p i = both-map (emit-shows r p i) (λ _ _ _ h. h .droppable)
 
@@ -82,6 +85,7 @@ module _ {z : Session} {e : Bytes} {n : ℕ} where
     constant-refines {w} r h =
         subst₂ (Refines z e n w) (sym (h .state)) (sym (h .memory)) (record { code = r .code; pool = h .pooled; symbols = r .symbols; globals = r .globals; level = r .level; depth = r .depth; pending = r .pending })
 
+    -- a constant of its own for each literal
     pub constant : {w : Context} {s : State} {v : View} → ValidSession z → Refines z e n w s v → (p : ℕ) (c : Const) → Like z e n w (Structured.literal p c s) (Machine.literal p (tagOf c) (content c) v)
     constant valid r p c = both-bind (added valid (r .pool) (r .code .area) p c) (λ k _ _ h. emitted (constant-refines r h) p (instr opConstant k 0))
 
@@ -95,6 +99,7 @@ module _ {z : Session} {e : Bytes} {n : ℕ} where
     loaded-refines r p Looked.undefined = Both.stop _ tt (halted r)
     loaded-refines r p Looked.full = Both.stop _ tt (halted r)
 
+    -- a name is looked up and loaded
     pub load-refines : {w : Context} {s : State} {v : View} → Refines z e n w s v → (p : ℕ) (x : Bytes) → Like z e n w (Structured.load p x s) (Machine.load p x v)
     unfolding Structured.load Machine.load
     load-refines {w} {s} {v} r p x =
@@ -120,6 +125,7 @@ module _ {z : Session} {e : Bytes} {n : ℕ} where
       Both.on i (valid, record { code = r .code; pool = r .pool; symbols = refl; globals = extends-more (r .globals) g; level = r .level; depth = l ∙ r .depth; pending = r .pending })
   placed-refines r p (Placed.noRoom k) valid = Both.stop _ valid (halted r)
 
+  -- a name is placed
   pub define-refines : {w : Context} {s : State} {v : View} → Refines z e n w s v → (p : ℕ) (x : Bytes)
       → Both (λ _. Stopped z e n) (λ i s v. ValidInstr i × Refines z e n w s v) (Structured.define p x s) (Machine.define p x v)
   unfolding Structured.define Machine.define
@@ -143,6 +149,7 @@ module _ {z : Session} {e : Bytes} {n : ℕ} where
         pending = still (Jumps.changed j (sizeOf (s .code)) (s .code)) (r .pending);
       })
 
+  -- and where a last Pop may be dropped
   pub patch-droppable : {w : Context} {s : State} {v : View} (j : ℕ) → T (jumpAt j (s .code)) → Droppable z e n w s v → Droppable z e n w (Structured.patch j s) (Machine.patch j v)
   unfolding Structured.patch Machine.patch
   patch-droppable {s = s} j h d =

@@ -90,6 +90,7 @@ started z valid e c =
 start-valid : (z : Session) → ValidSession z → ValidState (start z)
 start-valid z valid = record { size = omega arith; code = All.none; tables = All.none; session = valid }
 
+-- from one session, the two walks of a tree
 pub walk-refines : (z : Session) → ValidSession z → (e c : Bytes) → codeSize ≤ length c → (b : Stmts) → WfStmts b
     → Like z e (length c) outermost (walkStmts Structured.machine b (start z)) (walkStmts Machine.machine b (startView z e c))
 walk-refines z valid e c wide b h = refined (refinement z valid e (length c) wide) b {w = outermost} h (started z valid e c)
@@ -108,6 +109,7 @@ compiled {s = s} {v} r valid =
       valid = valid;
     }
 
+-- how they end
 ended : {z : Session} {e : Bytes} {n : ℕ} {x : Res State (Unit {0})} {y : Res View (Unit {0})} → Like z e n outermost x y → Ends (λ (_ : Unit {0}). ValidState) x → WalkEnds z e n x y
 ended (Both.on tt {s} {t = v} d) (Ends.on _ valid) = WalkEnds.through s v refl refl (compiled (d .refines) valid)
 ended (Both.stop r k {s} {t = v} q) (Ends.stop _ _ _) = WalkEnds.stopped r s v refl refl k q
