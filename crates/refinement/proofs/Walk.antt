@@ -22,6 +22,7 @@ use Rattle.definition.proofs.ValidSymbols.{all-first, all-rest}
 use Rattle.definition.proofs.Instructions.{code-length}
 use Rattle.definition.proofs.Sessions.{fields-length}
 use Rattle.definition.proofs.Limits.{ValidState, walk-limits}
+use Rattle.definition.proofs.Steps.{start-valid}
 use Rattle.scope.specs.View.{View}
 use Rattle.scope.specs.Machine as Machine
 use Rattle.refinement.specs.Relation.{startView, Context, outermost, jumped, inside, Refines, Droppable, Stopped, Compiled, WalkEnds}
@@ -85,10 +86,6 @@ started z valid e c =
           };
       prev = refl;
     }
-
--- the definition's state at the start is within the limits
-start-valid : (z : Session) → ValidSession z → ValidState (start z)
-start-valid z valid = record { size = omega arith; code = All.none; tables = All.none; session = valid }
 
 -- from one session, the two walks of a tree
 pub walk-refines : (z : Session) → ValidSession z → (e c : Bytes) → codeSize ≤ length c → (b : Stmts) → WfStmts b
