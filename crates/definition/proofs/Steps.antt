@@ -66,7 +66,7 @@ module _ {A : Type 0} (P : Parsed Stmts → A → Type 0) (f : Parsed Stmts → 
 pub fresh-valid : ValidSession fresh
 fresh-valid = record { count = omega arith; names = All.none; pool = record { count = omega arith; size = omega arith; each = All.none } }
 
-start-valid : (z : Session) → ValidSession z → ValidState (start z)
+pub start-valid : (z : Session) → ValidSession z → ValidState (start z)
 start-valid z v = record { size = omega arith; code = All.none; tables = All.none; session = v }
 
 -- the numbers of a call past number 2
