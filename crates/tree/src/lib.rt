@@ -3,7 +3,7 @@ use definition::Refusal;
 use field::length_at;
 use field::wide;
 
-pub mod grammar;
+mod grammar;
 pub mod tag;
 
 use grammar::Kind;
