@@ -1,0 +1,17 @@
+use Prim.Native.Nat.{_+_, _-_}
+use mathlib.Core.Path.{_≡_}
+use native.Mathlib.Omega.{arith}
+use Rattle.symbol_table.specs.Name.{len}
+use borrow.Author.Needs.{needs}
+use Rattle.symbol_table.proofs.name_at.Statement.{statement}
+use Rattle.symbol_table.proofs.name_at.Tie as tie
+
+returns : tie.Need-returns
+returns c =
+    let e : c .before .before .before .args .at + 3 + c .before .field-len .result - (c .before .before .before .args .at + 3) ≡ len (c .before .before .before .args .tree .now) (c .before .before .before .args .at) = omega arith in
+    rw e
+
+pub name-at-spec : {M : Type 1} → statement M
+name-at-spec =
+    tie.close
+    (tie.spec (λ c. search needs) (λ c κs. search needs) (λ c. search needs) (λ c. search needs) (λ c. search needs) (λ c. search needs) returns)

@@ -1,0 +1,28 @@
+use native.Mathlib.Omega.{arith}
+use Rattle.symbol_table.proofs.Tables.{entered-good, entered-none}
+use Rattle.symbol_table.proofs.Placing.{opened}
+use borrow.Author.Needs.{needs}
+use Rattle.symbol_table.proofs.open_in.Statement.{statement}
+use Rattle.symbol_table.proofs.open_in.Tie as tie
+
+define-row-requires : tie.Need-define-row-requires
+define-row-requires c κs =
+    let s = c .before .before .before .before .before .before .before in
+    let p = s .pre .1 in
+    let e = c .before .before .before .enter-in .ensures in (
+      s .pre .0,
+      (
+        rw e (entered-good _ _ _ (p .0) (omega arith) (p .1 .0)),
+        (rw (e, entered-none (s .args .region .now) (s .args .name) _ (p .0)) (omega arith), p .1 .1 .0),
+      ),
+    )
+
+returns : tie.Need-returns
+returns c =
+    let p = c .before .before .before .before .before .before .before .before .before .before .pre .1 in
+    opened _ _ _ _ _ _ _ (p .0) (omega arith) (p .1 .0) (c .before .before .before .before .before .before .enter-in .ensures) (c .before .before .define-row .ensures)
+
+pub open-in-spec : {M : Type 1} → statement M
+open-in-spec =
+    tie.close
+    (tie.spec (λ c κs. search needs) define-row-requires (λ c. search needs) returns)
