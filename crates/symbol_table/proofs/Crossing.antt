@@ -9,11 +9,14 @@ use lib.Dec.{ltb}
 use borrow.Author.Tests.{lt-ltb, le-ltb, lt-leb, le-leb}
 use Rattle.definition.specs.Basic.{Bytes}
 use Rattle.definition.specs.Basic.{pick}
-use Rattle.symbol_table.specs.Name.{content}
+use Rattle.definition.specs.Limit.{freeLimit}
 use Rattle.definition.specs.SymbolTable.{Symbol, Table, Resolved, capture, cross}
-use Rattle.symbol_table.specs.Layout.{symbolOf, Sized, tableOf, freeIn, Crosses}
-use Rattle.symbol_table.specs.declared.Lookup.the-variants.{Code, Missing, Full}
-use Rattle.symbol_table.proofs.Rows.{length-back}
+use Rattle.symbol_table.specs.Name.{content}
+use Rattle.symbol_table.specs.Layout.{originalsAt, symbolOf, Sized, tableOf}
+use Rattle.symbol_table.specs.Store.{freeIn}
+use Rattle.symbol_table.specs.Contract.{Crosses}
+use Rattle.symbol_table.specs.declared.Lookup.the-variants.{Found, Undefined, Full}
+use Rattle.symbol_table.proofs.Back.{length-back}
 use Rattle.symbol_table.proofs.Codes.{symbol-free}
 use Rattle.symbol_table.proofs.Tables.{free-table, free-good}
 
@@ -27,9 +30,9 @@ module _ (n : Bytes) (t : Table) (ts : List Table) (x y : ℕ) where
   near false = refl
 
 module _ (n : Bytes) (t : Table) (ts : List Table) (c : ℕ) where
-  own-crosses : c < 256 → cross n t (Resolved.found (symbolOf c) ts) ≡ Resolved.found (symbolOf c) (t ∷ ts)
+  function-crosses : c < 256 → cross n t (Resolved.found (symbolOf c) ts) ≡ Resolved.found (symbolOf c) (t ∷ ts)
   unfolding symbolOf
-  own-crosses h = rw (lt-ltb c 256 h)
+  function-crosses h = rw (lt-ltb c 256 h)
 
   far-crosses : 768 ≤ c → cross n t (Resolved.found (symbolOf c) ts) ≡ Resolved.found (symbolOf c) (t ∷ ts)
   unfolding symbolOf
@@ -41,27 +44,35 @@ module _ (n : Bytes) (t : Table) (ts : List Table) (c : ℕ) where
 
 originals : (tree : Bytes) (r : List ℕ) → length (tableOf tree r .originals) ≡ getD r 2 0
 unfolding tableOf
-originals tree r = length-back symbolOf r 515 (getD r 2 0)
+originals tree r = length-back symbolOf r originalsAt (getD r 2 0)
 
-module _ (r : List ℕ) (name : ℕ) where
-  pub crossed-missing : Crosses r r name Missing Missing
-  crossed-missing = record { found = λ tree ts. refl; good = λ tree h g. g }
+module _ (r : List ℕ) (name hash : ℕ) where
+  pub crosses-undefined : Crosses name hash Undefined Undefined r r
+  crosses-undefined = record { resolved = λ tree ts. refl; good = λ tree n g. g }
 
-  pub crossed-full : Crosses r r name Full Full
-  crossed-full = record { found = λ tree ts. refl; good = λ tree h g. g }
+  pub crosses-full : Crosses name hash Full Full r r
+  crosses-full = record { resolved = λ tree ts. refl; good = λ tree n g. g }
 
-  pub crossed-own : (c : ℕ) → c < 256 → Crosses r r name (Code c) (Code c)
-  crossed-own c h = record { found = λ tree ts. sym (own-crosses (content tree name) (tableOf tree r) ts c h); good = λ tree h g. g }
+  pub crosses-function : (c : ℕ) → c < 256 → Crosses name hash (Found c) (Found c) r r
+  crosses-function c h = record { resolved = λ tree ts. sym (function-crosses (content tree name) (tableOf tree r) ts c h); good = λ tree n g. g }
 
-  pub crossed-far : (c : ℕ) → 768 ≤ c → Crosses r r name (Code c) (Code c)
-  crossed-far c h = record { found = λ tree ts. sym (far-crosses (content tree name) (tableOf tree r) ts c h); good = λ tree h g. g }
+  pub crosses-far : (c : ℕ) → 768 ≤ c → Crosses name hash (Found c) (Found c) r r
+  crosses-far c h = record { resolved = λ tree ts. sym (far-crosses (content tree name) (tableOf tree r) ts c h); good = λ tree n g. g }
 
-  pub crossed-none : (c : ℕ) → 256 ≤ c → c < 768 → 255 ≤ getD r 2 0 → Crosses r r name (Code c) Full
-  crossed-none c h k full = record { found = λ tree ts. sym (near-crosses (content tree name) (tableOf tree r) ts c h k ∙ rw (originals tree r, le-leb 255 (getD r 2 0) full)); good = λ tree h g. g }
+  pub crosses-none : (c : ℕ) → 256 ≤ c → c < 768 → freeLimit ≤ getD r 2 0 → Crosses name hash (Found c) Full r r
+  crosses-none c h k full =
+      record { resolved = λ tree ts. sym (near-crosses (content tree name) (tableOf tree r) ts c h k ∙ rw (originals tree r, le-leb freeLimit (getD r 2 0) full)); good = λ tree n g. g }
 
-  pub crossed-free : (c : ℕ) → 256 ≤ c → c < 768 → getD r 2 0 < 255 → Sized r → name < 32768 → Crosses r (freeIn r name c) name (Code c) (Code (512 + getD r 2 0))
-  crossed-free c h k room s below =
+  pub crosses-free : (c : ℕ) → 256 ≤ c → c < 768 → getD r 2 0 < freeLimit → Sized r → name < 32768 → Crosses name hash (Found c) (Found (512 + getD r 2 0)) r (freeIn r name hash c)
+  crosses-free c h k room s below =
       record {
-        found = λ tree ts. rw (free-table r name c s room below tree, near-crosses (content tree name) (tableOf tree r) ts c h k, originals tree r, lt-leb 255 (getD r 2 0) room, symbol-free (getD r 2 0) (omega arith));
-        good = free-good r name c s room below;
+        resolved = λ tree ts.
+            rw (
+              free-table r name hash c s room below tree,
+              near-crosses (content tree name) (tableOf tree r) ts c h k,
+              originals tree r,
+              lt-leb freeLimit (getD r 2 0) room,
+              symbol-free (getD r 2 0) (omega arith),
+            );
+        good = free-good r name hash c s room below;
       }

@@ -1,27 +1,44 @@
--- The symbol tables in the table area. A name is the tree offset of its field; a symbol is a code below 2048; an entry is offset + 32768 * code.
-use Prim.Native.Nat.{ℕ, zero, suc, _+_, _-_, _*_, _/_, _%_, _≤_, _<_, min}
+-- The table area: what its numbers stand for, and when they stand well.
+-- First the globals: their count; 1,024 names; 1,024 links, each to the global before it of the same hash; for each hash its latest global.
+-- Then a part for each open function, the outermost first: 1 where it has a name, its definitions, its free symbols; 512 entries; 255 originals.
+use Prim.Native.Nat.{ℕ, zero, suc, _+_, _-_, _*_, _/_, _%_, _≤_, _<_}
 use mathlib.Core.Path.{_≡_}
-use mathlib.Core.Bool.{Bool, true, false}
-use mathlib.Core.List.{List, [], _∷_, reverse}
-use mathlib.Core.Option.{Option, none, some}
-use lib.ListN.{length, getD, take, drop, set}
-use lib.Dec.{leb, ltb, eqb}
-use Rattle.definition.specs.Basic.{Bytes}
-use Rattle.definition.specs.Basic.{pick}
-use Rattle.definition.specs.Opcode.{instr}
-use Rattle.symbol_table.specs.Name.{after, content}
-use Rattle.definition.specs.SymbolTable.{Symbol, Entry, Table, Resolved, cross, builtins, resolve, Defined, place, named, withParams}
-use Rattle.symbol_table.specs.declared.Lookup.{Lookup}
-use Rattle.symbol_table.specs.declared.Lookup.the-variants.{Code, Missing, Full}
-use Rattle.symbol_table.specs.declared.Place.{Place}
-use Rattle.symbol_table.specs.declared.Place.the-variants.{Global, Local, NoGlobal, NoLocal}
-use Rattle.symbol_table.specs.declared.Hit.{Hit}
-use Rattle.symbol_table.specs.declared.Hit.the-variants.{At, Nothing}
+use mathlib.Core.List.{List, [], _∷_}
+use lib.ListN.{length, getD, take, drop}
+use lib.Dec.{ltb}
+use Rattle.definition.specs.Basic.{Bytes, pick}
+use Rattle.definition.specs.Limit.{globalsLimit, localsLimit, freeLimit}
+use Rattle.definition.specs.SymbolTable.{Symbol, Entry, Table}
+use Rattle.symbol_table.specs.Name.{content, Stands, buckets, hashOf}
 
--- a whole field stands at the offset
-abbrev pub Stands : Bytes → ℕ → Type 0
-Stands tree at = after tree at ≤ length tree
+-- the numbers of the globals; where the links begin; where the latest of each hash begin
+abbrev pub globalsSize : ℕ
+globalsSize = 3073
 
+abbrev pub linksAt : ℕ
+linksAt = 1025
+
+abbrev pub headsAt : ℕ
+headsAt = 2049
+
+-- the numbers of a function's part; where its entries begin; where its originals begin
+abbrev pub partSize : ℕ
+partSize = 770
+
+abbrev pub entriesAt : ℕ
+entriesAt = 3
+
+abbrev pub originalsAt : ℕ
+originalsAt = 515
+
+-- where the part of the function at a level begins
+abbrev pub base : ℕ → ℕ
+base l = globalsSize + partSize * l
+
+abbrev pub part : ℕ → List ℕ → List ℕ
+part l a = take partSize (drop (base l) a)
+
+-- a symbol as a code below 2048
 unfoldable pub symbolOf : ℕ → Symbol
 symbolOf c =
     pick (ltb c 256) Symbol.function
@@ -29,149 +46,91 @@ symbolOf c =
     (pick (ltb c 768) (Symbol.free (c - 512))
     (pick (ltb c 1024) (Symbol.builtin (c - 768)) (Symbol.global (c - 1024)))))
 
+-- an entry of a function's part: the offset of its name, the code of its symbol, and seven bits of its name's hash
+abbrev pub packed : ℕ → ℕ → ℕ → ℕ
+packed name code hash = name + 32768 * code + 33554432 * (hash % 128)
+
+abbrev pub nameIn : ℕ → ℕ
+nameIn v = v % 32768
+
+abbrev pub codeIn : ℕ → ℕ
+codeIn v = v / 32768 % 1024
+
+abbrev pub tagIn : ℕ → ℕ
+tagIn v = v / 33554432
+
 abbrev pub entryOf : Bytes → ℕ → Entry
-entryOf tree v = record { name = content tree (v % 32768); symbol = symbolOf (v / 32768) }
+entryOf tree v = record { name = content tree (nameIn v); symbol = symbolOf (codeIn v) }
 
 -- what `count` numbers from `start` on stand for, the latest first
 unfoldable pub back : {A : Type 0} → (ℕ → A) → List ℕ → ℕ → ℕ → List A
 back f r start zero = []
 back f r start (suc n) = f (getD r (start + n) 0) ∷ back f r start n
 
--- a function's part of the area, 770 numbers: 1 where it has a name, its definitions, its free symbols; 512 entries; 255 originals
+-- how many entries a function's part has
 abbrev pub entries : List ℕ → ℕ
 entries r = getD r 0 0 + getD r 1 0 + getD r 2 0
 
+-- the first so many originals of a function's free symbols
+abbrev pub originalsOf : List ℕ → ℕ → List Symbol
+originalsOf r n = back symbolOf r originalsAt n
+
+-- the table of a function's part
 unfoldable pub tableOf : Bytes → List ℕ → Table
-tableOf tree r = record { entries = back (entryOf tree) r 3 (entries r); definitions = getD r 1 0; originals = back symbolOf r 515 (getD r 2 0) }
-
-pub record Sized (r : List ℕ) : Type 0 where
-  pub size : length r ≡ 770
-  pub own : getD r 0 0 ≤ 1
-  pub definitions : getD r 1 0 ≤ 256
-  pub free : getD r 2 0 ≤ 255
-
-pub record Good (tree : Bytes) (r : List ℕ) : Type 0 where
-  pub sized : Sized r
-  pub names : (i : ℕ) → i < entries r → Stands tree (getD r (3 + i) 0 % 32768)
-
--- a function is entered: where its name has n bytes
-unfoldable pub enteredIn : List ℕ → ℕ → ℕ → List ℕ
-enteredIn r name n = set (set (set (set r 0 (min n 1)) 1 0) 2 0) 3 name
-
--- a definition more
-unfoldable pub localIn : List ℕ → ℕ → List ℕ
-localIn r name = set (set r (3 + entries r) (name + 32768 * (256 + getD r 1 0))) 1 (getD r 1 0 + 1)
-
--- a free symbol more, and its original
-unfoldable pub freeIn : List ℕ → ℕ → ℕ → List ℕ
-freeIn r name code = set (set (set r (3 + entries r) (name + 32768 * (512 + getD r 2 0))) (515 + getD r 2 0) code) 2 (getD r 2 0 + 1)
-
-abbrev pub hitOf : Hit → Option Symbol
-hitOf (At c) = some (symbolOf c)
-hitOf Nothing = none
-
--- the whole area: the number of global names and their offsets, 1025 numbers; then the parts of the open functions, the outermost first
--- (a name of the session is its offset there, a name of the tree 65536 more than its offset)
-abbrev pub globalName : Bytes → Bytes → ℕ → Bytes
-globalName tree session v = pick (ltb v 65536) (content session v) (content tree (v - 65536))
-
-unfoldable pub globalsOf : Bytes → Bytes → List ℕ → List Bytes
-globalsOf tree session g = back (globalName tree session) g 1 (getD g 0 0)
-
-pub record GlobalStands (tree session : Bytes) (v : ℕ) : Type 0 where
-  pub old : v < 65536 → Stands session v
-  pub new : 65536 ≤ v → Stands tree (v - 65536)
-
-pub record GoodGlobals (tree session : Bytes) (g : List ℕ) : Type 0 where
-  pub size : length g ≡ 1025
-  pub count : getD g 0 0 ≤ 1024
-  pub names : (i : ℕ) → i < getD g 0 0 → GlobalStands tree session (getD g (1 + i) 0)
-
-abbrev pub foundOf : Lookup → List Table → Resolved
-foundOf (Code c) ts = Resolved.found (symbolOf c) ts
-foundOf Missing ts = Resolved.undefined
-foundOf Full ts = Resolved.full
-
--- a lookup comes back through a function's part
-pub record Crosses (r r′ : List ℕ) (name : ℕ) (outer answer : Lookup) : Type 0 where
-  pub found : (tree : Bytes) (ts : List Table) → foundOf answer (tableOf tree r′ ∷ ts) ≡ cross (content tree name) (tableOf tree r) (foundOf outer ts)
-  pub good : (tree : Bytes) → Stands tree name → Good tree r → Good tree r′
-
-abbrev pub base : ℕ → ℕ
-base l = 1025 + 770 * l
-
-abbrev pub part : ℕ → List ℕ → List ℕ
-part l a = take 770 (drop (base l) a)
-
--- a function's part changed so, and nothing else
-pub record Inside (P : List ℕ → List ℕ → Type 0) (l : ℕ) (a a′ : List ℕ) : Type 0 where
-  pub here : P (part l a) (part l a′)
-  pub below : take (base l) a′ ≡ take (base l) a
-  pub above : drop (base l + 770) a′ ≡ drop (base l + 770) a
+tableOf tree r = record { entries = back (entryOf tree) r entriesAt (entries r); definitions = getD r 1 0; originals = originalsOf r (getD r 2 0) }
 
 -- the tables of so many open functions, the innermost first
 unfoldable pub tablesOf : Bytes → ℕ → List ℕ → List Table
 tablesOf tree zero a = []
 tablesOf tree (suc l) a = tableOf tree (part l a) ∷ tablesOf tree l a
 
-unfoldable pub AllGood : Bytes → Bytes → ℕ → List ℕ → Type 0
-AllGood tree session zero a = GoodGlobals tree session (take 1025 a)
-AllGood tree session (suc l) a = Good tree (part l a) × AllGood tree session l a
+-- the name of a global: an offset among the session's names, or 65536 more than an offset in the tree
+abbrev pub globalName : Bytes → Bytes → ℕ → Bytes
+globalName tree names v = pick (ltb v 65536) (content names v) (content tree (v - 65536))
 
-pub record Resolves (tree session a a′ : List ℕ) (level name : ℕ) (answer : Lookup) : Type 0 where
-  pub found : foundOf answer (tablesOf tree level a′) ≡ resolve builtins (globalsOf tree session (take 1025 a)) (content tree name) (tablesOf tree level a)
-  pub globals : take 1025 a′ ≡ take 1025 a
-  pub good : AllGood tree session level a′
-  pub above : drop (base level) a′ ≡ drop (base level) a
+-- the global names, the latest first
+unfoldable pub globalsOf : Bytes → Bytes → List ℕ → List Bytes
+globalsOf tree names g = back (globalName tree names) g 1 (getD g 0 0)
 
--- a definition's answer, with the names and the tables after it
-abbrev pub placedOf : Place → List Bytes → List Table → Defined
-placedOf (Global k) gs ts = Defined.defined (instr 0x11 k 0) gs ts
-placedOf (Local k) gs ts = Defined.defined (instr 0x19 k 0) gs ts
-placedOf NoGlobal gs ts = Defined.noRoom 11
-placedOf NoLocal gs ts = Defined.noRoom 9
+-- the same of the whole area
+abbrev pub globalsIn : Bytes → Bytes → List ℕ → List Bytes
+globalsIn tree names a = globalsOf tree names (take globalsSize a)
 
-unfoldable pub globalIn : List ℕ → ℕ → List ℕ
-globalIn g v = set (set g (1 + getD g 0 0) v) 0 (getD g 0 0 + 1)
+-- a function's part is within its limits
+pub record Sized (r : List ℕ) : Type 0 where
+  pub size : length r ≡ partSize
+  pub own : getD r 0 0 ≤ 1
+  pub definitions : getD r 1 0 ≤ localsLimit
+  pub free : getD r 2 0 ≤ freeLimit
 
-pub record PlacedGlobal (name : ℕ) (answer : Place) (g g′ : List ℕ) : Type 0 where
-  pub found : (tree session : Bytes) → placedOf answer (globalsOf tree session g′) [] ≡ place (content tree name) (globalsOf tree session g) []
-  pub good : (tree session : Bytes) → Stands tree name → GoodGlobals tree session g → GoodGlobals tree session g′
+-- an entry has a whole name, and bits of its hash
+pub record GoodEntry (tree : Bytes) (v : ℕ) : Type 0 where
+  pub stands : Stands tree (nameIn v)
+  pub tag : tagIn v ≡ hashOf (content tree (nameIn v)) % 128
 
-pub record PlacedIn (name : ℕ) (answer : Place) (r r′ : List ℕ) : Type 0 where
-  pub found : (tree : Bytes) (gs : List Bytes) (ts : List Table) → placedOf answer gs (tableOf tree r′ ∷ ts) ≡ place (content tree name) gs (tableOf tree r ∷ ts)
-  pub good : (tree : Bytes) → Stands tree name → Good tree r → Good tree r′
+pub record GoodTable (tree : Bytes) (r : List ℕ) : Type 0 where
+  pub sized : Sized r
+  pub each : (i : ℕ) → i < entries r → GoodEntry tree (getD r (entriesAt + i) 0)
 
-pub record Defines (level name : ℕ) (answer : Place) (a a′ : List ℕ) : Type 0 where
-  pub found : (tree session : Bytes) → placedOf answer (globalsOf tree session (take 1025 a′)) (tablesOf tree level a′) ≡ place (content tree name) (globalsOf tree session (take 1025 a)) (tablesOf tree level a)
-  pub good : (tree session : Bytes) → Stands tree name → AllGood tree session level a → AllGood tree session level a′
-  pub above : drop (base level) a′ ≡ drop (base level) a
+-- a global has a whole name
+pub record GlobalStands (tree names : Bytes) (v : ℕ) : Type 0 where
+  pub old : v < 65536 → Stands names v
+  pub new : 65536 ≤ v → Stands tree (v - 65536)
 
--- the contents of so many fields in a row
-unfoldable pub fields : Bytes → ℕ → ℕ → List Bytes
-fields tree zero at = []
-fields tree (suc n) at = content tree at ∷ fields tree n (after tree at)
+-- the latest global before k of a hash is the one before p; where p is 0 there is none
+pub record Latest (name : ℕ → Bytes) (g : List ℕ) (hash p k : ℕ) : Type 0 where
+  pub below : p ≤ k
+  pub is : 0 < p → hashOf (name (getD g (1 + (p - 1)) 0)) ≡ hash
+  pub other : (i : ℕ) → p ≤ i → i < k → hashOf (name (getD g (1 + i) 0)) ≡ hash → ⊥
 
-unfoldable pub Row : Bytes → ℕ → ℕ → Type 0
-Row tree zero at = Unit {0}
-Row tree (suc n) at = Stands tree at × Row tree n (after tree at)
+pub record GoodGlobals (tree names : Bytes) (g : List ℕ) : Type 0 where
+  pub size : length g ≡ globalsSize
+  pub count : getD g 0 0 ≤ globalsLimit
+  pub stands : (i : ℕ) → i < getD g 0 0 → GlobalStands tree names (getD g (1 + i) 0)
+  pub links : (i : ℕ) → i < getD g 0 0 → Latest (globalName tree names) g (hashOf (globalName tree names (getD g (1 + i) 0))) (getD g (linksAt + i) 0) i
+  pub heads : (h : ℕ) → h < buckets → Latest (globalName tree names) g h (getD g (headsAt + h) 0) (getD g 0 0)
 
-pub record Params (tree : Bytes) (at n : ℕ) (r r′ : List ℕ) : Type 0 where
-  pub table : tableOf tree r′ ≡ withParams (fields tree n at) (tableOf tree r)
-  pub good : Good tree r′
-
--- a function is open: its name, then its parameters
-pub record Opens (tree : Bytes) (name row n : ℕ) (r′ : List ℕ) : Type 0 where
-  pub table : tableOf tree r′ ≡ withParams (fields tree n row) (named (content tree name))
-  pub good : Good tree r′
-
-pub record Enters (tree : Bytes) (level name row n : ℕ) (a a′ : List ℕ) : Type 0 where
-  pub tables : tablesOf tree (suc level) a′ ≡ withParams (fields tree n row) (named (content tree name)) ∷ tablesOf tree level a
-  pub globals : take 1025 a′ ≡ take 1025 a
-  pub good : (session : Bytes) → AllGood tree session level a → AllGood tree session (suc level) a′
-  pub above : drop (base (suc level)) a′ ≡ drop (base (suc level)) a
-
--- the names of a session, so many fields from an offset on, the latest first
-pub record Starts (session : Bytes) (row n : ℕ) (g′ : List ℕ) : Type 0 where
-  pub globals : (tree : Bytes) → globalsOf tree session g′ ≡ reverse (fields session n row)
-  pub good : (tree : Bytes) → GoodGlobals tree session g′
+-- the whole area stands well, with so many open functions
+unfoldable pub Good : Bytes → Bytes → ℕ → List ℕ → Type 0
+Good tree names zero a = GoodGlobals tree names (take globalsSize a)
+Good tree names (suc l) a = GoodTable tree (part l a) × Good tree names l a

@@ -2,7 +2,7 @@ use mathlib.Core.Path.{_∙_}
 use native.Mathlib.Omega.{arith}
 use Rattle.symbol_table.specs.Layout.{base}
 use Rattle.symbol_table.proofs.Levels.{width, at-put, part-length}
-use Rattle.symbol_table.proofs.Placing.{entered}
+use Rattle.symbol_table.proofs.Defining.{entered}
 use borrow.Author.Needs.{needs}
 use Rattle.symbol_table.proofs.enter.Statement.{statement}
 use Rattle.symbol_table.proofs.enter.Tie as tie
@@ -25,5 +25,4 @@ returns c =
 pub enter-spec : {M : Type 1} → statement M
 enter-spec =
     tie.close
-    (tie.spec (λ c. search needs) (λ c. search needs) (λ c. search needs) (λ c. search needs) (λ c. search needs) (λ c. search needs)
-    (λ c. search needs) open-in-requires (λ c. search needs) returns)
+    (tie.spec (λ c. search needs) (λ c. search needs) (λ c. search needs) (λ c. search needs) (λ c. search needs) (λ c. search needs) (λ c. search needs) open-in-requires (λ c. search needs) returns)

@@ -7,7 +7,7 @@ use Rattle.symbol_table.proofs.place_at.Statement.{statement}
 use Rattle.symbol_table.proofs.place_at.Tie as tie
 
 place-in-requires : tie.Need-place-in-requires
-place-in-requires c κs = rw (width (base (c .before .before .args .level))) (c .before .before .pre .1)
+place-in-requires c κs = let s = c .before .before in rw (width (base (s .args .level))) (s .pre .1)
 
 returns : tie.Need-returns
 returns c =
@@ -18,5 +18,4 @@ returns c =
 pub place-at-spec : {M : Type 1} → statement M
 place-at-spec =
     tie.close
-    (tie.spec (λ c. search needs) (λ c. search needs) (λ c. search needs) (λ c. search needs) (λ c. search needs) (λ c. search needs)
-    (λ c. search needs) place-in-requires (λ c. search needs) returns)
+    (tie.spec (λ c. search needs) (λ c. search needs) (λ c. search needs) (λ c. search needs) (λ c. search needs) (λ c. search needs) (λ c. search needs) place-in-requires (λ c. search needs) returns)
