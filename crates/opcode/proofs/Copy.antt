@@ -33,16 +33,16 @@ module _ (b : Bytes) (start size : ℕ) where
 
     pub again : {out₀ out : Bytes} {k : ℕ} → size ≤ length out₀ → k < size → Copying out₀ out k → Copying out₀ (set out k (getD b (start + k) 0)) (k + 1)
     again {out₀} {out} {k} room h c =
-        record
-          { within = omega arith
-          ; same = length-set out k (getD b (start + k) 0) ∙ c .same
-          ; is =
-            ap (λ (l : Bytes). set l k (getD b (start + k) 0)) (c .is)
-            ∙ ap (λ (x : ℕ). set (paste out₀ 0 copied k) k x) (sym (byte-is k h))
-            ∙ ap (λ (n : ℕ). set (paste out₀ 0 copied k) n (getD copied k 0)) (sym (zero-add k))
-            ∙ paste-suc out₀ 0 copied k 0 (omega arith) (omega (arith, length-copied))
-            ∙ ap (paste out₀ 0 copied) (sym (add-one k))
-          }
+        record {
+          within = omega arith;
+          same = length-set out k (getD b (start + k) 0) ∙ c .same;
+          is =
+              ap (λ (l : Bytes). set l k (getD b (start + k) 0)) (c .is)
+              ∙ ap (λ (x : ℕ). set (paste out₀ 0 copied k) k x) (sym (byte-is k h))
+              ∙ ap (λ (n : ℕ). set (paste out₀ 0 copied k) n (getD copied k 0)) (sym (zero-add k))
+              ∙ paste-suc out₀ 0 copied k 0 (omega arith) (omega (arith, length-copied))
+              ∙ ap (paste out₀ 0 copied) (sym (add-one k));
+        }
 
     pub ends : {out₀ out : Bytes} {k : ℕ} → size ≤ k → Copying out₀ out k → out ≡ atStart copied out₀
     ends {out₀} {out} {k} h c =

@@ -29,18 +29,18 @@ pub record Part (ws : List String) (o : ℕ) : Type 0 where
 pub part : (ws : List String) (o : ℕ) → o < length ws → Part ws o
 part [] o h = absurd (omega arith)
 part (w ∷ ws) zero h =
-    record
-      { next = omega arith
-      ; within = rw (length-append (ascii w) (joined ws)) (omega arith)
-      ; is = take-append-seam (ascii w) (joined ws)
-      }
+    record {
+      next = omega arith;
+      within = rw (length-append (ascii w) (joined ws)) (omega arith);
+      is = take-append-seam (ascii w) (joined ws);
+    }
 part (w ∷ ws) (suc o) h =
     let p = part ws o (omega arith) in
-    record
-      { next = rw (p .next) (omega arith)
-      ; within = rw (length-append (ascii w) (joined ws)) (omega arith)
-      ; is = rw (drop-append-add (ascii w) (joined ws) (startOf ws o)) (p .is)
-      }
+    record {
+      next = rw (p .next) (omega arith);
+      within = rw (length-append (ascii w) (joined ws)) (omega arith);
+      is = rw (drop-append-add (ascii w) (joined ws) (startOf ws o)) (p .is);
+    }
 
 -- a known byte's word, between its start and the next one's
 pub record Word (op start next : ℕ) : Type 0 where
@@ -64,13 +64,13 @@ found {op} {w} {o} {start} {next} e n i s t =
     let s′ : start ≡ startOf words op = s ∙ ap (startOf words) i in
     let t′ : next ≡ startOf words (suc op) = t ∙ ap (startOf words) (ap (λ (k : ℕ). k + 1) i ∙ add-one op) in
     let z : length (word op) ≡ next - start = omega (arith, p .next) in
-    record
-      { known = known op e n .known
-      ; order = omega (arith, p .next)
-      ; within = omega (arith, p .within)
-      ; size = z
-      ; is = rw (← z, s′) (p .is)
-      }
+    record {
+      known = known op e n .known;
+      order = omega (arith, p .next);
+      within = omega (arith, p .within);
+      size = z;
+      is = rw (← z, s′) (p .is);
+    }
 
 module _ {op start next : ℕ} (out : Bytes) (h : Word op start next) where
   pub word-short : length out < next - start → (Refused (refusal outputShort 0) ≡ wordAnswer op (length out)) × (out ≡ wordInto op out)

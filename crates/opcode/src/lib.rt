@@ -1,6 +1,14 @@
 // Instructions on bytes: the operand length of every first byte, decoding, encoding, and the words of the listing.
-use definition::{Answer, Refusal};
-use field::{wide, word};
+pub mod table;
+
+use definition::Answer;
+use definition::Refusal;
+use field::wide;
+use field::word;
+use table::NO_INSTRUCTION;
+use table::STARTS;
+use table::WIDTHS;
+use table::WORDS;
 ghost use mathlib.Core.Path.{_≡_};
 ghost use Prim.Native.Nat.{_+_, _*_, _≤_, _<_};
 ghost use lib.ListN.{length, take, drop};
@@ -12,69 +20,6 @@ ghost use Rattle.opcode.specs.Table.{entry};
 ghost use Rattle.opcode.specs.Decoding.{sizeAt, instruction, instrOf, answer};
 ghost use Rattle.opcode.specs.Words.{words, joined, startOf, wordAnswer, wordInto};
 ghost use Rattle.opcode.specs.Encoding.{valid, encodeAnswer, encodeInto, Ready, atStart};
-
-// What the table says of a byte that begins no instruction.
-pub const NO_INSTRUCTION: u8 = 255;
-
-// The operand length of every first byte.
-pub const WIDTHS: [u8; 256] = [
-    2, 0, 0, 0, 0, 0, 0, 0, 0, 0, 0, 0, 0, 2, 2, 0,
-    2, 2, 2, 2, 0, 1, 0, 0, 1, 1, 1, 3, 1, 0, 255, 255,
-    255, 255, 255, 255, 255, 255, 255, 255, 255, 255, 255, 255, 255, 255, 255, 255,
-    255, 255, 255, 255, 255, 255, 255, 255, 255, 255, 255, 255, 255, 255, 255, 255,
-    255, 255, 255, 255, 255, 255, 255, 255, 255, 255, 255, 255, 255, 255, 255, 255,
-    255, 255, 255, 255, 255, 255, 255, 255, 255, 255, 255, 255, 255, 255, 255, 255,
-    255, 255, 255, 255, 255, 255, 255, 255, 255, 255, 255, 255, 255, 255, 255, 255,
-    255, 255, 255, 255, 255, 255, 255, 255, 255, 255, 255, 255, 255, 255, 255, 255,
-    255, 255, 255, 255, 255, 255, 255, 255, 255, 255, 255, 255, 255, 255, 255, 255,
-    255, 255, 255, 255, 255, 255, 255, 255, 255, 255, 255, 255, 255, 255, 255, 255,
-    255, 255, 255, 255, 255, 255, 255, 255, 255, 255, 255, 255, 255, 255, 255, 255,
-    255, 255, 255, 255, 255, 255, 255, 255, 255, 255, 255, 255, 255, 255, 255, 255,
-    255, 255, 255, 255, 255, 255, 255, 255, 255, 255, 255, 255, 255, 255, 255, 255,
-    255, 255, 255, 255, 255, 255, 255, 255, 255, 255, 255, 255, 255, 255, 255, 255,
-    255, 255, 255, 255, 255, 255, 255, 255, 255, 255, 255, 255, 255, 255, 255, 255,
-    255, 255, 255, 255, 255, 255, 255, 255, 255, 255, 255, 255, 255, 255, 255, 255,
-];
-
-// The words of the listing, one after the other.
-const WORDS: [u8; 193] = [
-    b'C', b'o', b'n', b's', b't', b'a', b'n', b't',
-    b'A', b'd', b'd',
-    b'P', b'o', b'p',
-    b'S', b'u', b'b',
-    b'M', b'u', b'l',
-    b'D', b'i', b'v',
-    b'T', b'r', b'u', b'e',
-    b'F', b'a', b'l', b's', b'e',
-    b'E', b'q', b'u', b'a', b'l',
-    b'N', b'o', b't', b'E', b'q', b'u', b'a', b'l',
-    b'G', b'r', b'e', b'a', b't', b'e', b'r', b'T', b'h', b'a', b'n',
-    b'M', b'i', b'n', b'u', b's',
-    b'B', b'a', b'n', b'g',
-    b'J', b'u', b'm', b'p', b'N', b'o', b't', b'T', b'r', b'u', b't', b'h', b'y',
-    b'J', b'u', b'm', b'p',
-    b'N', b'u', b'l', b'l',
-    b'G', b'e', b't', b'G', b'l', b'o', b'b', b'a', b'l',
-    b'S', b'e', b't', b'G', b'l', b'o', b'b', b'a', b'l',
-    b'A', b'r', b'r', b'a', b'y',
-    b'H', b'a', b's', b'h',
-    b'I', b'n', b'd', b'e', b'x',
-    b'C', b'a', b'l', b'l',
-    b'R', b'e', b't', b'u', b'r', b'n', b'V', b'a', b'l', b'u', b'e',
-    b'R', b'e', b't', b'u', b'r', b'n',
-    b'G', b'e', b't', b'L', b'o', b'c', b'a', b'l',
-    b'S', b'e', b't', b'L', b'o', b'c', b'a', b'l',
-    b'G', b'e', b't', b'B', b'u', b'i', b'l', b't', b'i', b'n',
-    b'C', b'l', b'o', b's', b'u', b'r', b'e',
-    b'G', b'e', b't', b'F', b'r', b'e', b'e',
-    b'C', b'u', b'r', b'r', b'e', b'n', b't', b'C', b'l', b'o', b's', b'u', b'r', b'e',
-];
-
-// Where the word of each instruction byte starts in `WORDS`, and where the last one ends.
-const STARTS: [u8; 31] = [
-    0, 8, 11, 14, 17, 20, 23, 27, 32, 37, 45, 56, 61, 65, 78, 82,
-    86, 95, 104, 109, 113, 118, 122, 133, 139, 147, 155, 165, 172, 179, 193,
-];
 
 // An instruction: its byte, its operand, and the captures of a Closure.
 pub struct Instruction {

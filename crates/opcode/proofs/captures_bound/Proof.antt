@@ -1,14 +1,11 @@
+-- `opcode::captures_bound` meets its contract: by the width.
 use Rattle.opcode.proofs.Encoding.{no-captures, some-captures}
 use Rattle.opcode.proofs.captures_bound.Statement.{statement}
 use Rattle.opcode.proofs.captures_bound.Tie as tie
-use Rattle.opcode.proofs.captures_bound.Reads as reads
-use Rattle.opcode.proofs.captures_bound.Lts as lts
 
--- src/lib.rt:166:9
 returns : tie.Need-returns
 returns c = search no-captures
 
--- src/lib.rt:162:1
 returns-2 : tie.Need-returns-2
 returns-2 c = search some-captures
 
