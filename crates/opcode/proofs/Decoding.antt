@@ -8,7 +8,7 @@ use borrow.Author.Tests.{leb-true}
 use Rattle.definition.specs.Basic.{both}
 use Rattle.definition.specs.Number.{refusal, badInstruction}
 use Rattle.definition.specs.Opcode.{Instr, instr, instrAt, operandAt, capturesAt, width, whole, opLast}
-use Rattle.definition.specs.Decode.{readInstr}
+use Rattle.definition.specs.Decode.{decoded, malformed, readInstr}
 use Rattle.opcode.specs.declared.Instruction.{Instruction}
 use Rattle.opcode.specs.declared.Decoded.the-variants.{Instr as Found, Refused}
 use Rattle.opcode.specs.Decoding.{sizeAt, instruction, answer}
@@ -44,13 +44,20 @@ module _ (byte : ℕ → ℕ) (at : ℕ) where
         go false k = absurd (n (rw k at e))
 
     -- it is what is read
-    pub reads : {size : ℕ} {i : Instruction} → size ≡ sizeAt byte at end → (size ≡ 0 → ⊥) → i ≡ instruction (instrAt byte at) → Found i (at + size) ≡ answer (readInstr byte at end)
-    reads e n p = let k = stands e n in rw (k .found, p, k .is)
+    pub read-next : {size : ℕ} → Stands size → readInstr byte at end ≡ decoded (instrAt byte at) (at + size)
+    read-next k = rw (k .found, k .is)
 
-    -- where none stands, 16 is answered
-    pub refuses : {size : ℕ} → size ≡ sizeAt byte at end → size ≡ 0 → Refused (refusal badInstruction at) ≡ answer (readInstr byte at end)
-    refuses {size} e n = go (whole byte at end) refl
+    -- where none stands, nothing is read
+    pub read-none : {size : ℕ} → size ≡ sizeAt byte at end → size ≡ 0 → readInstr byte at end ≡ malformed at
+    read-none {size} e n = go (whole byte at end) refl
       where
-        go : (b : Bool) → whole byte at end ≡ b → Refused (refusal badInstruction at) ≡ answer (readInstr byte at end)
+        go : (b : Bool) → whole byte at end ≡ b → readInstr byte at end ≡ malformed at
         go true k = let i : size ≡ 1 + width (byte at) = rw k at e in absurd (omega arith)
         go false k = rw k
+
+    -- what is answered
+    pub reads : {size : ℕ} {i : Instruction} → size ≡ sizeAt byte at end → (size ≡ 0 → ⊥) → i ≡ instruction (instrAt byte at) → Found i (at + size) ≡ answer (readInstr byte at end)
+    reads e n p = rw (read-next (stands e n), p)
+
+    pub refuses : {size : ℕ} → size ≡ sizeAt byte at end → size ≡ 0 → Refused (refusal badInstruction at) ≡ answer (readInstr byte at end)
+    refuses e n = rw (read-none e n)
