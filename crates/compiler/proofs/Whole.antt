@@ -23,11 +23,7 @@ use Rattle.definition.specs.declared.Answer.the-variants.{Refused}
 use Rattle.definition.proofs.Basic.{both-right, pick-true, pick-false}
 use Rattle.definition.proofs.Sessions.{write-session, session-length}
 use Rattle.definition.proofs.Steps.{compile-valid}
-use Rattle.compiler.specs.Result.{Result, refusedResult, resultOf, stepResult, sessionResult, result}
-
--- a result, with the rest of what is lent
-abbrev pub wholeOf : Lent → Result → Called
-wholeOf l x = record { answer = x .answer; lent = ended (x .session ++ drop sessionSize (l .session)) (x .output) l }
+use Rattle.compiler.specs.Result.{Result, refusedResult, resultOf, stepResult, sessionResult, result, wholeOf}
 
 -- the call by number 1's test
 pub call-enough : (tree : Bytes) (l : Lent) → enough (request l tree) ≡ true → call tree l ≡ inSession l tree (readSession (take sessionSize (l .session)))

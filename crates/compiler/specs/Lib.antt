@@ -1,2 +1,4 @@
 pub mod Result
 pub mod Promise
+pub mod Names
+pub mod Stage

@@ -1,7 +1,9 @@
 -- What a compile call gives once its buffers are large enough, on exactly the session's 65,536 bytes.
 use Prim.Native.Nat.{ℕ}
-use lib.ListN.{length}
+use mathlib.Core.List.{_++_}
+use lib.ListN.{length, drop}
 use Rattle.definition.specs.Basic.{Bytes}
+use Rattle.definition.specs.Limit.{sessionSize}
 use Rattle.definition.specs.Number
 use Rattle.definition.specs.Number.{refusal}
 use Rattle.definition.specs.Bytecode.{imageBytes}
@@ -9,7 +11,7 @@ use Rattle.definition.specs.Tree.{readTree}
 use Rattle.definition.specs.Session.{Session, sessionBytes}
 use Rattle.definition.specs.Decode.{Decoded, decoded, malformed, readSession}
 use Rattle.definition.specs.Compile.{Outcome, Step, translate}
-use Rattle.definition.specs.Call.{over}
+use Rattle.definition.specs.Call.{Lent, Called, over, ended}
 use Rattle.definition.specs.declared.Refusal.{Refusal}
 use Rattle.definition.specs.declared.Answer.{Answer}
 use Rattle.definition.specs.declared.Answer.the-variants.{Length, Refused}
@@ -38,3 +40,7 @@ sessionResult tree e o (malformed p) = refusedResult e o (refusal Number.noSessi
 -- a tree, a session of 65,536 bytes, an output
 unfoldable pub result : Bytes → Bytes → Bytes → Result
 result tree e o = sessionResult tree e o (readSession e)
+
+-- a result, with the rest of what is lent: the bytes behind the session's, and the work areas zeroed
+abbrev pub wholeOf : Lent → Result → Called
+wholeOf l x = record { answer = x .answer; lent = ended (x .session ++ drop sessionSize (l .session)) (x .output) l }
