@@ -100,21 +100,20 @@ fn clear(bytes: &mut [u8], from: usize) {
     }
 }
 
-// Answer a line's question.
-fn answer(bytes: &mut [u8], kind: u8, length: usize) {
+// Answer a line's question on the first `length` bytes; a session is all of them.
+fn answer(bytes: &[u8], kind: u8, length: usize) {
     if bytes.len() < length {
         return;
     }
-    clear(bytes, length);
     if kind == b'i' {
         answer_image(&bytes[..length]);
+        return;
     }
     if kind == b'd' {
         answer_decode(&bytes[..length]);
+        return;
     }
-    if kind == b's' {
-        answer_session(bytes);
-    }
+    answer_session(bytes);
 }
 
 // The value of a hexadecimal digit; 16 where it is none.
@@ -238,6 +237,7 @@ fn read_byte(bytes: &mut [u8], s: Reading, b: u8) -> Reading {
 // Read a byte of the cases.
 fn read(bytes: &mut [u8], s: Reading, b: u8) -> Reading {
     if b == b'\n' {
+        clear(bytes, s.length);
         answer(bytes, s.kind, s.length);
         return fresh();
     }
