@@ -41,6 +41,17 @@ pub fn width(op: u8) -> u8
     WIDTHS[wide(op)]
 }
 
+// How many operand bytes follow a first byte; none after a byte that is no instruction's.
+pub fn operand_length(op: u8) -> usize
+    ensures { λ r. ⌜ r ≡ operandLength op ⌝ }
+{
+    let w = width(op);
+    if w == NO_INSTRUCTION {
+        return 0;
+    }
+    wide(w)
+}
+
 // The length of the instruction at `at`, if it stands whole before `end`; else 0.
 pub fn size_at(code: &[u8], at: usize, end: usize) -> usize
     requires { ⌜ end ≤ length (now code) ⌝ }
