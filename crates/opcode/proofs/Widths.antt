@@ -6,8 +6,8 @@ use native.Mathlib.Omega.{arith}
 use lib.Dec.{leb, leb→le}
 use lib.ListN.{length, getD, List·getD-eq-default}
 use borrow.Author.Tests.{lt-leb, le-leb, leb-false}
-use Rattle.definition.specs.Basic.{pick, both}
-use Rattle.definition.specs.Opcode.{opLast, widths, width, whole}
+use Rattle.definition.specs.Basic.{both}
+use Rattle.definition.specs.Opcode.{opLast, widths, width}
 use Rattle.opcode.specs.Table.{entry, noInstruction}
 use Rattle.opcode.specs.Decoding.{sizeAt}
 use Rattle.opcode.proofs.Tables.{tabulate, tabulated, every-at}

@@ -17,7 +17,7 @@ ghost use Rattle.definition.specs.Opcode.{instrAt, bytesOf, width as operandLen
 ghost use Rattle.definition.specs.Decode.{readInstr};
 ghost use Rattle.definition.specs.Valid.{operandBound, capturesBound};
 ghost use Rattle.opcode.specs.Table.{entry};
-ghost use Rattle.opcode.specs.Decoding.{sizeAt, instruction, instrOf, answer};
+ghost use Rattle.opcode.specs.Decoding.{sizeAt, instruction, instrOf, decodeAnswer};
 ghost use Rattle.opcode.specs.Words.{words, joined, startOf, wordAnswer, wordInto};
 ghost use Rattle.opcode.specs.Encoding.{valid, encodeAnswer, encodeInto, Ready, atStart};
 
@@ -123,7 +123,7 @@ fn instruction_at(code: &[u8], at: usize, size: usize) -> Instruction
 // The instruction at `at`, if it stands whole before `end`; else number 16 there.
 pub fn decode_at(code: &[u8], at: usize, end: usize) -> Decoded
     requires { ⌜ end ≤ length (now code) ⌝ }
-    ensures { λ r. ⌜ r ≡ answer (readInstr (byteAt (now (code .entry))) at end) ⌝ }
+    ensures { λ r. ⌜ r ≡ decodeAnswer (readInstr (byteAt (now (code .entry))) at end) ⌝ }
 {
     let size = size_at(code, at, end);
     if size == 0 {
@@ -137,7 +137,7 @@ pub fn decode_at(code: &[u8], at: usize, end: usize) -> Decoded
 
 // The first instruction of a slice; an empty slice is refused, 16 at 0.
 pub fn decode(code: &[u8]) -> Decoded
-    ensures { λ r. ⌜ r ≡ answer (readInstr (byteAt (now (code .entry))) 0 (length (now (code .entry)))) ⌝ }
+    ensures { λ r. ⌜ r ≡ decodeAnswer (readInstr (byteAt (now (code .entry))) 0 (length (now (code .entry)))) ⌝ }
 {
     decode_at(code, 0, code.len())
 }
