@@ -1,0 +1,115 @@
+-- What the functions promise: equations with the definition's tables, and what stays as it was.
+use Prim.Native.Nat.{ℕ, suc, _+_, _≤_, _<_}
+use mathlib.Core.Path.{_≡_}
+use mathlib.Core.List.{List, [], _∷_}
+use mathlib.Core.Option.{Option, none, some}
+use lib.ListN.{length, take, drop}
+use Rattle.definition.specs.Basic.{Bytes, byteAt}
+use Rattle.definition.specs.Number
+use Rattle.definition.specs.Opcode.{instr, opSetGlobal, opSetLocal}
+use Rattle.definition.specs.SymbolTable.{Symbol, Table, Resolved, cross, resolve, Defined, place, named, withParams}
+use Rattle.definition.specs.Decode.{decoded, readNames}
+use Rattle.symbol_table.specs.Name.{after, content, Stands, fields, hashOf}
+use Rattle.symbol_table.specs.Layout.{globalsSize, partSize, base, part, symbolOf, tableOf, tablesOf, globalsOf, globalsIn, GoodTable, GoodGlobals, Good}
+use Rattle.symbol_table.specs.declared.Hit.{Hit}
+use Rattle.symbol_table.specs.declared.Hit.the-variants.{At, Nothing}
+use Rattle.symbol_table.specs.declared.Lookup.{Lookup}
+use Rattle.symbol_table.specs.declared.Lookup.the-variants.{Found, Undefined, Full}
+use Rattle.symbol_table.specs.declared.Definition.{Definition}
+use Rattle.symbol_table.specs.declared.Definition.the-variants.{Global, Local, GlobalsFull, LocalsFull}
+
+-- an answer of a search in one table
+abbrev pub hitOf : Hit → Option Symbol
+hitOf (At c) = some (symbolOf c)
+hitOf Nothing = none
+
+-- an index, as the symbol of its kind
+abbrev pub asSymbol : (ℕ → Symbol) → Option ℕ → Option Symbol
+asSymbol f (some k) = some (f k)
+asSymbol f none = none
+
+-- a lookup's answer, with the tables after it
+abbrev pub resolvedOf : Lookup → List Table → Resolved
+resolvedOf (Found c) ts = Resolved.found (symbolOf c) ts
+resolvedOf Undefined ts = Resolved.undefined
+resolvedOf Full ts = Resolved.full
+
+-- a definition's answer, with the names and the tables after it
+abbrev pub definedOf : Definition → List Bytes → List Table → Defined
+definedOf (Global k) gs ts = Defined.defined (instr opSetGlobal k 0) gs ts
+definedOf (Local k) gs ts = Defined.defined (instr opSetLocal k 0) gs ts
+definedOf GlobalsFull gs ts = Defined.noRoom Number.globals
+definedOf LocalsFull gs ts = Defined.noRoom Number.locals
+
+-- a name of the tree, and its hash
+pub record IsName (tree : Bytes) (name hash : ℕ) : Type 0 where
+  pub stands : Stands tree name
+  pub is : hash ≡ hashOf (content tree name)
+
+-- the part of the function at a level changed so, and nothing else
+pub record Inside (P : List ℕ → List ℕ → Type 0) (l : ℕ) (a a′ : List ℕ) : Type 0 where
+  pub here : P (part l a) (part l a′)
+  pub below : take (base l) a′ ≡ take (base l) a
+  pub above : drop (base l + partSize) a′ ≡ drop (base l + partSize) a
+
+-- a lookup comes back through a function's part
+pub record Crosses (name hash : ℕ) (outer answer : Lookup) (r r′ : List ℕ) : Type 0 where
+  pub resolved : (tree : Bytes) (ts : List Table) → resolvedOf answer (tableOf tree r′ ∷ ts) ≡ cross (content tree name) (tableOf tree r) (resolvedOf outer ts)
+  pub good : (tree : Bytes) → IsName tree name hash → GoodTable tree r → GoodTable tree r′
+
+-- a lookup from inside so many open functions, with the builtins' names
+pub record Resolves (builtins : List Bytes) (tree names : Bytes) (level name : ℕ) (answer : Lookup) (a a′ : List ℕ) : Type 0 where
+  pub resolved : resolvedOf answer (tablesOf tree level a′) ≡ resolve builtins (globalsIn tree names a) (content tree name) (tablesOf tree level a)
+  pub good : Good tree names level a′
+  pub globals : take globalsSize a′ ≡ take globalsSize a
+  pub above : drop (base level) a′ ≡ drop (base level) a
+
+-- a definition among the globals
+pub record DefinesGlobal (name hash : ℕ) (answer : Definition) (g g′ : List ℕ) : Type 0 where
+  pub defined : (tree names : Bytes) → definedOf answer (globalsOf tree names g′) [] ≡ place (content tree name) (globalsOf tree names g) []
+  pub good : (tree names : Bytes) → IsName tree name hash → GoodGlobals tree names g → GoodGlobals tree names g′
+
+-- a definition in a function's part
+pub record DefinesLocal (name hash : ℕ) (answer : Definition) (r r′ : List ℕ) : Type 0 where
+  pub defined : (tree : Bytes) (gs : List Bytes) (ts : List Table) → definedOf answer gs (tableOf tree r′ ∷ ts) ≡ place (content tree name) gs (tableOf tree r ∷ ts)
+  pub good : (tree : Bytes) → IsName tree name hash → GoodTable tree r → GoodTable tree r′
+
+-- a definition in the innermost of so many open functions, or among the globals
+pub record Defines (tree : Bytes) (level name : ℕ) (answer : Definition) (a a′ : List ℕ) : Type 0 where
+  pub defined : (names : Bytes) → definedOf answer (globalsIn tree names a′) (tablesOf tree level a′) ≡ place (content tree name) (globalsIn tree names a) (tablesOf tree level a)
+  pub good : (names : Bytes) → Good tree names level a → Good tree names level a′
+  pub above : drop (base level) a′ ≡ drop (base level) a
+
+-- so many parameters more in a function's part, the fields from an offset on
+pub record Params (tree : Bytes) (row n : ℕ) (r r′ : List ℕ) : Type 0 where
+  pub table : tableOf tree r′ ≡ withParams (fields tree n row) (tableOf tree r)
+  pub good : GoodTable tree r′
+
+-- a function's part as it is opened: its name, then its parameters
+pub record Opens (tree : Bytes) (name row n : ℕ) (r′ : List ℕ) : Type 0 where
+  pub table : tableOf tree r′ ≡ withParams (fields tree n row) (named (content tree name))
+  pub good : GoodTable tree r′
+
+-- a function is entered
+pub record Enters (tree : Bytes) (level name row n : ℕ) (a a′ : List ℕ) : Type 0 where
+  pub tables : tablesOf tree (suc level) a′ ≡ withParams (fields tree n row) (named (content tree name)) ∷ tablesOf tree level a
+  pub good : (names : Bytes) → Good tree names level a → Good tree names (suc level) a′
+  pub globals : take globalsSize a′ ≡ take globalsSize a
+  pub above : drop (base (suc level)) a′ ≡ drop (base (suc level)) a
+
+-- a session has names
+pub record HasNames (session : Bytes) : Type 0 where
+  pub names : List Bytes
+  pub end : ℕ
+  pub reads : readNames (byteAt session) 0 (length session) ≡ decoded names end
+
+-- the names of a session become the globals; from then on the session's bytes before `end` are enough
+pub record StartsGlobals (session : Bytes) (end : ℕ) (g′ : List ℕ) : Type 0 where
+  pub globals : (tree : Bytes) (h : HasNames session) → globalsOf tree (take end session) g′ ≡ h .names
+  pub good : (tree : Bytes) → GoodGlobals tree (take end session) g′
+
+-- the table area as a compile starts: the session's names, and no open function
+pub record Starts (session : Bytes) (end : ℕ) (a a′ : List ℕ) : Type 0 where
+  pub globals : (tree : Bytes) (h : HasNames session) → globalsIn tree (take end session) a′ ≡ h .names
+  pub good : (tree : Bytes) → Good tree (take end session) 0 a′
+  pub above : drop globalsSize a′ ≡ drop globalsSize a

@@ -1,0 +1,135 @@
+-- The table area: what its numbers stand for, and when they stand well.
+-- First the globals: their count; 1,024 names; 1,024 links, each to the global before it of the same hash; for each hash its latest global.
+-- Then a part for each open function, the outermost first: 1 where it has a name, its definitions, its free symbols; 512 entries; 255 originals.
+use Prim.Native.Nat.{ℕ, zero, suc, _+_, _-_, _*_, _/_, _%_, _≤_, _<_}
+use mathlib.Core.Path.{_≡_}
+use mathlib.Core.List.{List, [], _∷_}
+use lib.ListN.{length, getD, take, drop}
+use lib.Dec.{ltb}
+use Rattle.definition.specs.Basic.{Bytes, pick}
+use Rattle.definition.specs.Limit.{globalsLimit, localsLimit, freeLimit}
+use Rattle.definition.specs.SymbolTable.{Symbol, Entry, Table}
+use Rattle.symbol_table.specs.Name.{content, Stands, buckets, hashOf}
+
+-- the numbers of the globals; where the links begin; where the latest of each hash begin
+abbrev pub globalsSize : ℕ
+globalsSize = 3073
+
+abbrev pub linksAt : ℕ
+linksAt = 1025
+
+abbrev pub headsAt : ℕ
+headsAt = 2049
+
+-- the numbers of a function's part; where its entries begin; where its originals begin
+abbrev pub partSize : ℕ
+partSize = 770
+
+abbrev pub entriesAt : ℕ
+entriesAt = 3
+
+abbrev pub originalsAt : ℕ
+originalsAt = 515
+
+-- where the part of the function at a level begins
+abbrev pub base : ℕ → ℕ
+base l = globalsSize + partSize * l
+
+abbrev pub part : ℕ → List ℕ → List ℕ
+part l a = take partSize (drop (base l) a)
+
+-- a symbol as a code below 2048
+unfoldable pub symbolOf : ℕ → Symbol
+symbolOf c =
+    pick (ltb c 256) Symbol.function
+    (pick (ltb c 512) (Symbol.local (c - 256))
+    (pick (ltb c 768) (Symbol.free (c - 512))
+    (pick (ltb c 1024) (Symbol.builtin (c - 768)) (Symbol.global (c - 1024)))))
+
+-- an entry of a function's part: the offset of its name, the code of its symbol, and seven bits of its name's hash
+abbrev pub packed : ℕ → ℕ → ℕ → ℕ
+packed name code hash = name + 32768 * code + 33554432 * (hash % 128)
+
+abbrev pub nameIn : ℕ → ℕ
+nameIn v = v % 32768
+
+abbrev pub codeIn : ℕ → ℕ
+codeIn v = v / 32768 % 1024
+
+abbrev pub tagIn : ℕ → ℕ
+tagIn v = v / 33554432
+
+abbrev pub entryOf : Bytes → ℕ → Entry
+entryOf tree v = record { name = content tree (nameIn v); symbol = symbolOf (codeIn v) }
+
+-- what `count` numbers from `start` on stand for, the latest first
+unfoldable pub back : {A : Type 0} → (ℕ → A) → List ℕ → ℕ → ℕ → List A
+back f r start zero = []
+back f r start (suc n) = f (getD r (start + n) 0) ∷ back f r start n
+
+-- how many entries a function's part has
+abbrev pub entries : List ℕ → ℕ
+entries r = getD r 0 0 + getD r 1 0 + getD r 2 0
+
+-- the first so many originals of a function's free symbols
+abbrev pub originalsOf : List ℕ → ℕ → List Symbol
+originalsOf r n = back symbolOf r originalsAt n
+
+-- the table of a function's part
+unfoldable pub tableOf : Bytes → List ℕ → Table
+tableOf tree r = record { entries = back (entryOf tree) r entriesAt (entries r); definitions = getD r 1 0; originals = originalsOf r (getD r 2 0) }
+
+-- the tables of so many open functions, the innermost first
+unfoldable pub tablesOf : Bytes → ℕ → List ℕ → List Table
+tablesOf tree zero a = []
+tablesOf tree (suc l) a = tableOf tree (part l a) ∷ tablesOf tree l a
+
+-- the name of a global: an offset among the session's names, or 65536 more than an offset in the tree
+abbrev pub globalName : Bytes → Bytes → ℕ → Bytes
+globalName tree names v = pick (ltb v 65536) (content names v) (content tree (v - 65536))
+
+-- the global names, the latest first
+unfoldable pub globalsOf : Bytes → Bytes → List ℕ → List Bytes
+globalsOf tree names g = back (globalName tree names) g 1 (getD g 0 0)
+
+-- the same of the whole area
+abbrev pub globalsIn : Bytes → Bytes → List ℕ → List Bytes
+globalsIn tree names a = globalsOf tree names (take globalsSize a)
+
+-- a function's part is within its limits
+pub record Sized (r : List ℕ) : Type 0 where
+  pub size : length r ≡ partSize
+  pub own : getD r 0 0 ≤ 1
+  pub definitions : getD r 1 0 ≤ localsLimit
+  pub free : getD r 2 0 ≤ freeLimit
+
+-- an entry has a whole name, and bits of its hash
+pub record GoodEntry (tree : Bytes) (v : ℕ) : Type 0 where
+  pub stands : Stands tree (nameIn v)
+  pub tag : tagIn v ≡ hashOf (content tree (nameIn v)) % 128
+
+pub record GoodTable (tree : Bytes) (r : List ℕ) : Type 0 where
+  pub sized : Sized r
+  pub each : (i : ℕ) → i < entries r → GoodEntry tree (getD r (entriesAt + i) 0)
+
+-- a global has a whole name
+pub record GlobalStands (tree names : Bytes) (v : ℕ) : Type 0 where
+  pub old : v < 65536 → Stands names v
+  pub new : 65536 ≤ v → Stands tree (v - 65536)
+
+-- the globals from p on and before k are of other hashes
+pub record Skips (name : ℕ → Bytes) (g : List ℕ) (hash p k : ℕ) : Type 0 where
+  pub below : p ≤ k
+  pub other : (i : ℕ) → p ≤ i → i < k → hashOf (name (getD g (1 + i) 0)) ≡ hash → ⊥
+
+pub record GoodGlobals (tree names : Bytes) (g : List ℕ) : Type 0 where
+  pub size : length g ≡ globalsSize
+  pub count : getD g 0 0 ≤ globalsLimit
+  pub stands : (i : ℕ) → i < getD g 0 0 → GlobalStands tree names (getD g (1 + i) 0)
+  pub links : (i : ℕ) → i < getD g 0 0 → Skips (globalName tree names) g (hashOf (globalName tree names (getD g (1 + i) 0))) (getD g (linksAt + i) 0) i
+  pub heads : (h : ℕ) → h < buckets → Skips (globalName tree names) g h (getD g (headsAt + h) 0) (getD g 0 0)
+
+-- the whole area stands well, with so many open functions
+unfoldable pub Good : Bytes → Bytes → ℕ → List ℕ → Type 0
+Good tree names zero a = GoodGlobals tree names (take globalsSize a)
+Good tree names (suc l) a = GoodTable tree (part l a) × Good tree names l a

@@ -1,0 +1,4 @@
+pub mod Name
+pub mod Layout
+pub mod Store
+pub mod Contract

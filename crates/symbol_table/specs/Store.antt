@@ -1,0 +1,22 @@
+-- What is stored in a part of the area.
+use Prim.Native.Nat.{ℕ, _+_, min}
+use mathlib.Core.List.{List}
+use lib.ListN.{getD, set}
+use Rattle.symbol_table.specs.Layout.{linksAt, headsAt, entriesAt, originalsAt, packed, entries}
+
+-- a function is entered, with a name of n bytes
+unfoldable pub enteredIn : List ℕ → ℕ → ℕ → ℕ → List ℕ
+enteredIn r name hash n = set (set (set (set r 0 (min n 1)) 1 0) 2 0) entriesAt (packed name 0 hash)
+
+-- a definition more
+unfoldable pub localIn : List ℕ → ℕ → ℕ → List ℕ
+localIn r name hash = set (set r (entriesAt + entries r) (packed name (256 + getD r 1 0) hash)) 1 (getD r 1 0 + 1)
+
+-- a free symbol more, and its original
+unfoldable pub freeIn : List ℕ → ℕ → ℕ → ℕ → List ℕ
+freeIn r name hash code = set (set (set r (entriesAt + entries r) (packed name (512 + getD r 2 0) hash)) (originalsAt + getD r 2 0) code) 2 (getD r 2 0 + 1)
+
+-- a global more, the latest of its hash
+unfoldable pub globalIn : List ℕ → ℕ → ℕ → List ℕ
+globalIn g v hash =
+    set (set (set (set g (1 + getD g 0 0) v) (linksAt + getD g 0 0) (getD g (headsAt + hash) 0)) (headsAt + hash) (getD g 0 0 + 1)) 0 (getD g 0 0 + 1)
