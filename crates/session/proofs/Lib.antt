@@ -1,0 +1,6 @@
+pub mod Stores
+pub mod Zeroed
+pub mod Parts
+pub mod Fields
+pub mod Fresh
+pub mod Sessions
