@@ -6,7 +6,7 @@ use lib.ListN.{length}
 use Rattle.definition.specs.Basic.{Bytes}
 use Rattle.definition.specs.Limit.{codeSize}
 use Rattle.definition.specs.SymbolTable.{Table}
-use Rattle.definition.specs.Walk.{Res, on, stop, bind, Go}
+use Rattle.definition.specs.Walk.{Res, on, stop, refuse, bind, Go}
 use Rattle.scope.specs.declared.Chunk.{Chunk}
 use Rattle.scope.specs.declared.State.{State}
 use Rattle.scope.specs.declared.Walked.{Walked}
@@ -81,3 +81,9 @@ pub record Jumps (c c′ : Bytes) (w : Walked) (r : Jumped) (k : View → Res Vi
   pub step : (e : Bytes) (y : Symbols) → endedAt c′ e y (r .walked) (r .at) ≡ bind (ended c e y w) (λ _. k)
   pub ready : Ready c′ (r .walked)
   pub same : outlineOf (r .walked) ≡ outlineOf w
+
+-- a refusal, whatever the memory stands for
+pub record Refuses (w r : Walked) (number place : ℕ) : Type 0 where
+  pub step : (c e : Bytes) (y : Symbols) → ended c e y r ≡ then (ended c e y w) (refuse number place)
+  pub sound : Sound r
+  pub same : outlineOf r ≡ outlineOf w

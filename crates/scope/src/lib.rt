@@ -1,4 +1,29 @@
 // The open chunks in the code area, as the Rust's CompilationScope has them: the chunk in work is a record by value.
+ghost use mathlib.Core.Path.{_≡_};
+ghost use Prim.Native.Nat.{_+_, _≤_, _<_};
+ghost use lib.ListN.{length, getD};
+ghost use mathlib.Core.Option.{none};
+ghost use Rattle.definition.specs.Limit.{codeSize};
+ghost use Rattle.definition.specs.Number.{refusal};
+ghost use Rattle.definition.specs.Opcode.{instr, plain, opClosure, opJump};
+ghost use Rattle.definition.specs.Walk.{on, bind, operate, prefixes, infixes};
+ghost use Rattle.scope.specs.View.{Ready, Done, Jumps, Refuses, Fits};
+ghost use Rattle.scope.specs.Machine as machine;
+ghost use Rattle.scope.specs.Code.{lengthOf, opcodeOf, jumpAndPatch};
+
+mod instruction;
+pub mod opcode;
+
+// The size of the code area: the open chunks together.
+const CODE_SIZE: usize = 32768;
+
+// The number sent back where code would pass it, and for an operator that is none.
+const CODE_FULL: usize = 13;
+
+const NO_OPERATOR: usize = 6;
+
+// The target of a jump that is not yet patched.
+const UNPATCHED: usize = 9999;
 
 // The chunk in work: where it starts in the code area, its length, and in it the positions of its last and its previous instruction.
 pub struct Chunk {
@@ -28,4 +53,260 @@ pub enum Walked {
 pub struct Jumped {
     pub walked: Walked,
     pub at: usize,
+}
+
+// The state with another chunk in work.
+fn with_chunk(s: State, c: Chunk) -> State
+    ensures { λ r. ⌜ r ≡ machine.withChunk c s ⌝ }
+{
+    State {
+        chunk: c,
+        level: s.level,
+        constants: s.constants,
+        names_end: s.names_end,
+        pool_end: s.pool_end,
+    }
+}
+
+// The chunk with an instruction of `n` bytes more.
+fn longer(s: State, n: usize) -> State
+    requires { ⌜ s .chunk .len + n ≤ codeSize ⌝ }
+    ensures { λ r. ⌜ r ≡ machine.longer n s ⌝ }
+{
+    let c = s.chunk;
+    let next = Chunk {
+        start: c.start,
+        len: c.len + n,
+        last: c.len,
+        prev: c.last,
+    };
+    with_chunk(s, next)
+}
+
+// The chunk without its last instruction.
+fn without_last(s: State) -> State
+    ensures { λ r. ⌜ r ≡ machine.withoutLast s ⌝ }
+{
+    let c = s.chunk;
+    let next = Chunk {
+        start: c.start,
+        len: c.last,
+        last: c.prev,
+        prev: c.prev,
+    };
+    with_chunk(s, next)
+}
+
+// Whether the chunk's last instruction is of that byte.
+fn last_is(code: &[u8], c: Chunk, op: u8) -> bool
+    requires { ⌜ c .start + c .len ≤ length (now code) ⌝ }
+    ensures { λ r. ⌜ r ≡ machine.lastIs op (now (code .entry)) c ⌝ }
+{
+    if c.last < c.len {
+        let at = c.start + c.last;
+        code[at] == op
+    } else {
+        false
+    }
+}
+
+// The length of the chunk in work: the position of what is emitted next.
+fn position(w: Walked) -> usize
+    ensures { λ r. ⌜ r ≡ lengthOf w ⌝ }
+{
+    match w {
+        Walked::On(s) => {
+            let c = s.chunk;
+            c.len
+        }
+        Walked::Stop(r, s) => {
+            let c = s.chunk;
+            c.len
+        }
+    }
+}
+
+// The walk stops here, if it has not stopped before.
+pub fn refuse(w: Walked, number: usize, place: usize) -> Walked
+    ensures { λ r. ⌜ Refuses w r number place ⌝ }
+{
+    match w {
+        Walked::On(s) => Walked::Stop(
+            definition::Refusal {
+                number: number,
+                place: place,
+            },
+            s,
+        ),
+        Walked::Stop(r, s) => w,
+    }
+}
+
+// Emits an instruction, with the operands that its first byte has.
+fn emit_instruction(code: &mut [u8], w: Walked, place: usize, op: u8, a: usize, b: usize) -> Walked
+    requires { ⌜ Ready (now code) w ⌝ }
+    ensures { λ r. ⌜ Done (now (code .entry)) (now (code .exit)) w r (machine.emit place (instr op a b)) ⌝ }
+{
+    match w {
+        Walked::On(s) => {
+            let c = s.chunk;
+            let at = c.start + c.len;
+            let n = 1 + opcode::operand_length(op);
+            if CODE_SIZE < at + n {
+                return refuse(w, CODE_FULL, place);
+            }
+            instruction::write_instruction(code, at, op, a, b);
+            Walked::On(longer(s, n))
+        }
+        Walked::Stop(r, s) => w,
+    }
+}
+
+// Emits an instruction without operands.
+pub fn emit(code: &mut [u8], w: Walked, place: usize, op: u8) -> Walked
+    requires { ⌜ Ready (now code) w ⌝ }
+    ensures { λ r. ⌜ Done (now (code .entry)) (now (code .exit)) w r (machine.emit place (plain op)) ⌝ }
+{
+    emit_instruction(code, w, place, op, 0, 0)
+}
+
+// Emits an instruction with at most one operand, of one or two bytes.
+pub fn emit_any(code: &mut [u8], w: Walked, place: usize, op: u8, operand: usize) -> Walked
+    requires { ⌜ Ready (now code) w ⌝ }
+    ensures { λ r. ⌜ Done (now (code .entry)) (now (code .exit)) w r (machine.emit place (instr op operand 0)) ⌝ }
+{
+    emit_instruction(code, w, place, op, operand, 0)
+}
+
+// Emits Closure: the constant that holds its function, and how many free symbols it captures.
+pub fn emit_closure(
+    code: &mut [u8],
+    w: Walked,
+    place: usize,
+    constant: usize,
+    captures: usize,
+) -> Walked
+    requires { ⌜ Ready (now code) w ⌝ }
+    ensures { λ r. ⌜ Done (now (code .entry)) (now (code .exit)) w r (machine.emit place (instr opClosure constant captures)) ⌝ }
+{
+    emit_instruction(code, w, place, opcode::CLOSURE, constant, captures)
+}
+
+// Emits a jump without its target, and says at which position.
+pub fn jump(code: &mut [u8], w: Walked, place: usize, op: u8) -> Jumped
+    requires { ⌜ Ready (now code) w ⌝ }
+    ensures { λ r. ⌜ Jumps (now (code .entry)) (now (code .exit)) w r (machine.jump place op) ⌝ }
+{
+    let at = position(w);
+    let r = emit_any(code, w, place, op, UNPATCHED);
+    Jumped { walked: r, at: at }
+}
+
+// The jump at a position goes to what comes next.
+pub fn patch(code: &mut [u8], w: Walked, at: usize) -> Walked
+    requires { ⌜ Ready (now code) w ⌝ }
+    ensures { λ r. ⌜ Done (now (code .entry)) (now (code .exit)) w r (λ v. on tt (machine.patch at v)) ⌝ }
+{
+    match w {
+        Walked::On(s) => {
+            if CODE_SIZE <= at {
+                return w;
+            }
+            let c = s.chunk;
+            let target = c.start + at;
+            if target + 2 < CODE_SIZE {
+                instruction::write_word(code, target + 1, c.len);
+            }
+            w
+        }
+        Walked::Stop(r, s) => w,
+    }
+}
+
+// Emits a Jump, and patches the jump from before behind it.
+pub fn jump_and_patch(code: &mut [u8], w: Walked, place: usize, at: usize) -> Jumped
+    requires { ⌜ Ready (now code) w ⌝ }
+    ensures { λ r. ⌜ Jumps (now (code .entry)) (now (code .exit)) w r (jumpAndPatch place at) ⌝ }
+{
+    let away = jump(code, w, place, opcode::JUMP);
+    let v = away.walked;
+    let r = patch(code, v, at);
+    Jumped {
+        walked: r,
+        at: away.at,
+    }
+}
+
+// Drops a branch's last Pop.
+pub fn drop_pop(code: &mut [u8], w: Walked, _place: usize) -> Walked
+    requires { ⌜ Ready (now code) w ⌝ }
+    ensures { λ r. ⌜ Done (now (code .entry)) (now (code .exit)) w r (λ v. on tt (machine.dropped v)) ⌝ }
+{
+    match w {
+        Walked::On(s) => {
+            let c = s.chunk;
+            if last_is(code, c, opcode::POP) {
+                return Walked::On(without_last(s));
+            }
+            w
+        }
+        Walked::Stop(r, s) => w,
+    }
+}
+
+// Ends a function's chunk: its last Pop becomes ReturnValue; where ReturnValue isn't last, Return follows.
+pub fn returned(code: &mut [u8], w: Walked, place: usize) -> Walked
+    requires { ⌜ Ready (now code) w ⌝ }
+    ensures { λ r. ⌜ Done (now (code .entry)) (now (code .exit)) w r (machine.returned place) ⌝ }
+{
+    match w {
+        Walked::On(s) => {
+            let c = s.chunk;
+            if last_is(code, c, opcode::POP) {
+                let at = c.start + c.last;
+                code[at] = opcode::RETURN_VALUE;
+                return w;
+            }
+            if last_is(code, c, opcode::RETURN_VALUE) {
+                return w;
+            }
+            emit(code, w, place, opcode::RETURN)
+        }
+        Walked::Stop(r, s) => w,
+    }
+}
+
+// Emits a boolean's instruction.
+pub fn boolean(code: &mut [u8], w: Walked, place: usize, b: u8) -> Walked
+    requires { ⌜ Ready (now code) w ⌝ }
+    ensures { λ r. ⌜ Done (now (code .entry)) (now (code .exit)) w r (machine.machine .boolean place b) ⌝ }
+{
+    emit(code, w, place, opcode::boolean_opcode(b))
+}
+
+// Emits an operator's instruction, or refuses where it has none.
+fn operator(code: &mut [u8], w: Walked, place: usize, op: u8) -> Walked
+    requires { ⌜ Ready (now code) w ⌝ }
+    ensures { λ r. ⌜ Done (now (code .entry)) (now (code .exit)) w r (operate machine.machine place (opcodeOf op)) ⌝ }
+{
+    if op == opcode::NONE {
+        return refuse(w, NO_OPERATOR, place);
+    }
+    emit(code, w, place, op)
+}
+
+// Emits the instruction of a prefix operator.
+pub fn prefix_operator(code: &mut [u8], w: Walked, place: usize, o: u8) -> Walked
+    requires { ⌜ Ready (now code) w ⌝ }
+    ensures { λ r. ⌜ Done (now (code .entry)) (now (code .exit)) w r (operate machine.machine place (getD prefixes o none)) ⌝ }
+{
+    operator(code, w, place, opcode::prefix_opcode(o))
+}
+
+// Emits the instruction of an infix operator.
+pub fn infix_operator(code: &mut [u8], w: Walked, place: usize, o: u8) -> Walked
+    requires { ⌜ Ready (now code) w ⌝ }
+    ensures { λ r. ⌜ Done (now (code .entry)) (now (code .exit)) w r (operate machine.machine place (getD infixes o none)) ⌝ }
+{
+    operator(code, w, place, opcode::infix_opcode(o))
 }
