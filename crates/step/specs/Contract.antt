@@ -1,51 +1,65 @@
 -- What the steps on session and table area promise.
-use Prim.Native.Nat.{ℕ, _+_, _≤_, _<_}
+use Prim.Native.Nat.{ℕ, _+_}
 use mathlib.Core.Path.{_≡_}
+use mathlib.Core.Bool.{Bool, false}
 use mathlib.Core.List.{List}
-use lib.ListN.{length}
-use Rattle.definition.specs.Basic.{Bytes}
-use Rattle.definition.specs.Opcode.{Instr, instr, width}
-use Rattle.definition.specs.Walk.{Res, on, stop, bind, Go}
-use Rattle.scope.specs.View.{Symbols, View, view, ended, then, Ready, outlineOf}
+use lib.Dec.{leb}
+use Rattle.definition.specs.Basic.{Bytes, pick}
+use Rattle.definition.specs.Limit.{constantsLimit, poolLimit}
+use Rattle.definition.specs.Opcode.{Instr, instr}
+use Rattle.definition.specs.Walk.{Res, bind, Go}
+use Rattle.scope.specs.View.{View, then, Ready}
 use Rattle.scope.specs.Machine.{enter, leave, define}
 use Rattle.field.specs.Layout.{content, after}
 use Rattle.tree.specs.At.{ParamsAt}
-use Rattle.step.specs.Memory.{Rest, stateOf, symbolsOf, memory, Fine, Keeps, Walks}
+use Rattle.step.specs.Memory.{Rest, rest, settled, result, memory, Fine, Deeper, Keeps, Walks}
+use Rattle.definition.specs.declared.Refusal.{Refusal}
 use Rattle.scope.specs.declared.State.{State}
 use Rattle.scope.specs.declared.Walked.{Walked}
 use Rattle.scope.specs.declared.Walked.the-variants.{On, Stop}
 use Rattle.step.specs.declared.Defining.{Defining}
+use Rattle.step.specs.declared.Added.{Added}
 
 -- a step that stands alone: on whatever the memory stands for
 abbrev pub Steps : Bytes → Go View → Bytes → Bytes → Rest → Rest → Walked → Walked → Type 0
 Steps tree k = Walks {A = Unit {0}} tree (λ _. Unit {0}) (λ _. k)
 
+-- a step on code and session, whatever table area stands well beside them
+pub record StepsBeside (tree : Bytes) (k : Go View) (c c′ e e′ : Bytes) (w r : Walked) : Type 0 where
+  pub steps : (t : List ℕ) → Fine tree (rest e t) w → Steps tree k c c′ (rest e t) (rest e′ t) w r
+
+-- the pool has room for a constant of n bytes
+abbrev pub hasRoom : ℕ → State → Bool
+hasRoom n s = pick (leb constantsLimit (s .constants)) false (leb (s .«pool_end» + (3 + n)) (s .«names_end» + 3 + poolLimit))
+
+-- a constant more in the session, and its index, whatever stands beside
+pub record Adds (k : View → Res View ℕ) (e e′ : Bytes) (w : Walked) (a : Added) : Type 0 where
+  pub step : (tree c : Bytes) (t : List ℕ) → result tree c (rest e′ t) (a .walked) (a .index) ≡ settled (bind (memory tree c (rest e t) w) (λ _. k))
+  pub ready : (c : Bytes) → Ready c w → Ready c (a .walked)
+  pub fine : (tree : Bytes) (t : List ℕ) → Fine tree (rest e t) w → Fine tree (rest e′ t) (a .walked)
+  pub keeps : Keeps w (a .walked)
+
 -- a definition, with the instruction that will set it
 abbrev pub defining : Bytes → Bytes → Rest → Defining → Res View Instr
-defining tree c m d = go (d .walked)
-  where
-    go : Walked → Res View Instr
-    go (On s) = on (instr (d .op) (d .operand) 0) (view c (m .session) (symbolsOf tree m s) s)
-    go (Stop r s) = stop r (view c (m .session) (symbolsOf tree m s) s)
+defining tree c m d = result tree c m (d .walked) (instr (d .op) (d .operand) 0)
 
 pub record Defines (tree : Bytes) (p : ℕ) (c : Bytes) (m m′ : Rest) (w : Walked) (d : Defining) : Type 0 where
-  pub step : defining tree c m′ d ≡ bind (memory tree c m w) (λ _. define p (content tree (p + 3)))
+  pub step : defining tree c m′ d ≡ settled (bind (memory tree c m w) (λ _. define p (content tree (p + 3))))
   pub ready : Ready c (d .walked)
   pub fine : Fine tree m′ (d .walked)
   pub keeps : Keeps w (d .walked)
 
 -- a function is entered
 pub record Enters (tree : Bytes) (p : ℕ) (c : Bytes) (m m′ : Rest) (w r : Walked) : Type 0 where
-  pub step : (ps : List Bytes) → ParamsAt tree (after tree (p + 3)) ps → memory tree c m′ r ≡ then (memory tree c m w) (enter p (content tree (p + 3)) ps)
+  pub step : (ps : List Bytes) → ParamsAt tree (after tree (p + 3)) ps → memory tree c m′ r ≡ settled (then (memory tree c m w) (enter p (content tree (p + 3)) ps))
   pub ready : Ready c r
   pub fine : Fine tree m′ r
-  -- inside, one level deeper
-  pub inside : (s t : State) → w ≡ On s → r ≡ On t → (t .level ≡ s .level + 1) × (t .«names_end» ≡ s .«names_end»)
-  pub stopped : (x : _) (s : State) → w ≡ Stop x s → r ≡ Stop x s
+  pub inside : Deeper 1 w r
 
 -- the function in which `w` goes on is closed; `o` is the walk before it was entered
 pub record Leaves (tree : Bytes) (p n : ℕ) (c c′ : Bytes) (m m′ : Rest) (o w r : Walked) : Type 0 where
-  pub step : (s : State) → o ≡ On s → (v : View) → v .state ≡ s → memory tree c′ m′ r ≡ then (memory tree c m w) (leave p n v)
+  pub step : (v : View) → o ≡ On (v .state) → memory tree c′ m′ r ≡ settled (then (memory tree c m w) (leave p n v))
+  pub stopped : (x : Refusal) (s : State) → o ≡ Stop x s → memory tree c′ m′ r ≡ memory tree c m w
   pub ready : Ready c′ r
   pub fine : Fine tree m′ r
   pub keeps : Keeps o r
