@@ -43,8 +43,8 @@ Pending [] s = Unit {0}
 Pending (j ∷ js) s = T (jumpAt j (s .code)) × Pending js s
 
 -- code that keeps the jumps
-record Keeps (c d : Code) : Type 0 where
-  keep : (j : ℕ) → T (jumpAt j c) → T (jumpAt j d)
+pub record Keeps (c d : Code) : Type 0 where
+  pub keep : (j : ℕ) → T (jumpAt j c) → T (jumpAt j d)
 
 pending : (js : List ℕ) (s t : State) → Keeps (s .code) (t .code) → Pending js s → Pending js t
 pending [] s t k h = tt
@@ -53,7 +53,7 @@ pending (j ∷ js) s t k h = (k .keep j (h .0), pending js s t k (h .1))
 same : (c : Code) → Keeps c c
 same c = record { keep = λ j h. h }
 
-then : {c d e : Code} → Keeps c d → Keeps d e → Keeps c e
+pub then : {c d e : Code} → Keeps c d → Keeps d e → Keeps c e
 then k l = record { keep = λ j h. l .keep j (k .keep j h) }
 
 before : (j : ℕ) (c : Code) → T (jumpAt j c) → j < sizeOf c
@@ -64,10 +64,10 @@ before j (i ∷ is) h = go (before j is) (eqb (sizeOf is) j) refl h
     go f true e h = omega (arith, eqb-true (sizeOf is) j e)
     go f false e h = omega (arith, f h)
 
-more : (i : Instr) (c : Code) → Keeps c (i ∷ c)
+pub more : (i : Instr) (c : Code) → Keeps c (i ∷ c)
 more i c = record { keep = λ j h. subst (λ b. T (pick b (isJump i) (jumpAt j c))) (sym (ne-eqb (sizeOf c) j (λ e. omega (arith, before j c h)))) h }
 
-less : (c : Code) → lastIs opPop c ≡ true → Keeps c (withoutLast c)
+pub less : (c : Code) → lastIs opPop c ≡ true → Keeps c (withoutLast c)
 less [] e = same []
 less (i ∷ is) e = record { keep = λ j h. go j (eqb (sizeOf is) j) h }
   where
@@ -82,6 +82,9 @@ jumpAt-changeOperand j p t (i ∷ is) = go (jumpAt-changeOperand j p t is) (eqb 
     go : jumpAt j (changeOperand p t is) ≡ jumpAt j is → (b : Bool) → jumpAt j (pick b (instr (i .op) t (i .b) ∷ is) (i ∷ changeOperand p t is)) ≡ jumpAt j (i ∷ is)
     go e true = refl
     go e false = λ k. pick (eqb (sizeOf-changeOperand p t is k) j) (isJump i) (e k)
+
+pub changed : (p t : ℕ) (c : Code) → Keeps c (changeOperand p t c)
+changed p t c = record { keep = λ j h. subst T (sym (jumpAt-changeOperand j p t c)) h }
 
 -- each step keeps them
 abbrev Grows : {A : Type 0} → Code → Res State A → Type 0
@@ -169,7 +172,7 @@ unfolding patch
 landed j w {s} {t} e h r =
     record {
       same = go (jumpAt j (s .code)) h ∙ (λ i. strict .patch j (e i));
-      holds = pending w s (patch j s) (record { keep = λ k q. subst T (sym (jumpAt-changeOperand k j _ (s .code))) q }) r;
+      holds = pending w s (patch j s) (changed j (sizeOf (s .code)) (s .code)) r;
     }
   where
     go : (b : Bool) → T b → patch j s ≡ pick b (patch j s) s
@@ -188,7 +191,7 @@ appended : (s : State) (d p : ℕ) (i : Instr) → Ends (λ (_ : Unit {0}) s₁.
 unfolding emitBeside
 appended s d p i = ends-pick (leb (s .around + sizeOf (s .code) + d + size i) codeSize) (λ _. Ends.on tt refl) (λ _. Ends.stop _ s tt)
 
-at-last : (b : Bool) (c : Code) → T (jumpAt (sizeOf c) (instr (pick b opJumpNotTruthy opJump) unpatched 0 ∷ c))
+pub at-last : (b : Bool) (c : Code) → T (jumpAt (sizeOf c) (instr (pick b opJumpNotTruthy opJump) unpatched 0 ∷ c))
 at-last b c = go (eqb (sizeOf c) (sizeOf c)) (eqb-refl (sizeOf c)) b
   where
     go : (e : Bool) → T e → (b : Bool) → T (pick e (isJump (instr (pick b opJumpNotTruthy opJump) unpatched 0)) (jumpAt (sizeOf c) c))

@@ -83,7 +83,7 @@ jump-keeps {s} h p b = ends-bind (emitted h 0 p (instr (pick b opJumpNotTruthy o
     valid false = record { known = omega arith; operand = omega arith; captures = omega arith }
 
 -- a jump's operand has two bytes
-jump-width : (i : Instr) → T (isJump i) → width (i .op) ≡ 2
+pub jump-width : (i : Instr) → T (isJump i) → width (i .op) ≡ 2
 jump-width i h = go (eqb (i .op) opJumpNotTruthy) refl h
   where
     go : (b : Bool) → eqb (i .op) opJumpNotTruthy ≡ b → T (pick b true (eqb (i .op) opJump)) → width (i .op) ≡ 2

@@ -27,7 +27,7 @@ use Rattle.definition.specs.declared.Answer.the-variants.{Length, Refuse
 use Rattle.definition.proofs.Basic.{pick-true, pick-false}
 use Rattle.definition.proofs.Erase.{Alike, self}
 use Rattle.definition.proofs.Agreement.{eraseImage, eraseSession, images-agree, sessions-agree, image-length}
-use Rattle.definition.proofs.Steps.{fresh-valid, compile-valid, OutcomeLike, StepLike, withShape, compile-like}
+use Rattle.definition.proofs.Steps.{fresh-valid, not-two, compile-valid, OutcomeLike, StepLike, withShape, compile-like}
 use Rattle.definition.proofs.Sessions.{read-session, session-length}
 
 -- a buffer whose first 65,536 bytes are a session
@@ -105,7 +105,7 @@ reads-back s z h (c ∷ cs) =
     let v = compile-valid z (h .valid) (request (lent s c) (c .tree)) in
     let n = compile z (request (lent s c) (c .tree)) .session in
     All.more
-    (record { session = n; end = length (sessionFields n); reads = ap readSession (d .holds .front) ∙ read-session n (v .session); valid = v .session; sound = answer-sound (d .gave) (v .number) })
+    (record { session = n; end = length (sessionFields n); reads = ap readSession (d .holds .front) ∙ read-session n (v .session); valid = v .session; sound = answer-sound (d .gave) (λ r e. not-two (v .number r e)) })
     (reads-back _ n (d .holds) cs)
 
 made-is : (a : Bytes) → sessionSize ≤ length a → made a .session ≡ over (sessionBytes fresh) a

@@ -8,6 +8,7 @@ use mathlib.Core.Option.{none, some}
 use mathlib.Core.Path.{_≡_, refl, sym, ap, subst, _∙_}
 use lib.ListN.{length}
 use lib.Dec.{leb, T, leb→le}
+use borrow.Author.Tests.{leb-true}
 use Rattle.definition.specs.Basic.{Bytes, byteAt, pick, both}
 use Rattle.definition.specs.Number
 use Rattle.definition.specs.Number.{refusal}
@@ -21,7 +22,7 @@ use Rattle.definition.specs.Session.{Session, fresh}
 use Rattle.definition.specs.Compile.{Outcome, Step, Request, imageOf, sessionOf, start, turnedDown, finish, translate, enough, compile}
 use Rattle.definition.specs.Valid.{All, ValidImage, ValidPool, ValidSession}
 use Rattle.definition.specs.declared.Refusal.{Refusal}
-use Rattle.definition.proofs.Basic.{picked}
+use Rattle.definition.proofs.Basic.{picked, chosen}
 use Rattle.definition.proofs.WellFormed.{WfStmts}
 use Rattle.definition.proofs.Blank.{blank, mapStmts}
 use Rattle.definition.proofs.ReadShape.{mapParsed, read-shape}
@@ -65,21 +66,35 @@ module _ {A : Type 0} (P : Parsed Stmts → A → Type 0) (f : Parsed Stmts → 
 pub fresh-valid : ValidSession fresh
 fresh-valid = record { count = omega arith; names = All.none; pool = record { count = omega arith; size = omega arith; each = All.none } }
 
-start-valid : (z : Session) → ValidSession z → ValidState (start z)
+pub start-valid : (z : Session) → ValidSession z → ValidState (start z)
 start-valid z v = record { size = omega arith; code = All.none; tables = All.none; session = v }
 
--- a step from a session: a valid session and image, or the session as it was and a refusal that is not number 2
-pub record ValidStep (z : Session) (x : Step) : Type 0 where
+-- the numbers of a call past number 2
+pub record CallNumber (n : ℕ) : Type 0 where
+  pub low : Number.badTree ≤ n
+  pub high : n ≤ Number.outputShort
+
+-- and of any call in a session
+pub data CompileNumber (n : ℕ) : Type 0 where
+  short : n ≡ Number.shortBuffer → CompileNumber n
+  other : CallNumber n → CompileNumber n
+
+pub not-two : {n : ℕ} → CompileNumber n → n ≡ Number.noSession → ⊥
+not-two (CompileNumber.short e) h = omega arith
+not-two (CompileNumber.other c) h = omega (arith, c .low)
+
+-- a step from a session: a valid session and image, or the session as it was and a numbered refusal
+pub record ValidStep (N : ℕ → Type 0) (z : Session) (x : Step) : Type 0 where
   pub session : ValidSession (x .session)
   pub image : (m : Image) → x .outcome ≡ Outcome.accepted m → ValidImage m
   pub kept : (r : Refusal) → x .outcome ≡ Outcome.refused r → x .session ≡ z
-  pub number : (r : Refusal) → x .outcome ≡ Outcome.refused r → r .number ≡ Number.noSession → ⊥
+  pub number : (r : Refusal) → x .outcome ≡ Outcome.refused r → N (r .number)
 
 accepted-not-refused : (m : Image) (r : Refusal) → Outcome.accepted m ≡ Outcome.refused r → ⊥
 accepted-not-refused m r e = let z : _≡_ {A = ℕ} 0 1 = cc in omega arith
 
-turnedDown-valid : (z : Session) → ValidSession z → (r : Refusal) → (r .number ≡ Number.noSession → ⊥) → ValidStep z (turnedDown z r)
-turnedDown-valid z v r n = record { session = v; image = λ m e. absurd (accepted-not-refused m r (sym e)); kept = λ _ _. refl; number = λ q e h. n (number q e ∙ h) }
+turnedDown-valid : {N : ℕ → Type 0} (z : Session) → ValidSession z → (r : Refusal) → N (r .number) → ValidStep N z (turnedDown z r)
+turnedDown-valid {N} z v r n = record { session = v; image = λ m e. absurd (accepted-not-refused m r (sym e)); kept = λ _ _. refl; number = λ q e. subst N (number q e) n }
   where
     number : (q : Refusal) → Outcome.refused r ≡ Outcome.refused q → r .number ≡ q .number
     number q e = ap (λ x. x .number) (same q e)
@@ -87,42 +102,50 @@ turnedDown-valid z v r n = record { session = v; image = λ m e. absurd (accepte
         same : (q : Refusal) → Outcome.refused r ≡ Outcome.refused q → r ≡ q
         same q e = cc
 
-accepted-valid : (z : Session) (s : State) → ValidState s → ValidStep z (record { outcome = Outcome.accepted (imageOf s); session = sessionOf s })
+accepted-valid : {N : ℕ → Type 0} (z : Session) (s : State) → ValidState s → ValidStep N z (record { outcome = Outcome.accepted (imageOf s); session = sessionOf s })
 accepted-valid z s v =
     let image : ValidImage (imageOf s) = record { size = omega (arith, v .size); code = v .code; pool = v .session .pool } in
     record {
       session = v .session;
       image = λ m e. subst ValidImage (same m e) image;
       kept = λ r e. absurd (accepted-not-refused (imageOf s) r e);
-      number = λ r e _. absurd (accepted-not-refused (imageOf s) r e);
+      number = λ r e. absurd (accepted-not-refused (imageOf s) r e);
     }
   where
     same : (m : Image) → Outcome.accepted (imageOf s) ≡ Outcome.accepted m → imageOf s ≡ m
     same m e = cc
 
-valid-pick : {z : Session} {x y : Step} (b : Bool) → ValidStep z x → ValidStep z y → ValidStep z (pick b x y)
+valid-pick : {N : ℕ → Type 0} {z : Session} {x y : Step} (b : Bool) → ValidStep N z x → ValidStep N z y → ValidStep N z (pick b x y)
 valid-pick true h k = h
 valid-pick false h k = k
 
--- a number that is another by a test
-other-number : (least n most : ℕ) → Number.noSession < least → T (both (leb least n) (leb n most)) → n ≡ Number.noSession → ⊥
-other-number least n most l t e = go (leb least n) (λ k. leb→le least n k) t
+-- a number between two that are tested
+between : (least n most : ℕ) → Number.badTree ≤ least → most ≤ Number.outputShort → T (both (leb least n) (leb n most)) → CallNumber n
+between least n most l m t = go (leb least n) (λ k. leb→le least n k) (leb n most) (λ k. leb→le n most k) t
   where
-    go : (b : Bool) → (T b → least ≤ n) → T (both b (leb n most)) → ⊥
-    go true h t = omega (arith, h tt)
-    go false h t = t
+    go : (a : Bool) → (T a → least ≤ n) → (b : Bool) → (T b → n ≤ most) → T (both a b) → CallNumber n
+    go true h true k t = let x = h tt in let y = k tt in record { low = omega arith; high = omega arith }
+    go true h false k t = absurd t
+    go false h b k t = absurd t
 
-finish-valid : (n : ℕ) (z : Session) → ValidSession z → {x : Res State (Unit {0})} → Ends (λ (_ : Unit {0}). ValidState) x → ValidStep z (finish n z x)
-finish-valid n z v (Ends.on a {s} h) = valid-pick (leb (length (imageBytes (imageOf s))) n) (accepted-valid z s h) (turnedDown-valid z v (refusal Number.outputShort 0) (λ e. omega arith))
-finish-valid n z v (Ends.stop r s w) = turnedDown-valid z v r (other-number Number.undefined (r .number) Number.nesting (omega arith) w)
+finish-valid : (n : ℕ) (z : Session) → ValidSession z → {x : Res State (Unit {0})} → Ends (λ (_ : Unit {0}). ValidState) x → ValidStep CallNumber z (finish n z x)
+finish-valid n z v (Ends.on a {s} h) = valid-pick (leb (length (imageBytes (imageOf s))) n) (accepted-valid z s h) (turnedDown-valid z v (refusal Number.outputShort 0) (record { low = omega arith; high = omega arith }))
+finish-valid n z v (Ends.stop r s w) = turnedDown-valid z v r (between Number.undefined (r .number) Number.nesting (omega arith) (omega arith) w)
 
-pub compile-valid : (z : Session) → ValidSession z → (c : Request) → ValidStep z (compile z c)
+-- past numbers 1 and 2
+pub translate-valid : (n : ℕ) (z : Session) → ValidSession z → (tree : Bytes) → ValidStep CallNumber z (translate n z (readTree tree))
+translate-valid n z v tree =
+    by-reading (λ _ x. ValidStep CallNumber z x) (λ p. translate n z p) (λ b _ w. finish-valid n z v (walk-limits b w (start-valid z v)))
+    (λ r t. turnedDown-valid z v r (between Number.badTree (r .number) Number.tooDeep (omega arith) (omega arith) t)) tree
+
+-- with another account of the numbers
+renumbered : {N M : ℕ → Type 0} {z : Session} {x : Step} → ((n : ℕ) → N n → M n) → ValidStep N z x → ValidStep M z x
+renumbered f v = record { session = v .session; image = v .image; kept = v .kept; number = λ r e. f (r .number) (v .number r e) }
+
+pub compile-valid : (z : Session) → ValidSession z → (c : Request) → ValidStep CompileNumber z (compile z c)
 unfolding compile
 compile-valid z v c =
-    valid-pick (enough c)
-    (by-reading (λ _ x. ValidStep z x) (λ p. translate (c .output) z p) (λ b _ w. finish-valid (c .output) z v (walk-limits b w (start-valid z v)))
-    (λ r t. turnedDown-valid z v r (other-number Number.badTree (r .number) Number.tooDeep (omega arith) t)) (c .tree))
-    (turnedDown-valid z v (refusal Number.shortBuffer 0) (λ e. omega arith))
+    valid-pick (enough c) (renumbered (λ _ k. CompileNumber.other k) (translate-valid (c .output) z v (c .tree))) (turnedDown-valid z v (refusal Number.shortBuffer 0) (CompileNumber.short refl))
 
 -- A call and that with the tree's shape, from sessions that differ in literals alone
 
@@ -167,3 +190,26 @@ refused-like (OutcomeLike.refused q) r = (λ e. e, λ e. e)
 
 pub shape-refused : (z : Session) (c : Request) (r : Refusal) → (compile z c .outcome ≡ Outcome.refused r) ↔ (compile z (withShape c) .outcome ≡ Outcome.refused r)
 shape-refused z c r = refused-like (compile-like (self z) c .outcome) r
+
+-- An image that was accepted fits the output
+
+record FitsOutput (n : ℕ) (x : Step) : Type 0 where
+  fits : (m : Image) → x .outcome ≡ Outcome.accepted m → length (imageBytes m) ≤ n
+
+turnedDown-fits : (n : ℕ) (z : Session) (r : Refusal) → FitsOutput n (turnedDown z r)
+turnedDown-fits n z r = record { fits = λ m e. absurd (accepted-not-refused m r (sym e)) }
+
+finish-fits : (n : ℕ) (z : Session) (x : Res State (Unit {0})) → FitsOutput n (finish n z x)
+finish-fits n z (Res.on a s) =
+    chosen (FitsOutput n) (leb (length (imageBytes (imageOf s))) n)
+    (λ t. record { fits = λ m e. let same : imageOf s ≡ m = cc in subst (λ k. length (imageBytes k) ≤ n) same (leb-true _ _ t) }) (λ _. turnedDown-fits n z (refusal Number.outputShort 0))
+finish-fits n z (Res.stop r s) = turnedDown-fits n z r
+
+translate-fits : (n : ℕ) (z : Session) (p : Parsed Stmts) → FitsOutput n (translate n z p)
+translate-fits n z (Parsed.parsed b k) = finish-fits n z (walkStmts machine b (start z))
+translate-fits n z (Parsed.refused r) = turnedDown-fits n z r
+
+pub compile-fits : (z : Session) (c : Request) (m : Image) → compile z c .outcome ≡ Outcome.accepted m → length (imageBytes m) ≤ c .output
+unfolding compile
+compile-fits z c =
+    chosen (FitsOutput (c .output)) (enough c) (λ _. translate-fits (c .output) z (readTree (c .tree))) (λ _. turnedDown-fits (c .output) z (refusal Number.shortBuffer 0)) .fits

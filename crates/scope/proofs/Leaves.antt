@@ -1,10 +1,10 @@
 -- Each leaf's step is the machine's step.
-use Prim.Native.Nat.{ℕ, suc, _+_, _/_, _%_, _≤_, _<_}
+use Prim.Native.Nat.{ℕ, _+_, _/_, _%_, _≤_, _<_}
 use native.Mathlib.Omega.{arith}
 use mathlib.Core.Bool.{Bool, true, false}
-use mathlib.Core.List.{List, [], _∷_}
-use mathlib.Core.Path.{_≡_, refl, sym, subst, _∙_}
-use lib.Dec.{leb, ltb, eqb}
+use mathlib.Core.List.{[], _∷_}
+use mathlib.Core.Path.{_≡_, refl, sym, _∙_}
+use lib.Dec.{ltb, eqb}
 use lib.ListN.{length, set, length-set}
 use lib.Seq.{sets, length-sets}
 use borrow.Author.Tests.{le-leb, lt-leb, lt-ltb, le-ltb, ltb-true}
@@ -12,7 +12,7 @@ use Rattle.definition.specs.Basic.{Bytes, byteAt}
 use Rattle.definition.specs.Limit.{codeSize}
 use Rattle.definition.specs.Number
 use Rattle.definition.specs.Opcode.{Instr, instr, plain, size, bytesOf, width, opPop, opJump, opReturnValue, opReturn}
-use Rattle.definition.specs.Walk.{on, refuse, bind, Go, operate}
+use Rattle.definition.specs.Walk.{on, refuse, bind, Go}
 use Rattle.definition.specs.Compiler.{unpatched}
 use Rattle.definition.specs.declared.Refusal.{Refusal}
 use Rattle.definition.proofs.Basic.{both-left}
@@ -21,9 +21,9 @@ use Rattle.scope.specs.declared.State.{State}
 use Rattle.scope.specs.declared.Walked.{Walked}
 use Rattle.scope.specs.declared.Walked.the-variants.{On, Stop}
 use Rattle.scope.specs.declared.Jumped.{Jumped}
-use Rattle.scope.specs.View.{Symbols, View, view, ended, endedAt, then, Fits, Sound, Ready, Done, Jumps, Refuses, outlineOf}
-use Rattle.scope.specs.Machine.{machine, here, longer, put, emit, jump, patch, lastIs, withoutLast, dropped, returned}
-use Rattle.scope.specs.Code.{noOpcode, opcodeOf, lengthOf, jumpAndPatch}
+use Rattle.scope.specs.View.{Symbols, View, view, ended, endedAt, then, Fits, Ready, Done, Jumps, Refuses}
+use Rattle.scope.specs.Machine.{here, longer, put, emit, jump, patch, lastIs, withoutLast, dropped, returned}
+use Rattle.scope.specs.Code.{lengthOf, jumpAndPatch}
 
 -- a walk that goes on
 pub ready-on : {c : Bytes} {w : Walked} {s : State} → w ≡ On s → Ready c w → Ready c (On s)

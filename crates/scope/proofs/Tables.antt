@@ -5,7 +5,6 @@ use mathlib.Core.List.{List, [], _∷_, _++_, map}
 use mathlib.Core.Option.{Option, none, some}
 use mathlib.Core.Path.{_≡_, refl}
 use lib.ListN.{length, getD, replicate}
-use Rattle.definition.specs.Basic.{Bytes}
 use Rattle.scope.specs.Code.{noOpcode, opcodeOf}
 
 -- past a table stand zeros

@@ -1,26 +1,22 @@
 // The open chunks in the code area, as the Rust's CompilationScope has them: the chunk in work is a record by value.
 ghost use mathlib.Core.Path.{_≡_};
-ghost use Prim.Native.Nat.{_+_, _≤_, _<_};
+ghost use Prim.Native.Nat.{_+_, _≤_};
 ghost use lib.ListN.{length, getD};
 ghost use mathlib.Core.Option.{none};
 ghost use Rattle.definition.specs.Limit.{codeSize};
-ghost use Rattle.definition.specs.Number.{refusal};
-ghost use Rattle.definition.specs.Opcode.{instr, plain, opClosure, opJump};
-ghost use Rattle.definition.specs.Walk.{on, bind, operate, prefixes, infixes};
-ghost use Rattle.scope.specs.View.{Ready, Done, Jumps, Refuses, Fits};
-ghost use Rattle.scope.specs.Machine as machine;
+ghost use Rattle.definition.specs.Opcode.{instr, plain, opClosure};
+ghost use Rattle.definition.specs.Walk.{on, operate, prefixes, infixes};
+ghost use Rattle.scope.specs.View.{Ready, Done, Jumps, Refuses};
+ghost use Rattle.scope.specs.Machine;
 ghost use Rattle.scope.specs.Code.{lengthOf, opcodeOf, jumpAndPatch};
 
 mod instruction;
-pub mod opcode;
+pub mod numbers;
+pub mod opcodes;
+mod widths;
 
 // The size of the code area: the open chunks together.
-const CODE_SIZE: usize = 32768;
-
-// The number sent back where code would pass it, and for an operator that is none.
-const CODE_FULL: usize = 13;
-
-const NO_OPERATOR: usize = 6;
+pub const CODE_SIZE: usize = 32768;
 
 // The target of a jump that is not yet patched.
 const UNPATCHED: usize = 9999;
@@ -57,7 +53,7 @@ pub struct Jumped {
 
 // The state with another chunk in work.
 fn with_chunk(s: State, c: Chunk) -> State
-    ensures { λ r. ⌜ r ≡ machine.withChunk c s ⌝ }
+    ensures { λ r. ⌜ r ≡ Machine.withChunk c s ⌝ }
 {
     State {
         chunk: c,
@@ -71,7 +67,7 @@ fn with_chunk(s: State, c: Chunk) -> State
 // The chunk with an instruction of `n` bytes more.
 fn longer(s: State, n: usize) -> State
     requires { ⌜ s .chunk .len + n ≤ codeSize ⌝ }
-    ensures { λ r. ⌜ r ≡ machine.longer n s ⌝ }
+    ensures { λ r. ⌜ r ≡ Machine.longer n s ⌝ }
 {
     let c = s.chunk;
     let next = Chunk {
@@ -85,7 +81,7 @@ fn longer(s: State, n: usize) -> State
 
 // The chunk without its last instruction.
 fn without_last(s: State) -> State
-    ensures { λ r. ⌜ r ≡ machine.withoutLast s ⌝ }
+    ensures { λ r. ⌜ r ≡ Machine.withoutLast s ⌝ }
 {
     let c = s.chunk;
     let next = Chunk {
@@ -100,7 +96,7 @@ fn without_last(s: State) -> State
 // Whether the chunk's last instruction is of that byte.
 fn last_is(code: &[u8], c: Chunk, op: u8) -> bool
     requires { ⌜ c .start + c .len ≤ length (now code) ⌝ }
-    ensures { λ r. ⌜ r ≡ machine.lastIs op (now (code .entry)) c ⌝ }
+    ensures { λ r. ⌜ r ≡ Machine.lastIs op (now (code .entry)) c ⌝ }
 {
     if c.last < c.len {
         let at = c.start + c.last;
@@ -145,15 +141,15 @@ pub fn refuse(w: Walked, number: usize, place: usize) -> Walked
 // Emits an instruction, with the operands that its first byte has.
 fn emit_instruction(code: &mut [u8], w: Walked, place: usize, op: u8, a: usize, b: usize) -> Walked
     requires { ⌜ Ready (now code) w ⌝ }
-    ensures { λ r. ⌜ Done (now (code .entry)) (now (code .exit)) w r (machine.emit place (instr op a b)) ⌝ }
+    ensures { λ r. ⌜ Done (now (code .entry)) (now (code .exit)) w r (Machine.emit place (instr op a b)) ⌝ }
 {
     match w {
         Walked::On(s) => {
             let c = s.chunk;
             let at = c.start + c.len;
-            let n = 1 + opcode::operand_length(op);
+            let n = 1 + widths::operand_length(op);
             if CODE_SIZE < at + n {
-                return refuse(w, CODE_FULL, place);
+                return refuse(w, numbers::CODE, place);
             }
             instruction::write_instruction(code, at, op, a, b);
             Walked::On(longer(s, n))
@@ -165,7 +161,7 @@ fn emit_instruction(code: &mut [u8], w: Walked, place: usize, op: u8, a: usize, 
 // Emits an instruction without operands.
 pub fn emit(code: &mut [u8], w: Walked, place: usize, op: u8) -> Walked
     requires { ⌜ Ready (now code) w ⌝ }
-    ensures { λ r. ⌜ Done (now (code .entry)) (now (code .exit)) w r (machine.emit place (plain op)) ⌝ }
+    ensures { λ r. ⌜ Done (now (code .entry)) (now (code .exit)) w r (Machine.emit place (plain op)) ⌝ }
 {
     emit_instruction(code, w, place, op, 0, 0)
 }
@@ -173,7 +169,7 @@ pub fn emit(code: &mut [u8], w: Walked, place: usize, op: u8) -> Walked
 // Emits an instruction with at most one operand, of one or two bytes.
 pub fn emit_any(code: &mut [u8], w: Walked, place: usize, op: u8, operand: usize) -> Walked
     requires { ⌜ Ready (now code) w ⌝ }
-    ensures { λ r. ⌜ Done (now (code .entry)) (now (code .exit)) w r (machine.emit place (instr op operand 0)) ⌝ }
+    ensures { λ r. ⌜ Done (now (code .entry)) (now (code .exit)) w r (Machine.emit place (instr op operand 0)) ⌝ }
 {
     emit_instruction(code, w, place, op, operand, 0)
 }
@@ -187,15 +183,15 @@ pub fn emit_closure(
     captures: usize,
 ) -> Walked
     requires { ⌜ Ready (now code) w ⌝ }
-    ensures { λ r. ⌜ Done (now (code .entry)) (now (code .exit)) w r (machine.emit place (instr opClosure constant captures)) ⌝ }
+    ensures { λ r. ⌜ Done (now (code .entry)) (now (code .exit)) w r (Machine.emit place (instr opClosure constant captures)) ⌝ }
 {
-    emit_instruction(code, w, place, opcode::CLOSURE, constant, captures)
+    emit_instruction(code, w, place, opcodes::CLOSURE, constant, captures)
 }
 
 // Emits a jump without its target, and says at which position.
 pub fn jump(code: &mut [u8], w: Walked, place: usize, op: u8) -> Jumped
     requires { ⌜ Ready (now code) w ⌝ }
-    ensures { λ r. ⌜ Jumps (now (code .entry)) (now (code .exit)) w r (machine.jump place op) ⌝ }
+    ensures { λ r. ⌜ Jumps (now (code .entry)) (now (code .exit)) w r (Machine.jump place op) ⌝ }
 {
     let at = position(w);
     let r = emit_any(code, w, place, op, UNPATCHED);
@@ -205,7 +201,7 @@ pub fn jump(code: &mut [u8], w: Walked, place: usize, op: u8) -> Jumped
 // The jump at a position goes to what comes next.
 pub fn patch(code: &mut [u8], w: Walked, at: usize) -> Walked
     requires { ⌜ Ready (now code) w ⌝ }
-    ensures { λ r. ⌜ Done (now (code .entry)) (now (code .exit)) w r (λ v. on tt (machine.patch at v)) ⌝ }
+    ensures { λ r. ⌜ Done (now (code .entry)) (now (code .exit)) w r (λ v. on tt (Machine.patch at v)) ⌝ }
 {
     match w {
         Walked::On(s) => {
@@ -228,7 +224,7 @@ pub fn jump_and_patch(code: &mut [u8], w: Walked, place: usize, at: usize) -> Ju
     requires { ⌜ Ready (now code) w ⌝ }
     ensures { λ r. ⌜ Jumps (now (code .entry)) (now (code .exit)) w r (jumpAndPatch place at) ⌝ }
 {
-    let away = jump(code, w, place, opcode::JUMP);
+    let away = jump(code, w, place, opcodes::JUMP);
     let v = away.walked;
     let r = patch(code, v, at);
     Jumped {
@@ -240,12 +236,12 @@ pub fn jump_and_patch(code: &mut [u8], w: Walked, place: usize, at: usize) -> Ju
 // Drops a branch's last Pop.
 pub fn drop_pop(code: &mut [u8], w: Walked, _place: usize) -> Walked
     requires { ⌜ Ready (now code) w ⌝ }
-    ensures { λ r. ⌜ Done (now (code .entry)) (now (code .exit)) w r (λ v. on tt (machine.dropped v)) ⌝ }
+    ensures { λ r. ⌜ Done (now (code .entry)) (now (code .exit)) w r (λ v. on tt (Machine.dropped v)) ⌝ }
 {
     match w {
         Walked::On(s) => {
             let c = s.chunk;
-            if last_is(code, c, opcode::POP) {
+            if last_is(code, c, opcodes::POP) {
                 return Walked::On(without_last(s));
             }
             w
@@ -257,20 +253,20 @@ pub fn drop_pop(code: &mut [u8], w: Walked, _place: usize) -> Walked
 // Ends a function's chunk: its last Pop becomes ReturnValue; where ReturnValue isn't last, Return follows.
 pub fn returned(code: &mut [u8], w: Walked, place: usize) -> Walked
     requires { ⌜ Ready (now code) w ⌝ }
-    ensures { λ r. ⌜ Done (now (code .entry)) (now (code .exit)) w r (machine.returned place) ⌝ }
+    ensures { λ r. ⌜ Done (now (code .entry)) (now (code .exit)) w r (Machine.returned place) ⌝ }
 {
     match w {
         Walked::On(s) => {
             let c = s.chunk;
-            if last_is(code, c, opcode::POP) {
+            if last_is(code, c, opcodes::POP) {
                 let at = c.start + c.last;
-                code[at] = opcode::RETURN_VALUE;
+                code[at] = opcodes::RETURN_VALUE;
                 return w;
             }
-            if last_is(code, c, opcode::RETURN_VALUE) {
+            if last_is(code, c, opcodes::RETURN_VALUE) {
                 return w;
             }
-            emit(code, w, place, opcode::RETURN)
+            emit(code, w, place, opcodes::RETURN)
         }
         Walked::Stop(r, s) => w,
     }
@@ -279,18 +275,18 @@ pub fn returned(code: &mut [u8], w: Walked, place: usize) -> Walked
 // Emits a boolean's instruction.
 pub fn boolean(code: &mut [u8], w: Walked, place: usize, b: u8) -> Walked
     requires { ⌜ Ready (now code) w ⌝ }
-    ensures { λ r. ⌜ Done (now (code .entry)) (now (code .exit)) w r (machine.machine .boolean place b) ⌝ }
+    ensures { λ r. ⌜ Done (now (code .entry)) (now (code .exit)) w r (Machine.machine .boolean place b) ⌝ }
 {
-    emit(code, w, place, opcode::boolean_opcode(b))
+    emit(code, w, place, opcodes::boolean_opcode(b))
 }
 
 // Emits an operator's instruction, or refuses where it has none.
 fn operator(code: &mut [u8], w: Walked, place: usize, op: u8) -> Walked
     requires { ⌜ Ready (now code) w ⌝ }
-    ensures { λ r. ⌜ Done (now (code .entry)) (now (code .exit)) w r (operate machine.machine place (opcodeOf op)) ⌝ }
+    ensures { λ r. ⌜ Done (now (code .entry)) (now (code .exit)) w r (operate Machine.machine place (opcodeOf op)) ⌝ }
 {
-    if op == opcode::NONE {
-        return refuse(w, NO_OPERATOR, place);
+    if op == opcodes::NONE {
+        return refuse(w, numbers::OPERATOR, place);
     }
     emit(code, w, place, op)
 }
@@ -298,15 +294,15 @@ fn operator(code: &mut [u8], w: Walked, place: usize, op: u8) -> Walked
 // Emits the instruction of a prefix operator.
 pub fn prefix_operator(code: &mut [u8], w: Walked, place: usize, o: u8) -> Walked
     requires { ⌜ Ready (now code) w ⌝ }
-    ensures { λ r. ⌜ Done (now (code .entry)) (now (code .exit)) w r (operate machine.machine place (getD prefixes o none)) ⌝ }
+    ensures { λ r. ⌜ Done (now (code .entry)) (now (code .exit)) w r (operate Machine.machine place (getD prefixes o none)) ⌝ }
 {
-    operator(code, w, place, opcode::prefix_opcode(o))
+    operator(code, w, place, opcodes::prefix_opcode(o))
 }
 
 // Emits the instruction of an infix operator.
 pub fn infix_operator(code: &mut [u8], w: Walked, place: usize, o: u8) -> Walked
     requires { ⌜ Ready (now code) w ⌝ }
-    ensures { λ r. ⌜ Done (now (code .entry)) (now (code .exit)) w r (operate machine.machine place (getD infixes o none)) ⌝ }
+    ensures { λ r. ⌜ Done (now (code .entry)) (now (code .exit)) w r (operate Machine.machine place (getD infixes o none)) ⌝ }
 {
-    operator(code, w, place, opcode::infix_opcode(o))
+    operator(code, w, place, opcodes::infix_opcode(o))
 }

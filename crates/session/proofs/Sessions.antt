@@ -74,7 +74,7 @@ written-append w [] old = sym (append-nil (written w old))
 written-append w (x ∷ new) old = ap (λ b. b ++ w x) (written-append w new old) ∙ append-assoc (written w old) (written w new) (w x)
 
 -- the old names stand in front; the new ones are stored behind them, then the names' head and the pool
-finished-fields : (e old new pool : Bytes) {k end : ℕ} → k ≡ 3 + length old → end ≡ k + length new → take k e ≡ field tagNames old
+pub finished-fields : (e old new pool : Bytes) {k end : ℕ} → k ≡ 3 + length old → end ≡ k + length new → take k e ≡ field tagNames old
     → finished end pool (sets e k new) ≡ sets e 0 (field tagNames (old ++ new) ++ field tagPool pool)
 finished-fields e old new pool {k} {end} p q h =
     let all = old ++ new in

@@ -1,65 +1,33 @@
-use Rattle.definition.proofs.Instructions.{width-most}
-use native.Mathlib.Omega.{arith}
-use Rattle.scope.proofs.Leaves.{fits, stays, emit-on, emit-full}
+-- An instruction is emitted where there is room for its bytes.
 use borrow.Author.Needs.{needs}
-use Rattle.scope.proofs.emit_instruction.Statement.{statement}
+use native.Mathlib.Omega.{arith}
+use Rattle.definition.proofs.Instructions.{width-most}
+use Rattle.scope.specs.View.{Fits}
+use Rattle.scope.proofs.Leaves.{fits, stays, emit-on, emit-full}
 use Rattle.scope.proofs.emit_instruction.Tie as tie
-use Rattle.scope.proofs.emit_instruction.Reads as reads
-use Rattle.scope.proofs.emit_instruction.Lts as lts
-use Rattle.scope.proofs.instruction.write_instruction.Reads as write-instruction-reads
-use Rattle.scope.proofs.longer.Reads as longer-reads
-use Rattle.scope.proofs.opcode.operand_length.Reads as operand-length-reads
-use Rattle.scope.proofs.refuse.Reads as refuse-reads
+use Rattle.scope.proofs.emit_instruction.Statement.{statement}
 
--- src/lib.rt:151:20
-enum-known-w : tie.Need-enum-known-w
-enum-known-w c = search needs
+-- the chunk in work is within the code area
+chunk-fits : (c : tie.After-w) → Fits (c .w .given .0 .0)
+chunk-fits c = fits (c .w .given .1) (c .before .before .before .pre)
 
--- src/lib.rt:153:22
 add-at : tie.Need-add-at
-add-at c = let f = fits (c .before .before .before .w .given .1) (c .before .before .before .before .before .before .pre) in omega arith
+add-at c = let f = chunk-fits (c .before .before .before) in omega arith
 
--- src/lib.rt:154:25
-operand-length-requires : tie.Need-operand-length-requires
-operand-length-requires c κs = search needs
-
--- src/lib.rt:154:21
 add-n : tie.Need-add-n
 add-n c = omega (arith, c .operand-length .ensures, width-most (c .before .before .before .before .before .before .before .args .op))
 
--- src/lib.rt:155:28
 add-if1 : tie.Need-add-if1
-add-if1 c = let f = fits (c .before .before .before .before .w .given .1) (c .before .before .before .before .before .before .before .pre) in omega (arith, c .operand-length .ensures, width-most (c .before .before .before .before .before .before .before .args .op))
+add-if1 c =
+    let f = chunk-fits (c .before .before .before .before) in
+    omega (arith, c .operand-length .ensures, width-most (c .before .before .before .before .before .before .before .args .op))
 
--- src/lib.rt:156:17
-refuse-requires : tie.Need-refuse-requires
-refuse-requires c κs = search needs
-
--- src/lib.rt:156:17
 returns : tie.Need-returns
 returns c = search emit-full
 
--- src/lib.rt:158:13
-write-instruction-requires : tie.Need-write-instruction-requires
-write-instruction-requires c κs = search needs
-
--- src/lib.rt:159:24
-longer-requires : tie.Need-longer-requires
-longer-requires c κs = search needs
-
--- src/lib.rt:161:22
-enum-known-w-2 : tie.Need-enum-known-w-2
-enum-known-w-2 c = search needs
-
--- src/lib.rt:146:1
-same-length : tie.Need-same-length
-same-length c = search needs
-
--- src/lib.rt:146:1
 returns-2 : tie.Need-returns-2
 returns-2 c = search emit-on
 
--- src/lib.rt:146:1
 returns-3 : tie.Need-returns-3
 returns-3 c = search stays
 
@@ -67,16 +35,16 @@ pub emit-instruction-spec : {M : Type 1} → statement M
 emit-instruction-spec =
     tie.close
     (tie.spec
-    enum-known-w
+    (λ c. search needs)
     add-at
-    operand-length-requires
+    (λ c κs. search needs)
     add-n
     add-if1
-    refuse-requires
+    (λ c κs. search needs)
     returns
-    write-instruction-requires
-    longer-requires
-    enum-known-w-2
-    same-length
+    (λ c κs. search needs)
+    (λ c κs. search needs)
+    (λ c. search needs)
+    (λ c. search needs)
     returns-2
     returns-3)

@@ -1,0 +1,93 @@
+-- The three conditions, about any calls that keep the promise of `compile`.
+use Prim.Native.Nat.{ℕ, _≤_}
+use native.Mathlib.Omega.{arith}
+use mathlib.Core.Bool.{Bool, true, false}
+use mathlib.Core.List.{List, [], _∷_, _++_}
+use mathlib.Core.Logic.{_↔_}
+use mathlib.Core.Path.{_≡_, refl, sym, ap, subst, subst₂, _∙_}
+use lib.ListN.{length, take, drop}
+use lib.Dec.{leb}
+use lib.Seq.{take-append-seam, drop-append-seam, drop-at}
+use borrow.Author.Tests.{leb-true}
+use Rattle.definition.specs.Basic.{Bytes, byteAt, pick}
+use Rattle.definition.specs.Limit.{sessionSize, codeSize, tableSize}
+use Rattle.definition.specs.Number
+use Rattle.definition.specs.Number.{refusal}
+use Rattle.definition.specs.Bytecode.{Image, imageBytes}
+use Rattle.definition.specs.Session.{Session, sessionBytes}
+use Rattle.definition.specs.Decode.{Decoded, decoded, malformed, readSession}
+use Rattle.definition.specs.Compile.{Outcome, Step, Request, enough, compile}
+use Rattle.definition.specs.Call.{Lent, Called, over, cleared, answered, refusedCall, inSession, request, call, made}
+use Rattle.definition.specs.Series.{Call, lent, calls, AllAlike, shapes, Indistinguishable}
+use Rattle.definition.specs.declared.Refusal.{Refusal}
+use Rattle.definition.specs.declared.Answer.{Answer}
+use Rattle.definition.specs.declared.Answer.the-variants.{Length, Refused}
+use Rattle.definition.specs.Valid.{AreBytes}
+use Rattle.definition.proofs.Sessions.{write-session, session-length}
+use Rattle.definition.proofs.Steps.{CallNumber, translate-valid, compile-valid, compile-fits}
+use Rattle.definition.proofs.Series.{condition-3}
+use Rattle.compiler.proofs.Whole.{compile-is, call-enough, call-short, long-front}
+use Rattle.compiler.specs.Promise.{Compiles, Makes, Cleared, Ended, Ran, Wrote, Exact}
+
+-- Condition 3
+
+-- a series that ran is the definition's
+ran-calls : {s : Bytes} {cs : List Call} {xs : List Called} → Ran s cs xs → xs ≡ calls s cs
+ran-calls Ran.none = refl
+ran-calls (Ran.more {s} {c} {r} {l′} {cs} p q) = λ i. record { answer = p .answer i; lent = p .lent i } ∷ (ran-calls q ∙ ap (λ (l : Lent). calls (l .session) cs) (p .lent)) i
+
+-- Two series of compile calls, each from a session made in a buffer of its own, whose lent lengths are equal and whose trees have equal
+-- shapes, call by call, can't be told apart but by the literals' bytes
+pub compile-condition-3 : (a b a′ b′ : Bytes) {r q : Answer} → Makes a r a′ → Makes b q b′ → sessionSize ≤ length a → length a ≡ length b
+    → (cs ds : List Call) → AllAlike cs ds → (xs ys : List Called) → Ran a′ cs xs → Ran b′ ds ys → Indistinguishable (shapes (length a) cs) xs ys
+compile-condition-3 a b a′ b′ m n h e cs ds alike xs ys x y =
+    subst₂ (Indistinguishable (shapes (length a) cs)) (sym (ran-calls x ∙ ap (λ s. calls s cs) (m .session))) (sym (ran-calls y ∙ ap (λ s. calls s ds) (n .session)))
+    (condition-3 a b h e cs ds alike)
+
+-- Condition 2
+
+module _ (tree : Bytes) (l : Lent) (z : Session) (n : ℕ) (big : enough (request l tree) ≡ true) (reads : readSession (take sessionSize (l .session)) ≡ decoded z n) where
+  abbrev next : Step
+  next = compile z (request l tree)
+
+  call-in : call tree l ≡ answered l (next .session) (next .outcome)
+  call-in = call-enough tree l big ∙ ap (inSession l tree) reads
+
+  exact : (o : Outcome) → next .outcome ≡ o → (r : Answer) (l′ : Lent) → r ≡ answered l (next .session) o .answer → l′ ≡ answered l (next .session) o .lent → Exact tree z l r l′
+  exact (Outcome.accepted m) e r l′ a b =
+      record {
+        accepted = λ k h. let same : m ≡ k = cc in
+            subst (λ k. Wrote k (next .session) l r l′) same (record { length = a; output = ap (λ (x : Lent). x .output) b; session = ap (λ (x : Lent). x .session) b });
+        refused = λ q. (λ h. let w : _≡_ {A = ℕ} 0 1 = cc in absurd (omega arith), λ h. let w : _≡_ {A = ℕ} 0 1 = cc in absurd (omega arith));
+      }
+  exact (Outcome.refused q) e r l′ a b =
+      record { accepted = λ k h. let w : _≡_ {A = ℕ} 0 1 = cc in absurd (omega arith); refused = λ p. (λ h. let same : q ≡ p = cc in a ∙ ap Refused same, λ h. let same : q ≡ p = cc in e ∙ ap Outcome.refused same) }
+
+  -- image and session are the definition's, and a tree is refused exactly when the definition refuses it
+  pub compile-condition-2 : (r : Answer) (l′ : Lent) → Compiles tree l r l′ → Exact tree z l r l′
+  compile-condition-2 r l′ p = exact (next .outcome) refl r l′ (p .answer ∙ ap (λ (x : Called). x .answer) call-in) (p .lent ∙ ap (λ (x : Called). x .lent) call-in)
+
+-- Condition 1
+
+-- how a call past numbers 1 and 2 ends, by its outcome
+ends : (l : Lent) (o : Outcome) → ((m : Image) → o ≡ Outcome.accepted m → length (imageBytes m) ≤ length (l .output)) → ((r : Refusal) → o ≡ Outcome.refused r → CallNumber (r .number))
+    → (z : Session) → length (sessionBytes z) ≡ sessionSize → Ended l (answered l z o .answer) (answered l z o .lent)
+ends l (Outcome.accepted m) f k z s =
+    Ended.answered (f m refl) (drop-append-seam (imageBytes m) _) (drop-at (sessionBytes z) _ sessionSize s ∙ ap (λ n. drop n (l .session)) s) (record { code = refl; table = refl })
+ends l (Outcome.refused r) f k z s = let c = k r refl in Ended.refused {r = r} (omega (arith, c .low)) (c .high) refl refl (record { code = refl; table = refl })
+
+-- Every call on bytes: an answer, or a numbered refusal with its place that leaves session and output as they were
+pub compile-condition-1 : (tree : Bytes) (l : Lent) (r : Answer) (l′ : Lent) → AreBytes (take sessionSize (l .session)) → Compiles tree l r l′ → Ended l r l′
+compile-condition-1 tree l r l′ a p = subst₂ (Ended l) (sym (p .answer)) (sym (p .lent)) (go (enough (request l tree)) refl)
+  where
+    within : (d : Decoded Session) → readSession (take sessionSize (l .session)) ≡ d → enough (request l tree) ≡ true → Ended l (inSession l tree d .answer) (inSession l tree d .lent)
+    within (decoded z n) e big =
+        let v = write-session (take sessionSize (l .session)) a (long-front tree l big) e .sound in
+        let t = translate-valid (length (l .output)) z v tree in
+        let c = compile-valid z v (request l tree) in
+        ends l (compile z (request l tree) .outcome) (compile-fits z (request l tree)) (λ q h. t .number q (sym (ap (λ (x : Step). x .outcome) (compile-is tree l big z)) ∙ h)) (compile z (request l tree) .session) (session-length _ (c .session))
+    within (malformed n) e big = Ended.refused {r = refusal Number.noSession 0} (omega arith) (omega arith) refl refl (record { code = refl; table = refl })
+
+    go : (b : Bool) → enough (request l tree) ≡ b → Ended l (call tree l .answer) (call tree l .lent)
+    go true e = subst (λ (x : Called). Ended l (x .answer) (x .lent)) (sym (call-enough tree l e)) (within (readSession (take sessionSize (l .session))) refl e)
+    go false e = subst (λ (x : Called). Ended l (x .answer) (x .lent)) (sym (call-short tree l e)) (Ended.short refl refl refl)

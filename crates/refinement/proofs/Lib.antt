@@ -1,0 +1,13 @@
+pub mod Stores
+pub mod Tests
+pub mod Area
+pub mod Operands
+pub mod Constants
+pub mod Depth
+pub mod Steps
+pub mod Loads
+pub mod Functions
+pub mod Closing
+pub mod Walk
+pub mod Outcome
+pub mod Buffer
