@@ -1,2 +1,4 @@
 pub mod Memory
 pub mod Constants
+pub mod Symbols
+pub mod Functions

@@ -10,7 +10,7 @@ use Rattle.definition.specs.declared.Refusal.{Refusal}
 use Rattle.scope.specs.declared.State.{State}
 use Rattle.scope.specs.declared.Walked.{Walked}
 use Rattle.scope.specs.declared.Walked.the-variants.{On, Stop}
-use Rattle.scope.specs.View.{Symbols, View, view, ended, then, Outline, outline, outlineOf, Done, Refuses}
+use Rattle.scope.specs.View.{Symbols, View, view, ended, then, Outline, outline, outlineOf, Ready, Done, Refuses}
 use Rattle.step.specs.Memory.{Rest, stateOf, symbolsOf, noSymbols, settled, result, memory, Roomy, FineState, Fine, Deeper, Keeps}
 use Rattle.step.specs.Contract.{Steps}
 
@@ -118,6 +118,10 @@ module _ (tree : Bytes) {c c′ : Bytes} (m : Rest) {k : Go View} where
 
 pub done-steps : {tree c c′ : Bytes} {m : Rest} {k : Go View} {w r : Walked} → Fine tree m w → Done c c′ w r k → Steps tree k c c′ m m w r
 done-steps {tree = tree} {m = m} {w = w} {r = r} f d = record { step = λ _ _. done-step tree m w r d; ready = d .ready; fine = done-fine tree m w r d f; keeps = done-keeps tree m w r d }
+
+-- a walk that has stopped stays as it is
+pub stays : {tree c : Bytes} {m : Rest} {k : Go View} {w : Walked} {x : Refusal} {s : State} → w ≡ Stop x s → Ready c w → Steps tree k c c m m w (Stop x s)
+stays {x = x} {s = s} q h = rw q (record { step = λ _ _. refl; ready = record { area = h .area; sound = tt }; fine = tt; keeps = keeps-refl (Stop x s) })
 
 -- a refusal is one
 pub refuses-is : {s : State} {r : Walked} {n p : ℕ} → Refuses (On s) r n p → r ≡ Stop (refusal n p) s

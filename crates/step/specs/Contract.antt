@@ -6,12 +6,17 @@ use mathlib.Core.List.{List}
 use lib.Dec.{leb}
 use Rattle.definition.specs.Basic.{Bytes, pick}
 use Rattle.definition.specs.Limit.{constantsLimit, poolLimit}
-use Rattle.definition.specs.Opcode.{Instr, instr}
+use Rattle.definition.specs.Number
+use Rattle.definition.specs.Number.{refusal}
+use Rattle.definition.specs.Opcode.{Instr, instr, opSetGlobal, opSetLocal}
 use Rattle.definition.specs.Walk.{Res, bind, Go}
+use Rattle.symbol_table.specs.declared.Definition.{Definition}
+use Rattle.symbol_table.specs.declared.Definition.the-variants.{Global, Local, GlobalsFull, LocalsFull}
 use Rattle.scope.specs.View.{View, then, Ready}
 use Rattle.scope.specs.Machine.{enter, leave, define}
-use Rattle.field.specs.Layout.{content, after}
+use Rattle.field.specs.Layout.{content, after, Whole}
 use Rattle.tree.specs.At.{ParamsAt}
+use Rattle.tree.specs.Reads.{Some, Counted}
 use Rattle.step.specs.Memory.{Rest, rest, settled, result, memory, Fine, Deeper, Keeps, Walks}
 use Rattle.definition.specs.declared.Refusal.{Refusal}
 use Rattle.scope.specs.declared.State.{State}
@@ -49,12 +54,38 @@ pub record Defines (tree : Bytes) (p : ℕ) (c : Bytes) (m m′ : Rest) (w : Wal
   pub fine : Fine tree m′ (d .walked)
   pub keeps : Keeps w (d .walked)
 
+-- the table area stands well beside some session
+pub record FineBeside (tree : Bytes) (t : List ℕ) (w : Walked) : Type 0 where
+  pub session : Bytes
+  pub fine : Fine tree (rest session t) w
+
+-- a definition in the table area, whatever code and session stand beside it
+pub record DefinesBeside (tree : Bytes) (p : ℕ) (t t′ : List ℕ) (w : Walked) (d : Defining) : Type 0 where
+  pub defines : (c e : Bytes) → Ready c w → Fine tree (rest e t) w → Defines tree p c (rest e t) (rest e t′) w d
+
+-- a definition's answer, with the instruction that will set it, or the refusal
+abbrev pub placedAt : ℕ → State → Definition → Defining
+placedAt p s (Global k) = record { walked = On s; op = opSetGlobal; operand = k }
+placedAt p s (Local k) = record { walked = On s; op = opSetLocal; operand = k }
+placedAt p s GlobalsFull = record { walked = Stop (refusal Number.globals p) s; op = opSetGlobal; operand = 0 }
+placedAt p s LocalsFull = record { walked = Stop (refusal Number.locals p) s; op = opSetLocal; operand = 0 }
+
+-- the name of the function at p, and its n parameters
+pub record HeadAt (tree : Bytes) (p n : ℕ) : Type 0 where
+  pub named : Whole tree (p + 3)
+  pub params : Some (ParamsAt tree (after tree (p + 3)))
+  pub counted : Counted tree (after tree (p + 3) + 3) (after tree (after tree (p + 3))) n
+
 -- a function is entered
 pub record Enters (tree : Bytes) (p : ℕ) (c : Bytes) (m m′ : Rest) (w r : Walked) : Type 0 where
   pub step : (ps : List Bytes) → ParamsAt tree (after tree (p + 3)) ps → memory tree c m′ r ≡ settled (then (memory tree c m w) (enter p (content tree (p + 3)) ps))
   pub ready : Ready c r
   pub fine : Fine tree m′ r
   pub inside : Deeper 1 w r
+
+-- so, whatever code and session stand beside the table area
+pub record EntersBeside (tree : Bytes) (p : ℕ) (t t′ : List ℕ) (w r : Walked) : Type 0 where
+  pub enters : (c e : Bytes) → Ready c w → Fine tree (rest e t) w → Enters tree p c (rest e t) (rest e t′) w r
 
 -- the function in which `w` goes on is closed; `o` is the walk before it was entered
 pub record Leaves (tree : Bytes) (p n : ℕ) (c c′ : Bytes) (m m′ : Rest) (o w r : Walked) : Type 0 where

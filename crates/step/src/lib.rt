@@ -12,7 +12,8 @@ use field::content_at;
 use scope::State;
 use scope::Walked;
 use scope::emit_any;
-use scope::opcode;
+use scope::numbers;
+use scope::opcodes;
 use scope::refuse;
 use session::write::put_field;
 
@@ -20,9 +21,6 @@ use session::write::put_field;
 const CONSTANTS_LIMIT: usize = 4096;
 
 const POOL_LIMIT: usize = 28672;
-
-// The number sent back where a constant would pass either.
-const POOL_FULL: usize = 12;
 
 // A definition: the walk, and the instruction that will set it.
 pub struct Defining {
@@ -86,7 +84,7 @@ pub fn add_constant(session: &mut [u8], w: Walked, place: usize, tag: u8, conten
                 return advance(s, n);
             }
             Added {
-                walked: refuse(w, POOL_FULL, place),
+                walked: refuse(w, numbers::POOL, place),
                 index: 0,
             }
         }
@@ -113,5 +111,5 @@ pub fn literal(
 {
     let added = add_constant(session, w, at, tag, content_at(tree, at));
     let v = added.walked;
-    emit_any(code, v, at, opcode::CONSTANT, added.index)
+    emit_any(code, v, at, opcodes::CONSTANT, added.index)
 }
