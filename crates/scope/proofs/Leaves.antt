@@ -61,16 +61,19 @@ module _ (p : ℕ) (i : Instr) (c : Bytes) (s : State) where
   unfolding emit
   full-step h e y = simp (lt-leb (here s + size i) codeSize h)
 
--- the two as the code takes them, with the operand length that it looked up
+-- The two as the code takes them, with the operand length that it looked up
 module _ (p op a b : ℕ) {n : ℕ} {c : Bytes} {w : Walked} {s : State} (e : w ≡ On s) (h : Ready c w) (l : n ≡ width op) where
+  -- the bytes are written, and the chunk is longer
   pub emit-on : {c′ : Bytes} {s′ : State} → here s + (1 + n) ≤ codeSize → c′ ≡ sets c (here s) (bytesOf (instr op a b)) → s′ ≡ longer (1 + n) s → Done c c′ w (On s′) (emit p (instr op a b))
   emit-on f q t = let g = fits e h in rw (e, q, t, l) (put-step p (instr op a b) c s (h .area) g (rw l at f))
 
+  -- nothing is written
   pub emit-full : {r : Walked} → codeSize < here s + (1 + n) → Refuses (On s) r Number.code p → Done c c w r (emit p (instr op a b))
   emit-full f d = rw e (refused (ready-on e h) d (full-step p (instr op a b) c s (rw l at f)))
 
 -- The jump at a position
 module _ (at : ℕ) {c : Bytes} {w : Walked} {s : State} (q : w ≡ On s) (h : Ready c w) where
+  -- its operand is written
   pub patch-on : {c′ : Bytes} → s .chunk .start + at + 2 < codeSize → c′ ≡ sets c (s .chunk .start + at + 1) (s .chunk .len / 256 % 256 ∷ s .chunk .len % 256 ∷ []) → Done c c′ w (On s) (λ v. on tt (patch at v))
   unfolding patch
   patch-on f t =
@@ -82,6 +85,7 @@ module _ (at : ℕ) {c : Bytes} {w : Walked} {s : State} (q : w ≡ On s) (h : R
         same = refl;
       })
 
+  -- it is not within the code area
   pub patch-past : codeSize ≤ s .chunk .start + at + 2 → Done c c w (On s) (λ v. on tt (patch at v))
   unfolding patch
   patch-past f =
@@ -90,6 +94,7 @@ module _ (at : ℕ) {c : Bytes} {w : Walked} {s : State} (q : w ≡ On s) (h : R
 
 -- A last Pop that is dropped, or not there
 module _ {c : Bytes} {w : Walked} {s : State} {b : Bool} (q : w ≡ On s) (h : Ready c w) (l : b ≡ lastIs opPop c (s .chunk)) where
+  -- it is dropped
   pub drop-on : {s′ : State} → b ≡ true → s′ ≡ withoutLast s → Done c c w (On s′) (λ v. on tt (dropped v))
   unfolding dropped
   drop-on t d =
@@ -101,6 +106,7 @@ module _ {c : Bytes} {w : Walked} {s : State} {b : Bool} (q : w ≡ On s) (h : R
         same = refl;
       })
 
+  -- the chunk stays as it is
   pub drop-none : b ≡ false → Done c c w (On s) (λ v. on tt (dropped v))
   unfolding dropped
   drop-none t = let g = fits q h in rw q (record { step = λ e y. rw (sym l ∙ t); ready = record { area = h .area; sound = g }; same = refl })
@@ -110,12 +116,14 @@ module _ {c : Bytes} {w : Walked} {s : State} {b : Bool} (q : w ≡ On s) (h : R
   unfolding returned
   return-pop p t = let g = fits q h in rw q (record { step = λ e y. rw (sym l ∙ t); ready = record { area = simp length-set (h .area); sound = g }; same = refl })
 
-  -- without one: ReturnValue is last, or Return follows
+  -- Without one
   module _ (p : ℕ) {b′ : Bool} (n : b ≡ false) (l′ : b′ ≡ lastIs opReturnValue c (s .chunk)) where
+    -- ReturnValue is last
     pub return-value : b′ ≡ true → Done c c w (On s) (returned p)
     unfolding returned
     return-value t = let g = fits q h in rw q (record { step = λ e y. rw (sym l ∙ n, sym l′ ∙ t); ready = record { area = h .area; sound = g }; same = refl })
 
+    -- Return follows
     pub return-more : {c′ : Bytes} {r : Walked} → b′ ≡ false → Done c c′ (On s) r (emit p (plain opReturn)) → Done c c′ w r (returned p)
     unfolding returned
     return-more t d = rw q (record { step = λ e y. d .step e y ∙ rw (sym l ∙ n, sym l′ ∙ t); ready = d .ready; same = d .same })
@@ -138,10 +146,12 @@ module _ (c e : Bytes) (y : Symbols) where
   patch-step at n (On s) = refl
   patch-step at n (Stop r s) = refl
 
+  -- the two as one step
   jump-patch : (p at : ℕ) (w : Walked) → bind (bind (ended c e y w) (λ _. jump p opJump)) (λ k v. on k (patch at v)) ≡ bind (ended c e y w) (λ _. jumpAndPatch p at)
   jump-patch p at (On s) = refl
   jump-patch p at (Stop r s) = refl
 
+-- an instruction that was emitted, with the position before it, is a jump
 pub jumps : (p o : ℕ) {n : ℕ} {c c′ : Bytes} {w r : Walked} → n ≡ lengthOf w → Done c c′ w r (emit p (instr o unpatched 0)) → Jumps c c′ w (record { walked = r; at = n }) (jump p o)
 jumps p o {n} {c} {c′} {w} {r} l d =
     record {
@@ -150,6 +160,7 @@ jumps p o {n} {c} {c′} {w} {r} l d =
       same = d .same;
     }
 
+-- a jump, then a patch
 pub jumps-patched : (p at : ℕ) {c c₁ c₂ : Bytes} {w r : Walked} {j : Jumped} → Jumps c c₁ w j (jump p opJump) → Done c₁ c₂ (j .walked) r (λ v. on tt (patch at v)) → Jumps c c₂ w (record { walked = r; at = j .at }) (jumpAndPatch p at)
 jumps-patched p at {c} {c₁} {c₂} {w} {r} {j} a d =
     record {

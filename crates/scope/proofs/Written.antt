@@ -16,6 +16,7 @@ operands-all (suc zero) a b x y z = absurd (y refl)
 operands-all (suc (suc zero)) a b x y z = absurd (z refl)
 operands-all (suc (suc (suc n))) a b x y z = refl
 
+-- the place after the next one
 two : (i : ℕ) → i + 2 ≡ suc (suc i)
 two i = omega arith
 
