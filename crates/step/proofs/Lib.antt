@@ -1,4 +1,5 @@
 pub mod Memory
 pub mod Constants
+pub mod FunctionConstants
 pub mod Symbols
 pub mod Functions

@@ -1,8 +1,8 @@
--- `step::add_constant` meets its contract: where the pool has room, a field more behind it.
+-- `step::pool::add_constant` meets its contract: where the pool has room, a field more behind it.
 use borrow.Author.Needs.{needs}
 use Rattle.step.proofs.Constants.{roomy-start, roomy-write, roomy-count, roomy-size, adds-on, adds-full, adds-stop}
-use Rattle.step.proofs.add_constant.Statement.{statement}
-use Rattle.step.proofs.add_constant.Tie as tie
+use Rattle.step.proofs.pool.add_constant.Statement.{statement}
+use Rattle.step.proofs.pool.add_constant.Tie as tie
 
 pub add-constant-spec : {M : Type 1} → statement M
 add-constant-spec =
