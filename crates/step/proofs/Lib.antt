@@ -3,3 +3,5 @@ pub mod Constants
 pub mod FunctionConstants
 pub mod Symbols
 pub mod Functions
+pub mod Loads
+pub mod Closing

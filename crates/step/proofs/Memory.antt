@@ -94,7 +94,7 @@ module _ (tree : Bytes) (m : Rest) where
       }
 
 module _ (tree : Bytes) {c c′ : Bytes} (m : Rest) {k : Go View} where
-  done-step : (w r : Walked) → Done c c′ w r k → memory tree c′ m r ≡ settled (then (memory tree c m w) k)
+  pub done-step : (w r : Walked) → Done c c′ w r k → memory tree c′ m r ≡ settled (then (memory tree c m w) k)
   done-step w r d =
       let y = symbolsOf tree m (stateOf w) in
       let o : outline (stateOf r) ≡ outline (stateOf w) = sym (outline-state r) ∙ d .same ∙ outline-state w in
@@ -104,13 +104,13 @@ module _ (tree : Bytes) {c c′ : Bytes} (m : Rest) {k : Go View} where
       ∙ sym (settled-bind (ended c (m .session) y w) (λ _. k))
       ∙ ap (λ x. settled (then x k)) (sym (memory-ended tree c m w))
 
-  done-fine : (w r : Walked) → Done c c′ w r k → Fine tree m w → Fine tree m r
+  pub done-fine : (w r : Walked) → Done c c′ w r k → Fine tree m w → Fine tree m r
   done-fine (On s) (On t) d f = same-fine tree m (d .same) f
   done-fine (On s) (Stop x t) d f = tt
   done-fine (Stop x s) (On t) d f = absurd (no-way (d .step [] noSymbols))
   done-fine (Stop x s) (Stop x′ t) d f = tt
 
-  done-keeps : (w r : Walked) → Done c c′ w r k → Keeps w r
+  pub done-keeps : (w r : Walked) → Done c c′ w r k → Keeps w r
   done-keeps (On s) (On t) d = on-deeper (omega (arith, ap (λ o. o .level) (d .same))) (ap (λ o. o .namesEnd) (d .same))
   done-keeps (On s) (Stop x t) d = stop-deeper
   done-keeps (Stop x s) (On t) d = absurd (no-way (d .step [] noSymbols))
@@ -118,6 +118,11 @@ module _ (tree : Bytes) {c c′ : Bytes} (m : Rest) {k : Go View} where
 
 pub done-steps : {tree c c′ : Bytes} {m : Rest} {k : Go View} {w r : Walked} → Fine tree m w → Done c c′ w r k → Steps tree k c c′ m m w r
 done-steps {tree = tree} {m = m} {w = w} {r = r} f d = record { step = λ _ _. done-step tree m w r d; ready = d .ready; fine = done-fine tree m w r d f; keeps = done-keeps tree m w r d }
+
+-- one after another
+pub done-done : {c c₁ c₂ : Bytes} {w v r : Walked} {f g : Go View} → Done c c₁ w v f → Done c₁ c₂ v r g → Done c c₂ w r (λ s. then (f s) g)
+done-done {c = c} {w = w} {f = f} {g = g} d h =
+    record { step = λ e y. h .step e y ∙ ap (λ x. then x g) (d .step e y) ∙ assoc (ended c e y w) (λ _. f) (λ _. g); ready = h .ready; same = h .same ∙ d .same }
 
 -- a walk that has stopped stays as it is
 pub stays : {tree c : Bytes} {m : Rest} {k : Go View} {w : Walked} {x : Refusal} {s : State} → w ≡ Stop x s → Ready c w → Steps tree k c c m m w (Stop x s)

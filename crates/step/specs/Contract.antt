@@ -1,23 +1,25 @@
 -- What the steps on session and table area promise.
-use Prim.Native.Nat.{ℕ, _+_}
+use Prim.Native.Nat.{ℕ, _+_, _≤_}
 use mathlib.Core.Path.{_≡_}
 use mathlib.Core.Bool.{Bool, false}
 use mathlib.Core.List.{List}
 use lib.Dec.{leb}
+use lib.ListN.{length}
 use Rattle.definition.specs.Basic.{Bytes, pick}
-use Rattle.definition.specs.Limit.{constantsLimit, poolLimit}
+use Rattle.definition.specs.Limit.{codeSize, constantsLimit, poolLimit}
 use Rattle.definition.specs.Number
 use Rattle.definition.specs.Number.{refusal}
 use Rattle.definition.specs.Opcode.{Instr, instr, opSetGlobal, opSetLocal}
 use Rattle.definition.specs.Walk.{Res, bind, Go}
+use Rattle.symbol_table.specs.Layout.{partSize, base, part, Sized}
 use Rattle.symbol_table.specs.declared.Definition.{Definition}
 use Rattle.symbol_table.specs.declared.Definition.the-variants.{Global, Local, GlobalsFull, LocalsFull}
-use Rattle.scope.specs.View.{View, then, Ready}
-use Rattle.scope.specs.Machine.{enter, leave, define}
+use Rattle.scope.specs.View.{View, then, Fits, Ready}
+use Rattle.scope.specs.Machine.{define, enter, outside, closeOver, leave}
 use Rattle.field.specs.Layout.{content, after, Whole}
 use Rattle.tree.specs.At.{ParamsAt}
 use Rattle.tree.specs.Reads.{Some, Counted}
-use Rattle.step.specs.Memory.{Rest, rest, settled, result, memory, Fine, Deeper, Keeps, Walks}
+use Rattle.step.specs.Memory.{Rest, rest, settled, result, memory, Roomy, FineState, Fine, Deeper, Keeps, Walks}
 use Rattle.definition.specs.declared.Refusal.{Refusal}
 use Rattle.scope.specs.declared.State.{State}
 use Rattle.scope.specs.declared.Walked.{Walked}
@@ -94,3 +96,30 @@ pub record Leaves (tree : Bytes) (p n : ℕ) (c c′ : Bytes) (m m′ : Rest) (o
   pub ready : Ready c′ r
   pub fine : Fine tree m′ r
   pub keeps : Keeps o r
+
+-- so, whatever tree the table area stands well for
+pub record LeavesBeside (p n : ℕ) (c c′ e e′ : Bytes) (t : List ℕ) (o w r : Walked) : Type 0 where
+  pub leaves : (tree : Bytes) → Fine tree (rest e t) w → Leaves tree p n c c′ (rest e t) (rest e′ t) o w r
+
+-- the walk in the chunk outside again
+abbrev pub outsideOf : State → Walked → Walked
+outsideOf o (On s) = On (outside o s)
+outsideOf o (Stop r s) = Stop r s
+
+-- what closing needs: `o` is the state outside, `s` the state inside
+pub record Closable (c e : Bytes) (t : List ℕ) (o s : State) : Type 0 where
+  pub area : codeSize ≤ length c
+  pub outer : Fits o
+  pub inner : Fits s
+  pub level : s .level ≡ o .level + 1
+  pub names : s .«names_end» ≡ o .«names_end»
+  pub roomy : Roomy e (On s)
+  pub table : base (o .level) + partSize ≤ length t
+  pub sized : Sized (part (o .level) t)
+
+-- a function whose code is complete is closed
+pub record Closes (p n : ℕ) (c c′ e e′ : Bytes) (t : List ℕ) (o s : State) (r : Walked) : Type 0 where
+  pub step : (tree : Bytes) → memory tree c′ (rest e′ t) r ≡ settled (then (memory tree c (rest e t) (On s)) (λ v. closeOver p n o v (v .symbols .tables)))
+  pub ready : Ready c′ r
+  pub fine : (tree : Bytes) → FineState tree (rest e t) s → Fine tree (rest e′ t) r
+  pub keeps : Keeps (On o) r
