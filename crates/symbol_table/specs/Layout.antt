@@ -117,17 +117,18 @@ pub record GlobalStands (tree names : Bytes) (v : ℕ) : Type 0 where
   pub old : v < 65536 → Stands names v
   pub new : 65536 ≤ v → Stands tree (v - 65536)
 
--- the globals from p on and before k are of other hashes
-pub record Skips (name : ℕ → Bytes) (g : List ℕ) (hash p k : ℕ) : Type 0 where
+-- the latest global before k of a hash is the one before p; where p is 0 there is none
+pub record Latest (name : ℕ → Bytes) (g : List ℕ) (hash p k : ℕ) : Type 0 where
   pub below : p ≤ k
+  pub is : 0 < p → hashOf (name (getD g (1 + (p - 1)) 0)) ≡ hash
   pub other : (i : ℕ) → p ≤ i → i < k → hashOf (name (getD g (1 + i) 0)) ≡ hash → ⊥
 
 pub record GoodGlobals (tree names : Bytes) (g : List ℕ) : Type 0 where
   pub size : length g ≡ globalsSize
   pub count : getD g 0 0 ≤ globalsLimit
   pub stands : (i : ℕ) → i < getD g 0 0 → GlobalStands tree names (getD g (1 + i) 0)
-  pub links : (i : ℕ) → i < getD g 0 0 → Skips (globalName tree names) g (hashOf (globalName tree names (getD g (1 + i) 0))) (getD g (linksAt + i) 0) i
-  pub heads : (h : ℕ) → h < buckets → Skips (globalName tree names) g h (getD g (headsAt + h) 0) (getD g 0 0)
+  pub links : (i : ℕ) → i < getD g 0 0 → Latest (globalName tree names) g (hashOf (globalName tree names (getD g (1 + i) 0))) (getD g (linksAt + i) 0) i
+  pub heads : (h : ℕ) → h < buckets → Latest (globalName tree names) g h (getD g (headsAt + h) 0) (getD g 0 0)
 
 -- the whole area stands well, with so many open functions
 unfoldable pub Good : Bytes → Bytes → ℕ → List ℕ → Type 0

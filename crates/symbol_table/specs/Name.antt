@@ -1,9 +1,10 @@
 -- Names as fields: a name is known by the offset of its field in some bytes.
 use Prim.Native.Nat.{ℕ, zero, suc, _+_, _*_, _%_, _≤_}
-use mathlib.Core.List.{List, [], _∷_}
+use mathlib.Core.List.{List, [], _∷_, _++_}
 use lib.ListN.{length, take, drop}
 use Rattle.definition.specs.Basic.{Bytes, byteAt}
-use Rattle.definition.specs.Field.{head}
+use Rattle.definition.specs.Tag.{tagName}
+use Rattle.definition.specs.Field.{field, head}
 
 module _ (b : Bytes) where
   -- the content length of the field at an offset
@@ -31,6 +32,11 @@ module _ (b : Bytes) where
   unfoldable pub Row : ℕ → ℕ → Type 0
   Row zero at = Unit {0}
   Row (suc n) at = Stands at × Row n (after at)
+
+-- names as fields in a row
+abbrev pub rowOf : List Bytes → Bytes
+rowOf [] = []
+rowOf (n ∷ ns) = field tagName n ++ rowOf ns
 
 -- the number of hashes
 abbrev pub buckets : ℕ

@@ -1,3 +1,34 @@
+// The symbol tables of the open functions, in the table area: what a name stands for.
+mod enclosed;
+mod globals;
+mod layout;
+mod name;
+
+use enclosed::cross_in;
+use enclosed::find_in;
+use enclosed::open_in;
+use enclosed::place_in;
+use globals::find_builtin;
+use globals::find_global;
+use globals::place_global;
+use globals::start_in;
+use layout::GLOBALS_SIZE;
+use layout::ORIGINALS_AT;
+use layout::PART_SIZE;
+use name::hash_at;
+use name::name_at;
+ghost use mathlib.Core.Path.{_≡_};
+ghost use Prim.Native.Nat.{ℕ, _+_, _<_, _≤_};
+ghost use mathlib.Core.List.{List, []};
+ghost use lib.ListN.{length, getD, take};
+ghost use Rattle.definition.specs.Basic.{Bytes};
+ghost use Rattle.definition.specs.Limit.{treeLimit, sessionSize, argumentsLimit, freeLimit};
+ghost use Rattle.definition.specs.Opcode.{instr};
+ghost use Rattle.definition.specs.SymbolTable.{find, builtins, resolve, loadOf};
+ghost use Rattle.symbol_table.specs.Name.{after, content, Stands, fields, Row, buckets};
+ghost use Rattle.symbol_table.specs.Layout.{globalsSize, partSize, originalsAt, base, part, symbolOf, tableOf, globalsIn, Sized, GoodTable, GoodGlobals, Good};
+ghost use Rattle.symbol_table.specs.Contract.{hitOf, resolvedOf, IsName, Inside, Crosses, Resolves, DefinesLocal, Defines, Enters, HasNames, Starts};
+
 // The code of a symbol that a table has for a name.
 pub enum Hit {
     At(u32),
@@ -17,4 +48,210 @@ pub enum Definition {
     Local(u32),
     GlobalsFull,
     LocalsFull,
+}
+
+// An instruction with one operand.
+pub struct Load {
+    pub op: u8,
+    pub operand: u32,
+}
+
+// The latest entry of a name in the table of the function at a level.
+fn find_at(tree: &[u8], table: &[u32], level: usize, name: usize, hash: usize) -> Hit
+    requires { ⌜ base level + partSize ≤ length (now table) ⌝ }
+    requires { ⌜ GoodTable (now tree) (part level (now table)) ⌝ }
+    requires { ⌜ IsName (now tree) name hash ⌝ }
+    ensures { λ r. ⌜ hitOf r ≡ find (content (now (tree .entry)) name) (tableOf (now (tree .entry)) (part level (now (table .entry))) .entries) ⌝ }
+{
+    let start = GLOBALS_SIZE + PART_SIZE * level;
+    let end = start + PART_SIZE;
+    find_in(tree, &table[start..end], name_at(tree, name), hash)
+}
+
+// A lookup comes back through the function at a level.
+fn cross_at(table: &mut [u32], level: usize, name: usize, hash: usize, outer: Lookup) -> Lookup
+    requires { ⌜ base level + partSize ≤ length (now table) ⌝ }
+    requires { ⌜ Sized (part level (now table)) ⌝ }
+    requires { ⌜ name < 32768 ⌝ }
+    ensures { λ r. ⌜ Inside (Crosses name hash outer r) level (now (table .entry)) (now (table .exit)) ⌝ }
+{
+    let start = GLOBALS_SIZE + PART_SIZE * level;
+    let end = start + PART_SIZE;
+    cross_in(&mut table[start..end], name, hash, outer)
+}
+
+// The global or the builtin of a name: outside all functions, globals come before builtins.
+fn find_outermost(
+    words: &[u8],
+    count: usize,
+    tree: &[u8],
+    names: &[u8],
+    table: &[u32],
+    name: usize,
+    hash: usize,
+) -> Lookup
+    requires { ⌜ Row (now words) count 0 ⌝ }
+    requires { ⌜ count ≤ 256 ⌝ }
+    requires { ⌜ globalsSize ≤ length (now table) ⌝ }
+    requires { ⌜ GoodGlobals (now tree) (now names) (take globalsSize (now table)) ⌝ }
+    requires { ⌜ IsName (now tree) name hash ⌝ }
+    requires { ⌜ hash < buckets ⌝ }
+    ensures { λ r. ⌜ resolvedOf r [] ≡ resolve (fields (now (words .entry)) count 0) (globalsIn (now (tree .entry)) (now (names .entry)) (now (table .entry))) (content (now (tree .entry)) name) [] ⌝ }
+{
+    let it = name_at(tree, name);
+    if let Hit::At(code) = find_global(tree, names, &table[..GLOBALS_SIZE], it, hash) {
+        return Lookup::Found(code);
+    }
+    if let Hit::At(code) = find_builtin(words, count, it) {
+        return Lookup::Found(code);
+    }
+    Lookup::Undefined
+}
+
+// A name's symbol, seen from inside so many open functions: outward one function at a time, capturing on the way back.
+pub fn resolve(
+    words: &[u8],
+    count: usize,
+    tree: &[u8],
+    names: &[u8],
+    table: &mut [u32],
+    level: usize,
+    name: usize,
+    hash: usize,
+) -> Lookup
+    requires { ⌜ Row (now words) count 0 ⌝ }
+    requires { ⌜ count ≤ 256 ⌝ }
+    requires { ⌜ base level ≤ length (now table) ⌝ }
+    requires { ⌜ Good (now tree) (now names) level (now table) ⌝ }
+    requires { ⌜ IsName (now tree) name hash ⌝ }
+    requires { ⌜ name < 32768 ⌝ }
+    requires { ⌜ hash < buckets ⌝ }
+    ensures { λ r. ⌜ Resolves (fields (now (words .entry)) count 0) (now (tree .entry)) (now (names .entry)) level name r (now (table .entry)) (now (table .exit)) ⌝ }
+{
+    if level == 0 {
+        return find_outermost(words, count, tree, names, table, name, hash);
+    }
+    let l = level - 1;
+    if let Hit::At(code) = find_at(tree, table, l, name, hash) {
+        return Lookup::Found(code);
+    }
+    let outer = resolve(
+        words,
+        count,
+        tree,
+        names,
+        &mut table[..GLOBALS_SIZE + PART_SIZE * l],
+        l,
+        name,
+        hash,
+    );
+    cross_at(table, l, name, hash, outer)
+}
+
+// A name's symbol, with document 01's builtins.
+pub fn resolve_name(
+    tree: &[u8],
+    names: &[u8],
+    table: &mut [u32],
+    level: usize,
+    name: usize,
+) -> Lookup
+    requires { ⌜ base level ≤ length (now table) ⌝ }
+    requires { ⌜ Good (now tree) (now names) level (now table) ⌝ }
+    requires { ⌜ Stands (now tree) name ⌝ }
+    requires { ⌜ name < 32768 ⌝ }
+    ensures { λ r. ⌜ Resolves builtins (now (tree .entry)) (now (names .entry)) level name r (now (table .entry)) (now (table .exit)) ⌝ }
+{
+    let words =
+        b"\x30\x00\x03len\x30\x00\x04puts\x30\x00\x05first\x30\x00\x04last\x30\x00\x04rest\x30\x00\x04push";
+    let hash = hash_at(tree, name);
+    resolve(words, 6, tree, names, table, level, name, hash)
+}
+
+// A definition in the table of the function at a level.
+fn place_at(table: &mut [u32], level: usize, name: usize, hash: usize) -> Definition
+    requires { ⌜ base level + partSize ≤ length (now table) ⌝ }
+    requires { ⌜ Sized (part level (now table)) ⌝ }
+    requires { ⌜ name < 32768 ⌝ }
+    ensures { λ r. ⌜ Inside (DefinesLocal name hash r) level (now (table .entry)) (now (table .exit)) ⌝ }
+{
+    let start = GLOBALS_SIZE + PART_SIZE * level;
+    let end = start + PART_SIZE;
+    place_in(&mut table[start..end], name, hash)
+}
+
+// A definition more, in the innermost of so many open functions, or among the globals.
+pub fn define(tree: &[u8], table: &mut [u32], level: usize, name: usize) -> Definition
+    requires { ⌜ base level ≤ length (now table) ⌝ }
+    requires { ⌜ ((names : Bytes) × Good (now tree) names level (now table)) ⌝ }
+    requires { ⌜ Stands (now tree) name ⌝ }
+    requires { ⌜ name < 32768 ⌝ }
+    ensures { λ r. ⌜ Defines (now (tree .entry)) level name r (now (table .entry)) (now (table .exit)) ⌝ }
+{
+    let hash = hash_at(tree, name);
+    if level == 0 {
+        return place_global(&mut table[..GLOBALS_SIZE], name, hash);
+    }
+    place_at(table, level - 1, name, hash)
+}
+
+// One function more is open, with its name and its parameters.
+pub fn enter(tree: &[u8], table: &mut [u32], level: usize, name: usize, row: usize, n: usize)
+    requires { ⌜ base level + partSize ≤ length (now table) ⌝ }
+    requires { ⌜ length (now tree) ≤ treeLimit ⌝ }
+    requires { ⌜ Stands (now tree) name ⌝ }
+    requires { ⌜ Row (now tree) n row ⌝ }
+    requires { ⌜ n ≤ argumentsLimit ⌝ }
+    ensures { λ _. ⌜ Enters (now (tree .entry)) level name row n (now (table .entry)) (now (table .exit)) ⌝ }
+{
+    let start = GLOBALS_SIZE + PART_SIZE * level;
+    let end = start + PART_SIZE;
+    open_in(tree, &mut table[start..end], name, row, n);
+}
+
+// The table area as a compile starts: the global names of the session, and no open function. The end of the names in the session.
+pub fn start(session: &[u8], table: &mut [u32]) -> usize
+    requires { ⌜ length (now session) ≤ sessionSize ⌝ }
+    requires { ⌜ HasNames (now session) ⌝ }
+    requires { ⌜ globalsSize ≤ length (now table) ⌝ }
+    ensures { λ r. ⌜ r ≡ after (now (session .entry)) 0 ⌝ }
+    ensures { λ r. ⌜ Starts (now (session .entry)) r (now (table .entry)) (now (table .exit)) ⌝ }
+{
+    let end = 3 + field::length_at(session, 0);
+    start_in(session, &mut table[..GLOBALS_SIZE], end);
+    end
+}
+
+// The instruction that loads a symbol.
+pub fn load_of(code: u32) -> Load
+    ensures { λ r. ⌜ instr (r .op) (r .operand) 0 ≡ loadOf (symbolOf code) ⌝ }
+{
+    if code < 256 {
+        return Load {
+            op: 0x1D,
+            operand: 0,
+        };
+    }
+    if code < 512 {
+        return Load {
+            op: 0x18,
+            operand: code - 256,
+        };
+    }
+    if code < 768 {
+        return Load {
+            op: 0x1C,
+            operand: code - 512,
+        };
+    }
+    if code < 1024 {
+        return Load {
+            op: 0x1A,
+            operand: code - 768,
+        };
+    }
+    Load {
+        op: 0x10,
+        operand: code - 1024,
+    }
 }

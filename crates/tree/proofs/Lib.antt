@@ -5,3 +5,9 @@ pub mod Stands
 pub mod Rows
 pub mod Children
 pub mod Inside
+pub mod Table
+pub mod Agrees
+pub mod Checking
+pub mod Bodies
+pub mod Verdict
+pub mod Steps

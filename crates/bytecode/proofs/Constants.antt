@@ -1,0 +1,63 @@
+-- The content of a constant, by its tag.
+use Prim.Native.Nat.{ℕ, _+_, _≤_}
+use mathlib.Core.Path.{_≡_, _∙_, ap, sym, refl}
+use mathlib.Core.Bool.{Bool, true, false}
+use mathlib.Core.List.{List}
+use native.Mathlib.Omega.{arith}
+use lib.Dec.{eqb, leb}
+use lib.ListN.{length}
+use borrow.Author.Tests.{eq-eqb, ne-eqb, leb-true}
+use Rattle.definition.specs.Tag.{tagIntegerConst, tagStringConst, tagFunctionConst}
+use Rattle.definition.specs.Decode.{Decoded, decoded, malformed, readCode, readFunction, readContent}
+use Rattle.bytecode.specs.declared.Item.the-variants.{Next, Wrong as WrongItem}
+use Rattle.bytecode.specs.declared.Checked.{Checked}
+use Rattle.bytecode.specs.declared.Checked.the-variants.{Good, Wrong}
+use Rattle.bytecode.specs.Checked.{headOf, isConstant, item, checked}
+
+-- what an answer of items says of the reading
+pub checked-good : {A : Type 0} (d : Decoded (List A)) {r : Checked} {k n : ℕ} → r ≡ checked d → r ≡ Good k n
+    → (xs : List A) × (d ≡ decoded xs n) × (length xs ≡ k)
+checked-good (decoded xs m) {r} {k} {n} e w = (xs, ap (decoded xs) (cc), cc)
+checked-good (malformed p) e w = let z : _≡_ {A = ℕ} 0 1 = cc in absurd (omega arith)
+
+pub checked-wrong : {A : Type 0} (d : Decoded (List A)) {r : Checked} {p : ℕ} → r ≡ checked d → r ≡ Wrong p → d ≡ malformed p
+checked-wrong (decoded xs m) e w = let z : _≡_ {A = ℕ} 0 1 = cc in absurd (omega arith)
+checked-wrong (malformed q) e w = ap malformed (cc)
+
+module _ (byte : ℕ → ℕ) (in₀ tag len : ℕ) (good : isConstant (headOf tag len) ≡ true) where
+  -- an integer or a string
+  pub plain-constant : (tag ≡ tagFunctionConst → ⊥) → item (readContent byte (headOf tag len) in₀) ≡ Next (in₀ + len)
+  plain-constant n = go (eqb tag tagIntegerConst) refl (eqb tag tagStringConst) refl
+    where
+      go : (a : Bool) → eqb tag tagIntegerConst ≡ a → (b : Bool) → eqb tag tagStringConst ≡ b → item (readContent byte (headOf tag len) in₀) ≡ Next (in₀ + len)
+      go true s b t = rw s
+      go false s true t = rw (s, t)
+      go false s false t =
+          let z : false ≡ true = rw (s, t, ne-eqb tag tagFunctionConst n) at good in
+          let y : _≡_ {A = ℕ} 0 1 = cc in
+          absurd (omega arith)
+
+  module _ (f : tag ≡ tagFunctionConst) where
+    not-tag : (t : ℕ) → (tagFunctionConst ≡ t → ⊥) → eqb tag t ≡ false
+    not-tag t n = ne-eqb tag t (λ e. n (sym f ∙ e))
+
+    integer-not : eqb tag tagIntegerConst ≡ false
+    integer-not = not-tag tagIntegerConst (λ e. omega arith)
+
+    string-not : eqb tag tagStringConst ≡ false
+    string-not = not-tag tagStringConst (λ e. omega arith)
+
+    -- a function has at least its three numbers
+    pub function-long : 3 ≤ len
+    function-long = leb-true 3 len (rw (integer-not, string-not, eq-eqb tag tagFunctionConst f) at good)
+
+    is-function : readContent byte (headOf tag len) in₀ ≡ readFunction byte in₀ len
+    is-function = rw (integer-not, string-not)
+
+    -- its code decides
+    module _ {r : Checked} (e : r ≡ checked (readCode byte len (in₀ + 3) (in₀ + len))) where
+      pub function-good : {k n : ℕ} → r ≡ Good k n → item (readContent byte (headOf tag len) in₀) ≡ Next n
+      function-good w = rw (is-function, checked-good (readCode byte len (in₀ + 3) (in₀ + len)) e w .1)
+
+      pub function-wrong : {p : ℕ} → r ≡ Wrong p → item (readContent byte (headOf tag len) in₀) ≡ WrongItem p
+      function-wrong w = rw (is-function, checked-wrong (readCode byte len (in₀ + 3) (in₀ + len)) e w)

@@ -1,0 +1,65 @@
+-- An image, from its main code and its pool.
+use Prim.Native.Nat.{ℕ, _+_, _≤_}
+use mathlib.Core.Path.{_≡_, _∙_, ap, sym, refl}
+use mathlib.Core.Bool.{Bool, true, false}
+use mathlib.Core.List.{List, []}
+use native.Mathlib.Omega.{arith}
+use lib.ListN.{length}
+use borrow.Author.Tests.{eq-eqb, ne-eqb}
+use Rattle.definition.specs.Basic.{Bytes, byteAt}
+use Rattle.definition.specs.Bytecode.{Code, Const, Image}
+use Rattle.definition.specs.Decode.{Decoded, decoded, malformed, then, ending, readHead, mainHead, readInstr, readPool, readImageOf, readImage}
+use Rattle.bytecode.specs.declared.Checked.{Checked}
+use Rattle.bytecode.specs.declared.Checked.the-variants.{Good, Wrong}
+use Rattle.bytecode.specs.declared.ImageCheck.{ImageCheck}
+use Rattle.bytecode.specs.declared.ImageCheck.the-variants.{Sound}
+use Rattle.bytecode.specs.Checked.{checked, mainCode, refused, imageAnswer}
+use Rattle.bytecode.proofs.Items.{ended}
+use Rattle.bytecode.proofs.Fields.{head-read, mainContent}
+use Rattle.bytecode.proofs.Constants.{checked-good, checked-wrong}
+
+then-assoc : {A B C : Type 0} (d : Decoded A) (f : A → ℕ → Decoded B) (g : B → ℕ → Decoded C) → then d (λ a n. then (f a n) g) ≡ then (then d f) g
+then-assoc (decoded a n) f g = refl
+then-assoc (malformed p) f g = refl
+
+module _ (b : Bytes) where
+  byte : ℕ → ℕ
+  byte = byteAt b
+
+  -- what follows main code
+  after-main : Code → ℕ → Decoded Image
+  after-main c at = then (readPool (byteAt b) at (length b)) (λ cs at₁. ending (record { code = c; pool = cs }) at₁ (length b))
+
+  image-is : readImage b ≡ then (mainCode (byteAt b) (length b)) after-main
+  unfolding readImageOf after-main
+  image-is = then-assoc (readHead (byteAt b) (mainHead (byteAt b)) 0 (length b)) (mainContent (byteAt b)) after-main
+
+  module _ {r : Checked} (e : r ≡ checked (mainCode (byteAt b) (length b))) where
+    pub main-wrong : {p : ℕ} {x : ImageCheck} → r ≡ Wrong p → x ≡ refused p → x ≡ imageAnswer (readImage b)
+    main-wrong w q = q ∙ sym (ap imageAnswer (image-is ∙ ap (λ (d : Decoded Code). then d after-main) (checked-wrong (mainCode (byteAt b) (length b)) e w)))
+
+    module _ {k at : ℕ} (w : r ≡ Good k at) where
+      main-read : (c : Code) × (mainCode (byteAt b) (length b) ≡ decoded c at) × (length c ≡ k)
+      main-read = checked-good (mainCode (byteAt b) (length b)) e w
+
+      pub main-within : at ≤ length b
+      main-within =
+          let h = head-read (byteAt b) 0 (length b) (mainHead (byteAt b)) (mainContent (byteAt b)) (main-read .1) in
+          let m = ended (readInstr (byteAt b)) _ _ [] _ (h .1) in
+          omega (arith, h .0 .within, m .ends)
+
+      image-after : readImage b ≡ after-main (main-read .0) at
+      image-after = image-is ∙ ap (λ (d : Decoded Code). then d after-main) (main-read .1)
+
+      module _ {s : Checked} (f : s ≡ checked (readPool (byteAt b) at (length b))) where
+        pub pool-wrong : {p : ℕ} {x : ImageCheck} → s ≡ Wrong p → x ≡ refused p → x ≡ imageAnswer (readImage b)
+        unfolding after-main
+        pool-wrong v q = q ∙ sym (ap imageAnswer image-after ∙ rw (checked-wrong (readPool (byteAt b) at (length b)) f v))
+
+        pub image-ends : {j next : ℕ} → s ≡ Good j next → next ≡ length b → Sound ≡ imageAnswer (readImage b)
+        unfolding after-main
+        image-ends {next = next} v q = sym (ap imageAnswer image-after ∙ rw (checked-good (readPool (byteAt b) at (length b)) f v .1, eq-eqb next (length b) q))
+
+        pub image-follows : {j next : ℕ} {x : ImageCheck} → s ≡ Good j next → (next ≡ length b → ⊥) → x ≡ refused next → x ≡ imageAnswer (readImage b)
+        unfolding after-main
+        image-follows {next = next} v n q = q ∙ sym (ap imageAnswer image-after ∙ rw (checked-good (readPool (byteAt b) at (length b)) f v .1, ne-eqb next (length b) n))

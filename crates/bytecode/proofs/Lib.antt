@@ -1,0 +1,10 @@
+pub mod Items
+pub mod Heads
+pub mod Fields
+pub mod Limited
+pub mod Instructions
+pub mod Constants
+pub mod Zeros
+pub mod Images
+pub mod Sessions
+pub mod Laid

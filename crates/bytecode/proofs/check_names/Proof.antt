@@ -1,0 +1,68 @@
+-- `bytecode::check_names` meets its contract: by their head, and then the names.
+use mathlib.Core.Path.{_∙_, ap, sym, refl}
+use native.Mathlib.Omega.{arith}
+use lib.ListN.{length}
+use denote.Ref.{now}
+use borrow.Author.Tests.{eq-eqb, ne-eqb}
+use borrow.Author.Needs.{needs}
+use Rattle.definition.specs.Basic.{byteAt}
+use Rattle.definition.specs.Field.{tagged}
+use Rattle.definition.specs.Tag.{tagNames}
+use Rattle.bytecode.specs.Checked.{checked}
+use Rattle.bytecode.proofs.Heads.{fitting, after-cut, after-bad, after-good}
+use Rattle.bytecode.proofs.Fields.{namesContent}
+use Rattle.bytecode.proofs.check_names.Statement.{statement}
+use Rattle.bytecode.proofs.check_names.Tie as tie
+
+returns : tie.Need-returns
+returns c =
+    let start = c .before .before .before .before .before .before in
+    let head-at = c .before .before .before .before .head-at in
+    let tag = c .before .before .tag in
+    let if1 = c .if1 in
+    sym (ap checked (after-bad (byteAt (now (start .args .session))) 0 (length (now (start .args .session))) (tagged tagNames) (namesContent (byteAt (now (start .args .session)))) (head-at .ensures) (tag .given .1) (sym (ne-eqb _ tagNames (if1 .taken))) refl))
+
+add-check-name-fields : tie.Need-add-check-name-fields
+add-check-name-fields c =
+    let start = c .before .before .before .before .before .before in
+    let head-at = c .before .before .before .before .head-at in
+    let tag = c .before .before .tag in
+    let f = fitting (byteAt (now (start .args .session))) 0 (length (now (start .args .session))) (head-at .ensures) (tag .given .1) in
+    omega arith
+
+check-name-fields-requires : tie.Need-check-name-fields-requires
+check-name-fields-requires c κs =
+    let start = c .before .before .before .before .before .before in
+    let head-at = c .before .before .before .before .head-at in
+    let tag = c .before .before .tag in
+    let f = fitting (byteAt (now (start .args .session))) 0 (length (now (start .args .session))) (head-at .ensures) (tag .given .1) in
+    record { order = omega arith; within = omega arith }
+
+returns-2 : tie.Need-returns-2
+returns-2 c =
+    let start = c .before .before .before .before in
+    let head-at = c .before .before .head-at in
+    let enum-told = c .enum-told in
+    sym (ap checked (after-cut (byteAt (now (start .args .session))) 0 (length (now (start .args .session))) (tagged tagNames) (namesContent (byteAt (now (start .args .session)))) (head-at .ensures) (enum-told .given .1)))
+
+returns-3 : tie.Need-returns-3
+returns-3 c =
+    let start = c .before .before .before .before .before .before .before in
+    let head-at = c .before .before .before .before .before .head-at in
+    let tag = c .before .before .before .tag in
+    let if1 = c .before .if1 in
+    let check-name-fields = c .check-name-fields in
+    check-name-fields .ensures ∙ sym (ap checked (after-good (byteAt (now (start .args .session))) 0 (length (now (start .args .session))) (tagged tagNames) (namesContent (byteAt (now (start .args .session)))) (head-at .ensures) (tag .given .1) (sym (eq-eqb _ tagNames (if1 .left))) refl))
+
+pub check-names-spec : {M : Type 1} → statement M
+check-names-spec =
+    tie.close
+    (tie.spec
+    (λ c κs. search needs)
+    (λ c. search needs)
+    (λ c. search needs)
+    returns
+    add-check-name-fields
+    check-name-fields-requires
+    returns-2
+    returns-3)

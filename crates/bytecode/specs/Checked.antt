@@ -1,0 +1,89 @@
+-- What the checks of code, constants, images and sessions answer, from what the definition reads.
+use Prim.Native.Nat.{ℕ, _+_, _≤_}
+use mathlib.Core.Bool.{Bool}
+use mathlib.Core.List.{List, []}
+use lib.ListN.{length}
+use Rattle.definition.specs.Basic.{Bytes, byteAt, pick}
+use Rattle.definition.specs.Limit.{constantsLimit, globalsLimit}
+use Rattle.definition.specs.Number.{refusal, badImage}
+use Rattle.definition.specs.Field.{Head, fits, head, nameHead}
+use Rattle.definition.specs.Bytecode.{Code, Const, Image}
+use Rattle.definition.specs.Session.{Session}
+use Rattle.definition.specs.Decode.{Decoded, decoded, malformed, then, items, readHead, constHead, poolHead, mainHead, readCode, readConst, readNameField, readNames, readSession}
+use Rattle.bytecode.specs.declared.FieldHead.{FieldHead}
+use Rattle.bytecode.specs.declared.FieldHead.the-variants.{Whole, Cut}
+use Rattle.bytecode.specs.declared.Item.{Item}
+use Rattle.bytecode.specs.declared.Item.the-variants.{Next, Wrong as WrongItem}
+use Rattle.bytecode.specs.declared.Checked.{Checked}
+use Rattle.bytecode.specs.declared.Checked.the-variants.{Good, Wrong}
+use Rattle.bytecode.specs.declared.ImageCheck.{ImageCheck}
+use Rattle.bytecode.specs.declared.ImageCheck.the-variants.{Sound, Refused}
+use Rattle.bytecode.specs.declared.Layout.{Layout}
+use Rattle.bytecode.specs.declared.Layout.the-variants.{Sound as Laid, Broken}
+
+-- a part of the bytes
+pub record Part (b : Bytes) (at end : ℕ) : Type 0 where
+  pub order : at ≤ end
+  pub within : end ≤ length b
+
+-- a head of a tag and a content length
+abbrev pub headOf : ℕ → ℕ → Head
+headOf t n = record { tag = t; len = n }
+
+-- the tests of a head, which look at no other byte
+abbrev pub isConstant : Head → Bool
+isConstant = constHead (λ i. 0)
+
+abbrev pub isPool : Head → Bool
+isPool = poolHead (λ i. 0)
+
+abbrev pub isMain : Head → Bool
+isMain = mainHead (λ i. 0)
+
+abbrev pub isName : Head → Bool
+isName = nameHead 1
+
+-- the head of a field that stands whole before `end`
+abbrev pub headAnswer : (ℕ → ℕ) → ℕ → ℕ → FieldHead
+headAnswer byte at end = pick (fits at end (head byte at)) (Whole (head byte at .tag) (head byte at .len)) Cut
+
+-- an item: the offset after it, or that of what is wrong
+abbrev pub item : {A : Type 0} → Decoded A → Item
+item (decoded x n) = Next n
+item (malformed p) = WrongItem p
+
+-- items: how many, and the offset after them, or that of what is wrong
+abbrev pub checked : {A : Type 0} → Decoded (List A) → Checked
+checked (decoded xs n) = Good (length xs) n
+checked (malformed p) = Wrong p
+
+module _ (byte : ℕ → ℕ) where
+  -- the content of a pool
+  abbrev pub constants : ℕ → ℕ → Decoded (List Const)
+  constants start end = items (readConst byte) constantsLimit [] start end
+
+  -- the content of a session's names
+  abbrev pub nameFields : ℕ → ℕ → Decoded (List Bytes)
+  nameFields start end = items (readNameField byte) globalsLimit [] start end
+
+  -- an image's main code
+  abbrev pub mainCode : ℕ → Decoded Code
+  mainCode n = then (readHead byte (mainHead byte) 0 n) (λ h in₀. readCode byte (h .len) in₀ (in₀ + h .len))
+
+-- an image: number 17 where something is wrong
+abbrev pub refused : ℕ → ImageCheck
+refused p = Refused (refusal badImage p)
+
+abbrev pub imageAnswer : Decoded Image → ImageCheck
+imageAnswer (decoded m n) = Sound
+imageAnswer (malformed p) = refused p
+
+-- a session: where the names that were read end, where the pool ends, and how many of each there are
+abbrev pub layout : Decoded (List Bytes) → Decoded Session → Layout
+layout (decoded ns at) (decoded z n) =
+    Laid (record { «names_end» = at; «pool_end» = n; names = length (z .globals); constants = length (z .pool) })
+layout (decoded ns at) (malformed p) = Broken
+layout (malformed q) d = Broken
+
+abbrev pub layoutOf : Bytes → Layout
+layoutOf b = layout (readNames (byteAt b) 0 (length b)) (readSession b)

@@ -1,0 +1,322 @@
+// Images and sessions on bytes: whether they are sound, and where a session's parts lie.
+use definition::Refusal;
+use field::length_at;
+use opcode::size_at;
+ghost use mathlib.Core.Path.{_≡_};
+ghost use Prim.Native.Nat.{ℕ, _+_, _≤_};
+ghost use lib.ListN.{length};
+ghost use Rattle.definition.specs.Basic.{byteAt};
+ghost use Rattle.definition.specs.Decode.{allZero, readCode, readConst, readPool, readImage, readNameField, readNames};
+ghost use Rattle.bytecode.specs.Checked.{Part, headOf, isConstant, isPool, isMain, isName, headAnswer, item, checked, constants, nameFields, mainCode, refused, imageAnswer, layoutOf};
+
+// A field's tag and content length, where the whole field stands before an end.
+pub enum FieldHead {
+    Whole(u8, usize),
+    Cut,
+}
+
+// What reading one item finds: the offset after it, or that of what is wrong.
+pub enum Item {
+    Next(usize),
+    Wrong(usize),
+}
+
+// What reading items finds: how many there are and the offset after them, or the offset of what is wrong.
+pub enum Checked {
+    Good(usize, usize),
+    Wrong(usize),
+}
+
+// What the check of an image answers.
+pub enum ImageCheck {
+    Sound,
+    Refused(Refusal),
+}
+
+// Where a session's parts lie: its names end, its pool ends, and how many of each there are.
+pub struct SessionLayout {
+    pub names_end: usize,
+    pub pool_end: usize,
+    pub names: usize,
+    pub constants: usize,
+}
+
+// What reading a session's layout answers.
+pub enum Layout {
+    Sound(SessionLayout),
+    Broken,
+}
+
+// The head of the field at `at`, if the field stands whole before `end`.
+fn head_at(bytes: &[u8], at: usize, end: usize) -> FieldHead
+    requires { ⌜ Part (now bytes) at end ⌝ }
+    ensures { λ r. ⌜ r ≡ headAnswer (byteAt (now (bytes .entry))) at end ⌝ }
+{
+    if end - at < 3 {
+        return FieldHead::Cut;
+    }
+    let len = length_at(bytes, at);
+    if end - at - 3 < len {
+        return FieldHead::Cut;
+    }
+    FieldHead::Whole(bytes[at], len)
+}
+
+// Check that code decodes from `start` up to `end`.
+fn check_code(bytes: &[u8], start: usize, end: usize) -> Checked
+    requires { ⌜ Part (now bytes) start end ⌝ }
+    ensures { λ r. ⌜ ((len : ℕ) → end ≤ start + len → r ≡ checked (readCode (byteAt (now (bytes .entry))) len start end)) ⌝ }
+{
+    let mut at = start;
+    let mut count = 0;
+    while at < end {
+        let size = size_at(bytes, at, end);
+        if size == 0 {
+            return Checked::Wrong(at);
+        }
+        at += size;
+        count += 1;
+    }
+    Checked::Good(count, at)
+}
+
+// Whether a head is a constant's.
+fn constant_head(tag: u8, len: usize) -> bool
+    ensures { λ r. ⌜ r ≡ isConstant (headOf tag len) ⌝ }
+{
+    if tag == 0x60 {
+        return len == 8;
+    }
+    if tag == 0x61 {
+        return true;
+    }
+    if tag != 0x62 {
+        return false;
+    }
+    3 <= len
+}
+
+// Check the constant at `at`.
+fn check_constant(bytes: &[u8], at: usize, end: usize) -> Item
+    requires { ⌜ Part (now bytes) at end ⌝ }
+    ensures { λ r. ⌜ r ≡ item (readConst (byteAt (now (bytes .entry))) at end) ⌝ }
+{
+    match head_at(bytes, at, end) {
+        FieldHead::Cut => Item::Wrong(at),
+        FieldHead::Whole(tag, len) => {
+            if !constant_head(tag, len) {
+                return Item::Wrong(at);
+            }
+            if tag != 0x62 {
+                return Item::Next(at + 3 + len);
+            }
+            match check_code(bytes, at + 3 + 3, at + 3 + len) {
+                Checked::Good(_, next) => Item::Next(next),
+                Checked::Wrong(place) => Item::Wrong(place),
+            }
+        }
+    }
+}
+
+// Check that constants, at most 4,096, fill the part from `start` up to `end`.
+fn check_constants(bytes: &[u8], start: usize, end: usize) -> Checked
+    requires { ⌜ Part (now bytes) start end ⌝ }
+    ensures { λ r. ⌜ r ≡ checked (constants (byteAt (now (bytes .entry))) start end) ⌝ }
+{
+    let mut at = start;
+    let mut count = 0;
+    while at < end {
+        if count == 4096 {
+            return Checked::Wrong(at);
+        }
+        match check_constant(bytes, at, end) {
+            Item::Wrong(place) => return Checked::Wrong(place),
+            Item::Next(next) => {
+                at = next;
+                count += 1;
+            }
+        }
+    }
+    Checked::Good(count, at)
+}
+
+// Whether a head is a pool's.
+fn pool_head(tag: u8, len: usize) -> bool
+    ensures { λ r. ⌜ r ≡ isPool (headOf tag len) ⌝ }
+{
+    if tag != 0x51 {
+        return false;
+    }
+    len <= 28672
+}
+
+// Check the pool at `at`.
+fn check_pool(bytes: &[u8], at: usize, end: usize) -> Checked
+    requires { ⌜ Part (now bytes) at end ⌝ }
+    ensures { λ r. ⌜ r ≡ checked (readPool (byteAt (now (bytes .entry))) at end) ⌝ }
+{
+    match head_at(bytes, at, end) {
+        FieldHead::Cut => Checked::Wrong(at),
+        FieldHead::Whole(tag, len) => {
+            if !pool_head(tag, len) {
+                return Checked::Wrong(at);
+            }
+            check_constants(bytes, at + 3, at + 3 + len)
+        }
+    }
+}
+
+// Whether a head is that of an image's main code.
+fn main_head(tag: u8, len: usize) -> bool
+    ensures { λ r. ⌜ r ≡ isMain (headOf tag len) ⌝ }
+{
+    if tag != 0x50 {
+        return false;
+    }
+    len <= 32768
+}
+
+// Check an image's main code.
+fn check_main(image: &[u8]) -> Checked
+    ensures { λ r. ⌜ r ≡ checked (mainCode (byteAt (now (image .entry))) (length (now (image .entry)))) ⌝ }
+{
+    match head_at(image, 0, image.len()) {
+        FieldHead::Cut => Checked::Wrong(0),
+        FieldHead::Whole(tag, len) => {
+            if !main_head(tag, len) {
+                return Checked::Wrong(0);
+            }
+            check_code(image, 3, 3 + len)
+        }
+    }
+}
+
+// The refusal of an image at a place.
+fn bad_image(place: usize) -> ImageCheck
+    ensures { λ r. ⌜ r ≡ refused place ⌝ }
+{
+    ImageCheck::Refused(Refusal {
+        number: 17,
+        place: place,
+    })
+}
+
+// Check an image: it is sound, or 17 at its first wrong field or instruction.
+pub fn check_image(image: &[u8]) -> ImageCheck
+    ensures { λ r. ⌜ r ≡ imageAnswer (readImage (now (image .entry))) ⌝ }
+{
+    match check_main(image) {
+        Checked::Wrong(place) => bad_image(place),
+        Checked::Good(_, at) => match check_pool(image, at, image.len()) {
+            Checked::Wrong(place) => bad_image(place),
+            Checked::Good(_, next) => {
+                if next != image.len() {
+                    return bad_image(next);
+                }
+                ImageCheck::Sound
+            }
+        },
+    }
+}
+
+// Whether a head is a name's.
+fn name_head(tag: u8, len: usize) -> bool
+    ensures { λ r. ⌜ r ≡ isName (headOf tag len) ⌝ }
+{
+    if tag != 0x30 {
+        return false;
+    }
+    if len < 1 {
+        return false;
+    }
+    len <= 32
+}
+
+// Check the name at `at`.
+fn check_name(bytes: &[u8], at: usize, end: usize) -> Item
+    requires { ⌜ Part (now bytes) at end ⌝ }
+    ensures { λ r. ⌜ r ≡ item (readNameField (byteAt (now (bytes .entry))) at end) ⌝ }
+{
+    match head_at(bytes, at, end) {
+        FieldHead::Cut => Item::Wrong(at),
+        FieldHead::Whole(tag, len) => {
+            if !name_head(tag, len) {
+                return Item::Wrong(at);
+            }
+            Item::Next(at + 3 + len)
+        }
+    }
+}
+
+// Check that names, at most 1,024, fill the part from `start` up to `end`.
+fn check_name_fields(bytes: &[u8], start: usize, end: usize) -> Checked
+    requires { ⌜ Part (now bytes) start end ⌝ }
+    ensures { λ r. ⌜ r ≡ checked (nameFields (byteAt (now (bytes .entry))) start end) ⌝ }
+{
+    let mut at = start;
+    let mut count = 0;
+    while at < end {
+        if count == 1024 {
+            return Checked::Wrong(at);
+        }
+        match check_name(bytes, at, end) {
+            Item::Wrong(place) => return Checked::Wrong(place),
+            Item::Next(next) => {
+                at = next;
+                count += 1;
+            }
+        }
+    }
+    Checked::Good(count, at)
+}
+
+// Check a session's names.
+fn check_names(session: &[u8]) -> Checked
+    ensures { λ r. ⌜ r ≡ checked (readNames (byteAt (now (session .entry))) 0 (length (now (session .entry)))) ⌝ }
+{
+    match head_at(session, 0, session.len()) {
+        FieldHead::Cut => Checked::Wrong(0),
+        FieldHead::Whole(tag, len) => {
+            if tag != 0x40 {
+                return Checked::Wrong(0);
+            }
+            check_name_fields(session, 3, 3 + len)
+        }
+    }
+}
+
+// Whether all bytes are zero: no test in the loop, so that it runs at the speed of memory.
+fn all_zero(bytes: &[u8]) -> bool
+    ensures { λ r. ⌜ r ≡ allZero (now (bytes .entry)) ⌝ }
+{
+    let mut any: u8 = 0;
+    let mut i = 0;
+    while i < bytes.len() {
+        any |= bytes[i];
+        i += 1;
+    }
+    any == 0
+}
+
+// Read a session's layout: its names, its pool, and zeros up to the end.
+pub fn read_layout(session: &[u8]) -> Layout
+    ensures { λ r. ⌜ r ≡ layoutOf (now (session .entry)) ⌝ }
+{
+    match check_names(session) {
+        Checked::Wrong(_) => Layout::Broken,
+        Checked::Good(names, names_end) => match check_pool(session, names_end, session.len()) {
+            Checked::Wrong(_) => Layout::Broken,
+            Checked::Good(constants, pool_end) => {
+                if all_zero(&session[pool_end..]) {
+                    return Layout::Sound(SessionLayout {
+                        names_end: names_end,
+                        pool_end: pool_end,
+                        names: names,
+                        constants: constants,
+                    });
+                }
+                Layout::Broken
+            }
+        },
+    }
+}

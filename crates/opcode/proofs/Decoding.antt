@@ -1,0 +1,63 @@
+-- What stands at an offset is the definition's instruction there, by its length.
+use Prim.Native.Nat.{ℕ, _+_, _≤_}
+use mathlib.Core.Path.{_≡_, refl}
+use mathlib.Core.Bool.{Bool, true, false}
+use native.Mathlib.Omega.{arith}
+use lib.Dec.{leb}
+use borrow.Author.Tests.{leb-true}
+use Rattle.definition.specs.Basic.{both}
+use Rattle.definition.specs.Number.{refusal, badInstruction}
+use Rattle.definition.specs.Opcode.{Instr, instr, instrAt, operandAt, capturesAt, width, whole, opLast}
+use Rattle.definition.specs.Decode.{decoded, malformed, readInstr}
+use Rattle.opcode.specs.declared.Instruction.{Instruction}
+use Rattle.opcode.specs.declared.Decoded.the-variants.{Instr as Found, Refused}
+use Rattle.opcode.specs.Decoding.{sizeAt, instruction, answer}
+
+pub both-left : (a b : Bool) → both a b ≡ true → a ≡ true
+both-left true b e = refl
+both-left false b e = e
+
+pub both-right : (a b : Bool) → both a b ≡ true → b ≡ true
+both-right true b e = e
+both-right false b e = let z : _≡_ {A = ℕ} 0 1 = cc in absurd (omega arith)
+
+module _ (byte : ℕ → ℕ) (at : ℕ) where
+  -- an instruction with the operands that its width has
+  pub made : (w : ℕ) {a b : ℕ} → width (byte at) ≡ w → a ≡ operandAt byte w at → b ≡ capturesAt byte w at → instruction (instr (byte at) a b) ≡ instruction (instrAt byte at)
+  made w e p q = rw (e, p, q)
+
+  module _ (end : ℕ) where
+    -- an instruction that stands whole before `end`
+    pub record Stands (size : ℕ) : Type 0 where
+      pub is : size ≡ 1 + width (byte at)
+      pub within : at + size ≤ end
+      pub found : whole byte at end ≡ true
+
+    pub stands : {size : ℕ} → size ≡ sizeAt byte at end → (size ≡ 0 → ⊥) → Stands size
+    stands {size} e n = go (whole byte at end) refl
+      where
+        go : (b : Bool) → whole byte at end ≡ b → Stands size
+        go true k =
+            let i : size ≡ 1 + width (byte at) = rw k at e in
+            let h : at + 1 + width (byte at) ≤ end = leb-true _ _ (both-right (leb (byte at) opLast) _ k) in
+            record { is = i; within = omega arith; found = k }
+        go false k = absurd (n (rw k at e))
+
+    -- it is what is read
+    pub read-next : {size : ℕ} → Stands size → readInstr byte at end ≡ decoded (instrAt byte at) (at + size)
+    read-next k = rw (k .found, k .is)
+
+    -- where none stands, nothing is read
+    pub read-none : {size : ℕ} → size ≡ sizeAt byte at end → size ≡ 0 → readInstr byte at end ≡ malformed at
+    read-none {size} e n = go (whole byte at end) refl
+      where
+        go : (b : Bool) → whole byte at end ≡ b → readInstr byte at end ≡ malformed at
+        go true k = let i : size ≡ 1 + width (byte at) = rw k at e in absurd (omega arith)
+        go false k = rw k
+
+    -- what is answered
+    pub reads : {size : ℕ} {i : Instruction} → size ≡ sizeAt byte at end → (size ≡ 0 → ⊥) → i ≡ instruction (instrAt byte at) → Found i (at + size) ≡ answer (readInstr byte at end)
+    reads e n p = rw (read-next (stands e n), p)
+
+    pub refuses : {size : ℕ} → size ≡ sizeAt byte at end → size ≡ 0 → Refused (refusal badInstruction at) ≡ answer (readInstr byte at end)
+    refuses e n = rw (read-none e n)

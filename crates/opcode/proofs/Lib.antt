@@ -1,0 +1,6 @@
+pub mod Tables
+pub mod Widths
+pub mod Decoding
+pub mod Encoding
+pub mod Copy
+pub mod Words

@@ -1,0 +1,66 @@
+-- The table's rule at every entry, and what it says of the definition's `width` and `whole`.
+use Prim.Native.Nat.{ℕ, _+_, _-_, _≤_, _<_}
+use mathlib.Core.Path.{_≡_, sym, refl}
+use mathlib.Core.Bool.{Bool, true, false}
+use native.Mathlib.Omega.{arith}
+use lib.Dec.{leb, leb→le}
+use lib.ListN.{getD}
+use borrow.Author.Tests.{lt-leb, le-leb}
+use Rattle.definition.specs.Basic.{pick, both}
+use Rattle.definition.specs.Opcode.{opLast, widths, width, whole}
+use Rattle.opcode.specs.Table.{entry, noInstruction}
+use Rattle.opcode.specs.Decoding.{sizeAt}
+use Rattle.opcode.proofs.Tables.{tabulate, tabulated, every-at}
+
+-- the whole table is its rule: antt computes all 256 entries, and each is right
+pub right-at : (o : ℕ) → o < 256 → getD (tabulate entry 0 256) o 0 ≡ entry o
+right-at o h = tabulated entry 256 o h
+
+-- at most three operand bytes
+pub width-small : (o : ℕ) → width o ≤ 3
+width-small o = leb→le (width o) 3 (every-at (λ w. leb w 3) widths tt tt o)
+
+-- a known byte's entry is its width, and no other byte's entry is a width
+pub record Known (o w : ℕ) : Type 0 where
+  pub known : leb o opLast ≡ true
+  pub is : width o ≡ w
+  pub small : w ≤ 3
+
+pub known : (o : ℕ) {w : ℕ} → w ≡ entry o → (w ≡ noInstruction → ⊥) → Known o w
+known o {w} e n = go (leb o opLast) refl
+  where
+    go : (b : Bool) → leb o opLast ≡ b → Known o w
+    go true k = let i : width o ≡ w = sym (rw k at e) in record { known = k; is = i; small = rw (← i) (width-small o) }
+    go false k = absurd (n (rw k at e))
+
+pub unknown : (o : ℕ) {w : ℕ} → w ≡ entry o → w ≡ noInstruction → leb o opLast ≡ false
+unknown o {w} e n = go (leb o opLast) refl
+  where
+    go : (b : Bool) → leb o opLast ≡ b → leb o opLast ≡ false
+    go true k = let i : w ≡ width o = rw k at e in absurd (omega (arith, width-small o))
+    go false k = k
+
+-- The length of the instruction at an offset, by the table's entry
+module _ (byte : ℕ → ℕ) (at end : ℕ) where
+  none-left : end ≤ at → both (leb (byte at) opLast) (leb (at + 1 + width (byte at)) end) ≡ false
+  none-left h = rw (lt-leb (at + 1 + width (byte at)) end (omega arith)) (go (leb (byte at) opLast))
+    where
+      go : (b : Bool) → both b false ≡ false
+      go true = refl
+      go false = refl
+
+  pub size-end : end ≤ at → 0 ≡ sizeAt byte at end
+  size-end h = rw (none-left h)
+
+  pub size-unknown : {w : ℕ} → w ≡ entry (byte at) → w ≡ noInstruction → 0 ≡ sizeAt byte at end
+  size-unknown e n = rw (unknown (byte at) e n)
+
+  pub size-cut : {w n : ℕ} → w ≡ entry (byte at) → (w ≡ noInstruction → ⊥) → n ≡ w → end - at ≤ n → 0 ≡ sizeAt byte at end
+  size-cut {w} e n i h =
+      let k = known (byte at) e n in
+      rw (k .known, k .is, lt-leb (at + 1 + w) end (omega arith))
+
+  pub size-whole : {w n : ℕ} → w ≡ entry (byte at) → (w ≡ noInstruction → ⊥) → n ≡ w → n < end - at → 1 + n ≡ sizeAt byte at end
+  size-whole {w} e n i h =
+      let k = known (byte at) e n in
+      rw (k .known, k .is, le-leb (at + 1 + w) end (omega arith), i)

@@ -1,0 +1,26 @@
+-- What decoding answers, from the definition's `readInstr`.
+use Prim.Native.Nat.{ℕ, _+_}
+use Rattle.definition.specs.Basic.{pick}
+use Rattle.definition.specs.Number.{refusal, badInstruction}
+use Rattle.definition.specs.Opcode.{Instr, instr, width, whole}
+use Rattle.definition.specs.Decode.{decoded, malformed}
+use Rattle.definition.specs.Decode as Decode
+use Rattle.opcode.specs.declared.Instruction.{Instruction}
+use Rattle.opcode.specs.declared.Decoded.{Decoded}
+use Rattle.opcode.specs.declared.Decoded.the-variants.{Instr as Found, Refused}
+
+-- the length of the instruction at an offset, 0 where none stands whole before `end`
+abbrev pub sizeAt : (ℕ → ℕ) → ℕ → ℕ → ℕ
+sizeAt byte at end = pick (whole byte at end) (1 + width (byte at)) 0
+
+-- an instruction of the definition as a value of the code, and back
+abbrev pub instruction : Instr → Instruction
+instruction i = record { op = i .op; operand = i .a; captures = i .b }
+
+abbrev pub instrOf : Instruction → Instr
+instrOf i = instr (i .op) (i .operand) (i .captures)
+
+-- what was read, as an answer: number 16 where nothing was
+abbrev pub answer : Decode.Decoded Instr → Decoded
+answer (decoded i n) = Found (instruction i) n
+answer (malformed p) = Refused (refusal badInstruction p)

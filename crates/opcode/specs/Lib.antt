@@ -1,0 +1,4 @@
+pub mod Table
+pub mod Decoding
+pub mod Encoding
+pub mod Words

@@ -1,0 +1,92 @@
+-- A run of numbers that stand for a list, the latest first: what it is made of, and what a search in it finds.
+use Prim.Native.Nat.{ℕ, zero, suc, _+_, _-_, _%_, _≤_, _<_}
+use mathlib.Core.Path.{_≡_, refl, sym, ap, subst, _∙_}
+use mathlib.Core.Bool.{true, false}
+use mathlib.Core.Logic.{⊎-elim}
+use mathlib.Core.List.{List, [], _∷_}
+use mathlib.Core.Option.{none, some}
+use native.Mathlib.Nat.{eq-or-lt-of-le}
+use native.Mathlib.Omega.{arith}
+use lib.ListN.{length, getD}
+use Rattle.definition.specs.Basic.{Bytes}
+use Rattle.definition.specs.SymbolTable.{same, find, findGlobal}
+use Rattle.symbol_table.specs.Name.{content, hashOf}
+use Rattle.symbol_table.specs.Layout.{entriesAt, nameIn, codeIn, tagIn, entryOf, symbolOf, back, GoodEntry, globalName, Latest}
+use Rattle.symbol_table.proofs.Names.{hash-differs}
+
+-- the last index, or one before it
+pub last-or-before : (P : ℕ → Type 0) (n i : ℕ) → i < suc n → P n → (i < n → P i) → P i
+last-or-before P n i l x f = ⊎-elim (λ (e : i ≡ n). subst P (sym e) x) f (eq-or-lt-of-le {n = i} {m = n} (omega arith))
+
+module _ {A : Type 0} (f : ℕ → A) (r : List ℕ) (s : ℕ) where
+  pub back-none : (k : ℕ) → k ≤ 0 → back f r s k ≡ []
+  unfolding back
+  back-none k h = let e : k ≡ 0 = omega arith in rw e
+
+  pub back-more : (k : ℕ) → 0 < k → back f r s k ≡ f (getD r (s + (k - 1)) 0) ∷ back f r s (k - 1)
+  unfolding back
+  back-more zero h = absurd (omega arith)
+  back-more (suc n) h = let e : suc n - 1 ≡ n = omega arith in rw e
+
+  pub back-next : (k : ℕ) → back f r s (suc k) ≡ f (getD r (s + k) 0) ∷ back f r s k
+  unfolding back
+  back-next k = refl
+
+  pub length-back : (n : ℕ) → length (back f r s n) ≡ n
+  unfolding back
+  length-back zero = refl
+  length-back (suc n) = ap suc (length-back n)
+
+  -- only those numbers count
+  pub back-same : (r′ : List ℕ) (n : ℕ) → ((j : ℕ) → s ≤ j → j < s + n → getD r′ j 0 ≡ getD r j 0) → back f r′ s n ≡ back f r s n
+  unfolding back
+  back-same r′ zero h = refl
+  back-same r′ (suc n) h = rw (h (s + n) (omega arith) (omega arith), back-same r′ n (λ j a b. h j a (omega arith)))
+
+-- the latest of k entries
+module _ (tree : Bytes) (r : List ℕ) (n : Bytes) (k : ℕ) where
+  pub find-none : k ≤ 0 → find n (back (entryOf tree) r entriesAt k) ≡ none
+  unfolding find
+  find-none h = rw (back-none (entryOf tree) r entriesAt k h)
+
+  module _ (h : 0 < k) where
+    pub find-hit : same n (content tree (nameIn (getD r (entriesAt + (k - 1)) 0))) ≡ true → find n (back (entryOf tree) r entriesAt k) ≡ some (symbolOf (codeIn (getD r (entriesAt + (k - 1)) 0)))
+    unfolding find
+    find-hit e = rw (back-more (entryOf tree) r entriesAt k h, e)
+
+    pub find-miss : same n (content tree (nameIn (getD r (entriesAt + (k - 1)) 0))) ≡ false → find n (back (entryOf tree) r entriesAt k) ≡ find n (back (entryOf tree) r entriesAt (k - 1))
+    unfolding find
+    find-miss e = rw (back-more (entryOf tree) r entriesAt k h, e)
+
+    -- other bits of the hash: another name
+    pub find-other : GoodEntry tree (getD r (entriesAt + (k - 1)) 0) → (tagIn (getD r (entriesAt + (k - 1)) 0) ≡ hashOf n % 128 → ⊥) → find n (back (entryOf tree) r entriesAt k) ≡ find n (back (entryOf tree) r entriesAt (k - 1))
+    find-other g d = find-miss (hash-differs (λ x. hashOf x % 128) n (content tree (nameIn (getD r (entriesAt + (k - 1)) 0))) (λ e. d (g .tag ∙ sym e)))
+
+-- the latest of k globals
+module _ (name : ℕ → Bytes) (g : List ℕ) (n : Bytes) where
+  pub global-none : (k : ℕ) → k ≤ 0 → findGlobal n (back name g 1 k) ≡ none
+  unfolding findGlobal
+  global-none k h = rw (back-none name g 1 k h)
+
+  module _ (k : ℕ) (h : 0 < k) where
+    pub global-hit : same n (name (getD g (1 + (k - 1)) 0)) ≡ true → findGlobal n (back name g 1 k) ≡ some (k - 1)
+    unfolding findGlobal
+    global-hit e = rw (back-more name g 1 k h, e, length-back name g 1 (k - 1))
+
+    pub global-miss : same n (name (getD g (1 + (k - 1)) 0)) ≡ false → findGlobal n (back name g 1 k) ≡ findGlobal n (back name g 1 (k - 1))
+    unfolding findGlobal
+    global-miss e = rw (back-more name g 1 k h, e)
+
+  -- those of other hashes are skipped
+  others-skipped : (hash p k : ℕ) → hash ≡ hashOf n → p ≤ k → ((i : ℕ) → p ≤ i → i < k → hashOf (name (getD g (1 + i) 0)) ≡ hash → ⊥) → findGlobal n (back name g 1 k) ≡ findGlobal n (back name g 1 p)
+  unfolding findGlobal back
+  others-skipped hash p zero is l other = let e : p ≡ 0 = omega arith in rw e
+  others-skipped hash p (suc k) is l other =
+      ⊎-elim (λ e. rw e)
+      (λ lt.
+      rw (hash-differs hashOf n (name (getD g (1 + k) 0)) (λ e. other k (omega arith) (omega arith) (sym e ∙ sym is)))
+      (others-skipped hash p k is (omega arith) (λ i a b. other i a (omega arith))))
+      (eq-or-lt-of-le {n = p} {m = suc k} l)
+
+  pub global-skip : (hash p k : ℕ) → hash ≡ hashOf n → Latest name g hash p k → findGlobal n (back name g 1 k) ≡ findGlobal n (back name g 1 p)
+  global-skip hash p k is x = others-skipped hash p k is (x .below) (x .other)

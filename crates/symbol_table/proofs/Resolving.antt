@@ -1,0 +1,92 @@
+-- How a lookup ends: outside all functions, in the innermost table, or coming back through it.
+use Prim.Native.Nat.{ℕ, suc, _+_}
+use mathlib.Core.Path.{_≡_, refl, sym, _∙_}
+use mathlib.Core.List.{List, [], _∷_, _++_}
+use mathlib.Core.Option.{Option, none, some}
+use native.Mathlib.Omega.{arith}
+use lib.ListN.{length, take, drop}
+use lib.Seq.{take-all, take-at, drop-at, take-take, drop-drop}
+use Rattle.definition.specs.Basic.{Bytes}
+use Rattle.definition.specs.SymbolTable.{Symbol, find, findGlobal, findBuiltin, Resolved, outermost, resolve}
+use Rattle.symbol_table.specs.Name.{content}
+use Rattle.symbol_table.specs.Layout.{globalsSize, partSize, base, part, symbolOf, tableOf, tablesOf, globalsIn, GoodTable, GoodGlobals, Good}
+use Rattle.symbol_table.specs.Contract.{asSymbol, resolvedOf, IsName, Inside, Crosses, Resolves}
+use Rattle.symbol_table.specs.declared.Lookup.{Lookup}
+use Rattle.symbol_table.specs.declared.Lookup.the-variants.{Found}
+use Rattle.symbol_table.proofs.Levels.{tables-agree, good-agree, base-more}
+
+-- what stands well with so many open functions
+module _ (tree names : Bytes) (a : List ℕ) (level : ℕ) (g : Good tree names level a) where
+  pub good-globals : level ≡ 0 → GoodGlobals tree names (take globalsSize a)
+  unfolding Good
+  good-globals e = rw e at g
+
+  module _ (l : ℕ) (e : level ≡ suc l) where
+    pub good-here : GoodTable tree (part l a)
+    unfolding Good
+    good-here = (rw e at g) .0
+
+    pub good-around : Good tree names l (take (base l) a)
+    unfolding Good
+    good-around = good-agree tree names l a (take (base l) a) (sym (take-take (base l) (base l) a (omega arith))) ((rw e at g) .1)
+
+-- the innermost part, where the ones around it changed
+pub part-after : (a : List ℕ) (l : ℕ) (p : List ℕ) → length p ≡ base l → part l (p ++ drop (base l) a) ≡ part l a
+part-after a l p size = rw (drop-at p (drop (base l) a) (base l) size)
+
+-- outside all functions
+module _ (bs gs : List Bytes) (n : Bytes) where
+  found-global : (x y : Option ℕ) (c : ℕ) → some (symbolOf c) ≡ asSymbol Symbol.global x → Resolved.found (symbolOf c) [] ≡ outermost x y
+  found-global (some k) y c e = cc
+  found-global none y c e = cc
+
+  found-builtin : (x y : Option ℕ) (c : ℕ) → none ≡ asSymbol Symbol.global x → some (symbolOf c) ≡ asSymbol Symbol.builtin y → Resolved.found (symbolOf c) [] ≡ outermost x y
+  found-builtin (some k) y c e f = cc
+  found-builtin none (some k) c e f = cc
+  found-builtin none none c e f = cc
+
+  found-none : (x y : Option ℕ) → none ≡ asSymbol Symbol.global x → none ≡ asSymbol Symbol.builtin y → Resolved.undefined ≡ outermost x y
+  found-none (some k) y e f = cc
+  found-none none (some k) e f = cc
+  found-none none none e f = refl
+
+  pub global-resolved : (c : ℕ) → some (symbolOf c) ≡ asSymbol Symbol.global (findGlobal n gs) → Resolved.found (symbolOf c) [] ≡ resolve bs gs n []
+  unfolding resolve
+  global-resolved c e = found-global (findGlobal n gs) (findBuiltin n bs 0) c e
+
+  pub builtin-resolved : (c : ℕ) → none ≡ asSymbol Symbol.global (findGlobal n gs) → some (symbolOf c) ≡ asSymbol Symbol.builtin (findBuiltin n bs 0) → Resolved.found (symbolOf c) [] ≡ resolve bs gs n []
+  unfolding resolve
+  builtin-resolved c e f = found-builtin (findGlobal n gs) (findBuiltin n bs 0) c e f
+
+  pub none-resolved : none ≡ asSymbol Symbol.global (findGlobal n gs) → none ≡ asSymbol Symbol.builtin (findBuiltin n bs 0) → Resolved.undefined ≡ resolve bs gs n []
+  unfolding resolve
+  none-resolved e f = found-none (findGlobal n gs) (findBuiltin n bs 0) e f
+
+module _ (bs : List Bytes) (tree names : Bytes) (a : List ℕ) (level name : ℕ) (g : Good tree names level a) where
+  pub resolved-outermost : (answer : Lookup) → level ≡ 0 → resolvedOf answer [] ≡ resolve bs (globalsIn tree names a) (content tree name) [] → Resolves bs tree names level name answer a a
+  unfolding tablesOf
+  resolved-outermost answer e h = record { resolved = rw e h; globals = refl; good = g; above = refl }
+
+  module _ (l : ℕ) (e : level ≡ suc l) where
+    pub resolved-here : (code : ℕ) → some (symbolOf code) ≡ find (content tree name) (tableOf tree (part l a) .entries) → Resolves bs tree names level name (Found code) a a
+    unfolding tablesOf resolve
+    resolved-here code h = record { resolved = rw (e, ← h); globals = refl; good = g; above = refl }
+
+    pub resolved-around : (hash : ℕ) (p a′ : List ℕ) (outer answer : Lookup) → length p ≡ base l → IsName tree name hash → none ≡ find (content tree name) (tableOf tree (part l a) .entries)
+        → Resolves bs tree names l name outer (take (base l) a) p → Inside (Crosses name hash outer answer) l (p ++ drop (base l) a) a′ → Resolves bs tree names level name answer a a′
+    unfolding tablesOf resolve Good
+    resolved-around hash p a′ outer answer size is miss around x =
+        let below : take (base l) a′ ≡ p = x .below ∙ take-at p (drop (base l) a) (base l) size in
+        let whole : take (base l) p ≡ p = take-all (base l) p (omega arith) in
+        let globals : take globalsSize (take (base l) a) ≡ take globalsSize a = take-take globalsSize (base l) a (omega arith) in
+        let same : part l (p ++ drop (base l) a) ≡ part l a = part-after a l p size in
+        rw e
+        (record {
+          resolved =
+              rw (tables-agree tree names l a′ p (below ∙ sym whole))
+              (x .here .resolved tree (tablesOf tree l p)
+              ∙ rw (same, ← miss, around .resolved, globals, tables-agree tree names l (take (base l) a) a (take-take (base l) (base l) a (omega arith))));
+          globals = sym (take-take globalsSize (base l) a′ (omega arith)) ∙ rw below (around .globals ∙ globals);
+          good = (x .here .good tree is (rw same (good-here tree names a level g l e)), good-agree tree names l p a′ (whole ∙ sym below) (around .good));
+          above = rw base-more (x .above ∙ rw (← drop-drop partSize (base l) (p ++ drop (base l) a), drop-at p (drop (base l) a) (base l) size, drop-drop partSize (base l) a));
+        })

@@ -1,0 +1,104 @@
+-- The names of a session, entered one after the other: what is left decides.
+use Prim.Native.Nat.{ℕ, suc, _+_, _-_, _≤_, _<_}
+use mathlib.Core.Path.{_≡_, refl, sym, ap, _∙_}
+use mathlib.Core.Bool.{true, false}
+use mathlib.Core.Logic.{_≢_}
+use mathlib.Core.List.{List, [], _∷_, _++_}
+use native.Mathlib.Omega.{arith}
+use lib.ListN.{length, getD, set, take, drop, length-set}
+use lib.Seq.{getD-set-same, getD-set-other, length-take-le, take-at, drop-at}
+use borrow.Author.Tests.{lt-ltb}
+use Rattle.definition.specs.Basic.{Bytes, byteAt}
+use Rattle.definition.specs.Limit.{sessionSize, globalsLimit}
+use Rattle.definition.specs.Decode.{decoded, items, readNameField}
+use Rattle.symbol_table.specs.Name.{len, after, content, Stands, buckets, hashOf}
+use Rattle.symbol_table.specs.Layout.{globalsSize, headsAt, back, GlobalStands, GoodGlobals, globalName, globalsOf, Good}
+use Rattle.symbol_table.specs.Store.{globalIn}
+use Rattle.symbol_table.specs.Contract.{HasNames, StartsGlobals, Starts}
+use Rattle.symbol_table.proofs.Back.{last-or-before}
+use Rattle.symbol_table.proofs.Names.{len-take, content-take}
+use Rattle.symbol_table.proofs.Reading.{items-none, Next, items-next, IsRead, name-read, NamesRead, names-read}
+use Rattle.symbol_table.proofs.Pushing.{global-count, globals-more, globals-good}
+
+-- names that are left to enter, from an offset to the end
+pub record Begun (session : Bytes) (end : ℕ) (g : List ℕ) (at : ℕ) : Type 0 where
+  pub before : at ≤ end
+  pub within : end ≤ length session
+  pub left : (tree : Bytes) (h : HasNames session) → items (readNameField (byteAt session)) (globalsLimit - getD g 0 0) (globalsOf tree (take end session) g) at end ≡ decoded (h .names) (h .end)
+  pub good : (tree : Bytes) → GoodGlobals tree (take end session) g
+
+module _ (session : Bytes) where
+  -- no global yet
+  pub begun-start : (g : List ℕ) → length g ≡ globalsSize → ((h : ℕ) → h < buckets → getD g (headsAt + h) 0 ≡ 0) → HasNames session → Begun session (after session 0) (set g 0 0) 3
+  unfolding globalsOf back
+  begun-start g size clear has =
+      let inside : 0 < length g = omega arith in
+      let none : getD (set g 0 0) 0 0 ≡ 0 = getD-set-same g 0 0 0 inside in
+      let r : NamesRead session (has .names) (has .end) = names-read session (has .names) (has .end) (has .reads) in
+      record {
+        before = omega arith;
+        within = r .fits;
+        left = λ tree h. rw none (names-read session (h .names) (h .end) (h .reads) .items);
+        good = λ tree. record {
+          size = length-set g 0 0 ∙ size;
+          count = omega arith;
+          stands = λ i l. absurd (omega arith);
+          links = λ i l. absurd (omega arith);
+          heads = λ h l.
+              let other : headsAt + h ≢ 0 = omega arith in
+              let zero : getD (set g 0 0) (headsAt + h) 0 ≡ 0 = getD-set-other g 0 (headsAt + h) 0 0 other ∙ clear h l in
+              record { below = omega arith; is = λ a. absurd (omega arith); other = λ i a b. absurd (omega arith) };
+        };
+      }
+
+  module _ (end : ℕ) (g : List ℕ) (at : ℕ) (x : Begun session end g at) where
+    -- the next name
+    pub record Here : Type 0 where
+      pub fits : after session at ≤ end
+      pub room : getD g 0 0 < globalsLimit
+      pub rest : (tree : Bytes) (h : HasNames session) → items (readNameField (byteAt session)) (globalsLimit - getD g 0 0 - 1) (content session at ∷ globalsOf tree (take end session) g) (after session at) end ≡ decoded (h .names) (h .end)
+
+    pub begun-here : HasNames session → at < end → Here
+    begun-here has l = record { fits = read [] has .fits; room = omega (arith, next [] has .some); rest = λ tree h. rw (← read tree h .name, ← read tree h .next) (next tree h .rest) }
+      where
+        next : (tree : Bytes) (h : HasNames session) → Next (readNameField (byteAt session)) (globalsLimit - getD g 0 0) (globalsOf tree (take end session) g) at end (h .names) (h .end)
+        next tree h = items-next (readNameField (byteAt session)) (globalsLimit - getD g 0 0) (globalsOf tree (take end session) g) at end (h .names) (h .end) (λ e. omega arith) (x .left tree h)
+
+        read : (tree : Bytes) (h : HasNames session) → IsRead session at end (next tree h .first) (next tree h .at₁)
+        read tree h = name-read session at end (next tree h .first) (next tree h .at₁) (x .within) (next tree h .here)
+
+    pub begun-step : (hash : ℕ) → length session ≤ sessionSize → Here → hash ≡ hashOf (content session at) → hash < buckets → Begun session end (globalIn g at hash) (after session at)
+    begun-step hash small here is below =
+        let size : length g ≡ globalsSize = x .good [] .size in
+        let inside : at < 65536 = omega (arith, here .fits, x .within) in
+        let same : content (take end session) at ≡ content session at = content-take session at end (here .fits) in
+        let name : (tree : Bytes) → globalName tree (take end session) at ≡ content session at = λ tree. rw (lt-ltb at 65536 inside) same in
+        let stands : Stands (take end session) at = rw (len-take session at end (here .fits), length-take-le end session (x .within)) (here .fits) in
+        record {
+          before = here .fits;
+          within = x .within;
+          left = λ tree h.
+              let n : globalsLimit - getD (globalIn g at hash) 0 0 ≡ globalsLimit - getD g 0 0 - 1 = omega (arith, global-count g at hash size (here .room) below) in
+              rw (n, globals-more g at hash size (here .room) below tree (take end session), name tree) (here .rest tree h);
+          good = λ tree.
+              globals-good g at hash size (here .room) below tree (take end session) (rw (name tree) is) (record { old = λ l. stands; new = λ l. absurd (omega arith) }) (x .good tree);
+        }
+
+    pub begun-none : HasNames session → end ≤ at → StartsGlobals session end g
+    begun-none has l = record { globals = λ tree h. all tree (h .names) (h .end) (x .left tree h); good = x .good }
+      where
+        all : (tree : Bytes) (ns : List Bytes) (e : ℕ) → items (readNameField (byteAt session)) (globalsLimit - getD g 0 0) (globalsOf tree (take end session) g) at end ≡ decoded ns e → globalsOf tree (take end session) g ≡ ns
+        all tree ns e h = cc (items-none (readNameField (byteAt session)) (globalsLimit - getD g 0 0) (globalsOf tree (take end session) g) at end (omega arith))
+
+-- a head more is 0
+pub cleared-more : (g : List ℕ) (i : ℕ) → length g ≡ globalsSize → i < buckets → ((h : ℕ) → h < i → getD g (headsAt + h) 0 ≡ 0) → (h : ℕ) → h < i + 1 → getD (set g (headsAt + i) 0) (headsAt + h) 0 ≡ 0
+cleared-more g i size below old h l =
+    last-or-before (λ k. getD (set g (headsAt + i) 0) (headsAt + k) 0 ≡ 0) i h (omega arith) (getD-set-same g (headsAt + i) 0 0 (omega arith))
+    (λ lt. getD-set-other g (headsAt + i) (headsAt + h) 0 0 (omega arith) ∙ old h lt)
+
+-- in the whole area
+pub started : (session : Bytes) (end : ℕ) (a g′ : List ℕ) → length g′ ≡ globalsSize → StartsGlobals session end g′ → Starts session end a (g′ ++ drop globalsSize a)
+unfolding Good
+started session end a g′ size x =
+    let whole : take globalsSize (g′ ++ drop globalsSize a) ≡ g′ = take-at g′ (drop globalsSize a) globalsSize size in
+    record { globals = λ tree h. rw whole (x .globals tree h); good = λ tree. rw whole (x .good tree); above = drop-at g′ (drop globalsSize a) globalsSize size }

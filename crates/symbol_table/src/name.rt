@@ -1,0 +1,62 @@
+// Names: a name is known by the offset of its field.
+ghost use mathlib.Core.Path.{_≡_};
+ghost use Prim.Native.Nat.{_<_};
+ghost use Rattle.definition.specs.SymbolTable.{same};
+ghost use Rattle.symbol_table.specs.Name.{content, Stands, buckets, hashOf};
+
+// The content of the field at an offset.
+pub fn name_at(bytes: &[u8], at: usize) -> &[u8]
+    requires { ⌜ Stands (now bytes) at ⌝ }
+    ensures { λ r. ⌜ now r ≡ content (now (bytes .entry)) at ⌝ }
+{
+    let start = at + 3;
+    let end = start + field::length_at(bytes, at);
+    &bytes[start..end]
+}
+
+// Whether two names are the same.
+pub fn same_name(x: &[u8], y: &[u8]) -> bool
+    ensures { λ r. ⌜ r ≡ same (now (x .entry)) (now (y .entry)) ⌝ }
+{
+    if x.len() != y.len() {
+        return false;
+    }
+    let mut i = 0;
+    while i < x.len() {
+        if x[i] != y[i] {
+            return false;
+        }
+        i += 1;
+    }
+    true
+}
+
+// A name's hash.
+pub fn hash_name(name: &[u8]) -> usize
+    ensures is { λ r. ⌜ r ≡ hashOf (now (name .entry)) ⌝ }
+    ensures small { λ r. ⌜ r < buckets ⌝ }
+{
+    let mut hash: usize = 0;
+    let mut i = 0;
+    while i < name.len() {
+        hash = (hash * 37 + field::wide(name[i])) % 1024;
+        i += 1;
+    }
+    hash
+}
+
+// The hash of the name at an offset.
+pub fn hash_at(bytes: &[u8], at: usize) -> usize
+    requires { ⌜ Stands (now bytes) at ⌝ }
+    ensures is { λ r. ⌜ r ≡ hashOf (content (now (bytes .entry)) at) ⌝ }
+    ensures small { λ r. ⌜ r < buckets ⌝ }
+{
+    hash_name(name_at(bytes, at))
+}
+
+// A number of the table area as an index.
+pub fn wide32(x: u32) -> usize
+    ensures { λ r. ⌜ r ≡ x ⌝ }
+{
+    x as usize
+}
