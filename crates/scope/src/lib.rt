@@ -13,7 +13,7 @@ ghost use Rattle.scope.specs.Code.{lengthOf, opcodeOf, jumpAndPatch};
 mod instruction;
 pub mod numbers;
 pub mod opcodes;
-mod widths;
+pub mod widths;
 
 // The size of the code area: the open chunks together.
 pub const CODE_SIZE: usize = 32768;
