@@ -14,7 +14,7 @@ use Rattle.symbol_table.specs.Store.{enteredIn, localIn, globalIn}
 use Rattle.symbol_table.specs.Contract.{IsName, Inside, DefinesGlobal, DefinesLocal, Defines, Params, Opens, Enters}
 use Rattle.symbol_table.specs.declared.Definition.{Definition}
 use Rattle.symbol_table.specs.declared.Definition.the-variants.{Global, Local, GlobalsFull, LocalsFull}
-use Rattle.symbol_table.proofs.Pushing.{globals-length, globals-more, globals-good, fresh-more}
+use Rattle.symbol_table.proofs.Pushing.{globals-length, globals-more, globals-good}
 use Rattle.symbol_table.proofs.Tables.{local-table, local-good, entered-table, entered-good}
 use Rattle.symbol_table.proofs.Slices.{take-agree}
 use Rattle.symbol_table.proofs.Levels.{tables-agree, good-agree, base-more}
@@ -46,7 +46,7 @@ module _ (tree names : Bytes) (name : ℕ) where
 -- among the globals
 module _ (g : List ℕ) (name hash : ℕ) where
   pub globals-full : globalsLimit ≤ getD g 0 0 → DefinesGlobal name hash GlobalsFull g g
-  globals-full h = record { defined = λ tree names. rw (globals-length g tree names, le-leb globalsLimit (getD g 0 0) h); good = λ tree names n x. x; fresh = λ m x. x }
+  globals-full h = record { defined = λ tree names. rw (globals-length g tree names, le-leb globalsLimit (getD g 0 0) h); good = λ tree names n x. x }
 
   pub global-defined : length g ≡ globalsSize → getD g 0 0 < globalsLimit → hash < buckets → DefinesGlobal name hash (Global (getD g 0 0)) g (globalIn g (65536 + name) hash)
   global-defined size room small =
@@ -55,7 +55,6 @@ module _ (g : List ℕ) (name hash : ℕ) where
             rw (globals-more g (65536 + name) hash size room small tree names, global-name tree names name, globals-length g tree names, lt-leb globalsLimit (getD g 0 0) room);
         good = λ tree names n.
             globals-good g (65536 + name) hash size room small tree names (rw (global-name tree names name) (n .is)) (global-stands tree names name (n .stands));
-        fresh = λ m. fresh-more g (65536 + name) hash size room small m (omega arith);
       }
 
 -- in the whole area
@@ -69,7 +68,6 @@ module _ (a : List ℕ) (level name : ℕ) where
         (record {
           defined = λ names. rw whole (x .defined tree names);
           good = λ names h. rw whole (x .good tree names n h);
-          fresh = λ m h. rw whole (x .fresh m h);
           above = drop-at g′ (drop globalsSize a) globalsSize size;
         })
 
@@ -82,7 +80,6 @@ module _ (a : List ℕ) (level name : ℕ) where
               rw (take-agree globalsSize (base l) a′ a (omega arith) (x .below), tables-agree tree names l a′ a (x .below))
               (x .here .defined tree (globalsIn tree names a) (tablesOf tree l a));
           good = λ names h. (x .here .good tree n (h .0), good-agree tree names l a a′ (sym (x .below)) (h .1));
-          fresh = λ m h. rw (take-agree globalsSize (base l) a′ a (omega arith) (x .below)) h;
           above = rw base-more (x .above);
         })
 

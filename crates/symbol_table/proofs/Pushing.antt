@@ -12,7 +12,7 @@ use borrow.Author.Tests.{eqb-true, eqb-false}
 use Rattle.definition.specs.Basic.{Bytes}
 use Rattle.definition.specs.Limit.{globalsLimit}
 use Rattle.symbol_table.specs.Name.{buckets, hashOf}
-use Rattle.symbol_table.specs.Layout.{globalsSize, linksAt, headsAt, back, GlobalStands, GoodGlobals, Latest, globalName, globalsOf, FromTree}
+use Rattle.symbol_table.specs.Layout.{globalsSize, linksAt, headsAt, back, GlobalStands, GoodGlobals, Latest, globalName, globalsOf}
 use Rattle.symbol_table.specs.Store.{globalIn}
 use Rattle.symbol_table.proofs.Back.{last-or-before, back-same, length-back}
 
@@ -117,12 +117,4 @@ module _ (g : List ℕ) (v hash : ℕ) (size : length g ≡ globalsSize) (room :
             (λ lt. rw (global-name i lt) (x .stands i lt));
         links = λ i l. links-more (globalName tree names) is i (omega (arith, global-count)) (x .links) (x .heads hash small);
         heads = λ h l. heads-more (globalName tree names) is h l (x .heads h l);
-      }
-
-  pub fresh-more : (m : ℕ) → 65536 ≤ v → FromTree m g → FromTree m (globalIn g v hash)
-  fresh-more m new x =
-      record {
-        new = λ i a b.
-            last-or-before (λ k. 65536 ≤ getD (globalIn g v hash) (1 + k) 0) (getD g 0 0) i (omega (arith, global-count)) (rw global-new new)
-            (λ lt. rw (global-name i lt) (x .new i a lt));
       }

@@ -18,7 +18,7 @@ use Rattle.symbol_table.specs.Contract.{HasNames, StartsGlobals, Starts}
 use Rattle.symbol_table.proofs.Back.{last-or-before}
 use Rattle.symbol_table.proofs.Names.{len-take, content-take}
 use Rattle.symbol_table.proofs.Reading.{items-none, Next, items-next, IsRead, name-read, NamesRead, names-read}
-use Rattle.symbol_table.proofs.Pushing.{globals-length, global-count, globals-more, globals-good}
+use Rattle.symbol_table.proofs.Pushing.{global-count, globals-more, globals-good}
 
 -- names that are left to enter, from an offset to the end
 pub record Begun (session : Bytes) (end : ℕ) (g : List ℕ) (at : ℕ) : Type 0 where
@@ -85,14 +85,7 @@ module _ (session : Bytes) where
         }
 
     pub begun-none : HasNames session → end ≤ at → StartsGlobals session end g
-    begun-none has l =
-        record {
-          globals = λ tree h. all tree (h .names) (h .end) (x .left tree h);
-          good = x .good;
-          fresh = λ h.
-              let n : length (h .names) ≡ getD g 0 0 = ap length (sym (all [] (h .names) (h .end) (x .left [] h))) ∙ globals-length g [] (take end session) in
-              record { new = λ i a b. absurd (omega arith) };
-        }
+    begun-none has l = record { globals = λ tree h. all tree (h .names) (h .end) (x .left tree h); good = x .good }
       where
         all : (tree : Bytes) (ns : List Bytes) (e : ℕ) → items (readNameField (byteAt session)) (globalsLimit - getD g 0 0) (globalsOf tree (take end session) g) at end ≡ decoded ns e → globalsOf tree (take end session) g ≡ ns
         all tree ns e h = cc (items-none (readNameField (byteAt session)) (globalsLimit - getD g 0 0) (globalsOf tree (take end session) g) at end (omega arith))
@@ -108,4 +101,4 @@ pub started : (session : Bytes) (end : ℕ) (a g′ : List ℕ) → length g′ 
 unfolding Good
 started session end a g′ size x =
     let whole : take globalsSize (g′ ++ drop globalsSize a) ≡ g′ = take-at g′ (drop globalsSize a) globalsSize size in
-    record { globals = λ tree h. rw whole (x .globals tree h); good = λ tree. rw whole (x .good tree); fresh = λ h. rw whole (x .fresh h); above = drop-at g′ (drop globalsSize a) globalsSize size }
+    record { globals = λ tree h. rw whole (x .globals tree h); good = λ tree. rw whole (x .good tree); above = drop-at g′ (drop globalsSize a) globalsSize size }

@@ -3,15 +3,14 @@ use Prim.Native.Nat.{ℕ, suc, _+_, _≤_, _<_}
 use mathlib.Core.Path.{_≡_}
 use mathlib.Core.List.{List, [], _∷_}
 use mathlib.Core.Option.{Option, none, some}
-use lib.ListN.{length, getD, take, drop}
+use lib.ListN.{length, take, drop}
 use Rattle.definition.specs.Basic.{Bytes, byteAt}
-use Rattle.definition.specs.Limit.{globalsLimit}
 use Rattle.definition.specs.Number
 use Rattle.definition.specs.Opcode.{instr, opSetGlobal, opSetLocal}
 use Rattle.definition.specs.SymbolTable.{Symbol, Table, Resolved, cross, resolve, Defined, place, named, withParams}
 use Rattle.definition.specs.Decode.{decoded, readNames}
 use Rattle.symbol_table.specs.Name.{after, content, Stands, fields, hashOf}
-use Rattle.symbol_table.specs.Layout.{globalsSize, partSize, base, part, symbolOf, tableOf, tablesOf, globalsOf, globalsIn, GoodTable, GoodGlobals, FromTree, Good}
+use Rattle.symbol_table.specs.Layout.{globalsSize, partSize, base, part, symbolOf, tableOf, tablesOf, globalsOf, globalsIn, GoodTable, GoodGlobals, Good}
 use Rattle.symbol_table.specs.declared.Hit.{Hit}
 use Rattle.symbol_table.specs.declared.Hit.the-variants.{At, Nothing}
 use Rattle.symbol_table.specs.declared.Lookup.{Lookup}
@@ -69,7 +68,6 @@ pub record Resolves (builtins : List Bytes) (tree names : Bytes) (level name : �
 pub record DefinesGlobal (name hash : ℕ) (answer : Definition) (g g′ : List ℕ) : Type 0 where
   pub defined : (tree names : Bytes) → definedOf answer (globalsOf tree names g′) [] ≡ place (content tree name) (globalsOf tree names g) []
   pub good : (tree names : Bytes) → IsName tree name hash → GoodGlobals tree names g → GoodGlobals tree names g′
-  pub fresh : (m : ℕ) → FromTree m g → FromTree m g′
 
 -- a definition in a function's part
 pub record DefinesLocal (name hash : ℕ) (answer : Definition) (r r′ : List ℕ) : Type 0 where
@@ -80,7 +78,6 @@ pub record DefinesLocal (name hash : ℕ) (answer : Definition) (r r′ : List �
 pub record Defines (tree : Bytes) (level name : ℕ) (answer : Definition) (a a′ : List ℕ) : Type 0 where
   pub defined : (names : Bytes) → definedOf answer (globalsIn tree names a′) (tablesOf tree level a′) ≡ place (content tree name) (globalsIn tree names a) (tablesOf tree level a)
   pub good : (names : Bytes) → Good tree names level a → Good tree names level a′
-  pub fresh : (m : ℕ) → FromTree m (take globalsSize a) → FromTree m (take globalsSize a′)
   pub above : drop (base level) a′ ≡ drop (base level) a
 
 -- so many parameters more in a function's part, the fields from an offset on
@@ -110,19 +107,9 @@ pub record HasNames (session : Bytes) : Type 0 where
 pub record StartsGlobals (session : Bytes) (end : ℕ) (g′ : List ℕ) : Type 0 where
   pub globals : (tree : Bytes) (h : HasNames session) → globalsOf tree (take end session) g′ ≡ h .names
   pub good : (tree : Bytes) → GoodGlobals tree (take end session) g′
-  pub fresh : (h : HasNames session) → FromTree (length (h .names)) g′
 
 -- the table area as a compile starts: the session's names, and no open function
 pub record Starts (session : Bytes) (end : ℕ) (a a′ : List ℕ) : Type 0 where
   pub globals : (tree : Bytes) (h : HasNames session) → globalsIn tree (take end session) a′ ≡ h .names
   pub good : (tree : Bytes) → Good tree (take end session) 0 a′
-  pub fresh : (h : HasNames session) → FromTree (length (h .names)) (take globalsSize a′)
   pub above : drop globalsSize a′ ≡ drop globalsSize a
-
--- the global of an index is a name of the tree
-pub record NewGlobal (k : ℕ) (g : List ℕ) : Type 0 where
-  pub first : ℕ
-  pub fresh : FromTree first g
-  pub from : first ≤ k
-  pub within : k < getD g 0 0
-  pub small : k < globalsLimit

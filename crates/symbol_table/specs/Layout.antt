@@ -88,13 +88,9 @@ tablesOf tree (suc l) a = tableOf tree (part l a) ∷ tablesOf tree l a
 abbrev pub globalName : Bytes → Bytes → ℕ → Bytes
 globalName tree names v = pick (ltb v 65536) (content names v) (content tree (v - 65536))
 
--- the first so many global names, the latest first
-abbrev pub firstGlobals : Bytes → Bytes → List ℕ → ℕ → List Bytes
-firstGlobals tree names g n = back (globalName tree names) g 1 n
-
--- all of them
+-- the global names, the latest first
 unfoldable pub globalsOf : Bytes → Bytes → List ℕ → List Bytes
-globalsOf tree names g = firstGlobals tree names g (getD g 0 0)
+globalsOf tree names g = back (globalName tree names) g 1 (getD g 0 0)
 
 -- the same of the whole area
 abbrev pub globalsIn : Bytes → Bytes → List ℕ → List Bytes
@@ -133,10 +129,6 @@ pub record GoodGlobals (tree names : Bytes) (g : List ℕ) : Type 0 where
   pub stands : (i : ℕ) → i < getD g 0 0 → GlobalStands tree names (getD g (1 + i) 0)
   pub links : (i : ℕ) → i < getD g 0 0 → Latest (globalName tree names) g (hashOf (globalName tree names (getD g (1 + i) 0))) (getD g (linksAt + i) 0) i
   pub heads : (h : ℕ) → h < buckets → Latest (globalName tree names) g h (getD g (headsAt + h) 0) (getD g 0 0)
-
--- the globals from index m on are names of the tree
-pub record FromTree (m : ℕ) (g : List ℕ) : Type 0 where
-  pub new : (i : ℕ) → m ≤ i → i < getD g 0 0 → 65536 ≤ getD g (1 + i) 0
 
 -- the whole area stands well, with so many open functions
 unfoldable pub Good : Bytes → Bytes → ℕ → List ℕ → Type 0

@@ -14,23 +14,21 @@ use globals::find_global;
 use globals::place_global;
 use globals::start_in;
 use layout::GLOBALS_SIZE;
-use layout::IN_TREE;
 use layout::ORIGINALS_AT;
 use layout::PART_SIZE;
 use name::hash_at;
 use name::name_at;
-use name::wide32;
 ghost use mathlib.Core.Path.{_≡_};
 ghost use Prim.Native.Nat.{ℕ, _+_, _<_, _≤_};
-ghost use mathlib.Core.List.{List, [], _∷_};
+ghost use mathlib.Core.List.{List, []};
 ghost use lib.ListN.{length, getD, take};
 ghost use Rattle.definition.specs.Basic.{Bytes};
-ghost use Rattle.definition.specs.Limit.{treeLimit, sessionSize, localsLimit, freeLimit, argumentsLimit};
+ghost use Rattle.definition.specs.Limit.{treeLimit, sessionSize, argumentsLimit, freeLimit};
 ghost use Rattle.definition.specs.Opcode.{instr};
 ghost use Rattle.definition.specs.SymbolTable.{find, builtins, resolve, loadOf};
 ghost use Rattle.symbol_table.specs.Name.{after, content, Stands, fields, Row, buckets};
-ghost use Rattle.symbol_table.specs.Layout.{globalsSize, partSize, base, part, symbolOf, originalsOf, tableOf, firstGlobals, globalsIn, Sized, GoodTable, GoodGlobals, Good};
-ghost use Rattle.symbol_table.specs.Contract.{hitOf, resolvedOf, IsName, Inside, Crosses, Resolves, DefinesLocal, Defines, Enters, HasNames, Starts, NewGlobal};
+ghost use Rattle.symbol_table.specs.Layout.{globalsSize, partSize, originalsAt, base, part, symbolOf, tableOf, globalsIn, Sized, GoodTable, GoodGlobals, Good};
+ghost use Rattle.symbol_table.specs.Contract.{hitOf, resolvedOf, IsName, Inside, Crosses, Resolves, DefinesLocal, Defines, Enters, HasNames, Starts};
 
 // The code of a symbol that a table has for a name.
 pub enum Hit {
@@ -257,51 +255,4 @@ pub fn load_of(code: u32) -> Load
         op: 0x10,
         operand: code - 1024,
     }
-}
-
-// How many definitions the function at a level has.
-pub fn num_definitions(table: &[u32], level: usize) -> u32
-    requires { ⌜ base level + partSize ≤ length (now table) ⌝ }
-    requires { ⌜ Sized (part level (now table)) ⌝ }
-    ensures is { λ r. ⌜ ((tree : Bytes) → r ≡ tableOf tree (part level (now (table .entry))) .definitions) ⌝ }
-    ensures small { λ r. ⌜ r ≤ localsLimit ⌝ }
-{
-    table[GLOBALS_SIZE + PART_SIZE * level + 1]
-}
-
-// How many free symbols it has.
-pub fn num_free_symbols(table: &[u32], level: usize) -> u32
-    requires { ⌜ base level + partSize ≤ length (now table) ⌝ }
-    requires { ⌜ Sized (part level (now table)) ⌝ }
-    ensures is { λ r. ⌜ ((tree : Bytes) → tableOf tree (part level (now (table .entry))) .originals ≡ originalsOf (part level (now (table .entry))) r) ⌝ }
-    ensures small { λ r. ⌜ r ≤ freeLimit ⌝ }
-{
-    table[GLOBALS_SIZE + PART_SIZE * level + 2]
-}
-
-// The code of the original of its free symbol of an index.
-pub fn original(table: &[u32], level: usize, i: usize) -> u32
-    requires { ⌜ base level + partSize ≤ length (now table) ⌝ }
-    requires { ⌜ i < freeLimit ⌝ }
-    ensures { λ r. ⌜ originalsOf (part level (now (table .entry))) (i + 1) ≡ symbolOf r ∷ originalsOf (part level (now (table .entry))) i ⌝ }
-{
-    table[GLOBALS_SIZE + PART_SIZE * level + ORIGINALS_AT + i]
-}
-
-// How many globals there are.
-pub fn num_globals(table: &[u32]) -> usize
-    requires { ⌜ globalsSize ≤ length (now table) ⌝ }
-    ensures { λ r. ⌜ ((tree names : Bytes) → globalsIn tree names (now (table .entry)) ≡ firstGlobals tree names (take globalsSize (now (table .entry))) r) ⌝ }
-{
-    wide32(table[0])
-}
-
-// The offset in the tree of the name of a global that the tree defined.
-pub fn new_global(table: &[u32], k: usize) -> usize
-    requires { ⌜ globalsSize ≤ length (now table) ⌝ }
-    requires { ⌜ NewGlobal k (take globalsSize (now table)) ⌝ }
-    ensures is { λ r. ⌜ ((tree names : Bytes) → firstGlobals tree names (take globalsSize (now (table .entry))) (k + 1) ≡ content tree r ∷ firstGlobals tree names (take globalsSize (now (table .entry))) k) ⌝ }
-    ensures stands { λ r. ⌜ ((tree names : Bytes) → GoodGlobals tree names (take globalsSize (now (table .entry))) → Stands tree r) ⌝ }
-{
-    wide32(table[1 + k]) - IN_TREE
 }
