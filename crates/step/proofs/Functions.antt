@@ -22,11 +22,15 @@ use Rattle.symbol_table.specs.Contract as Symbol
 use Rattle.scope.specs.declared.State.{State}
 use Rattle.scope.specs.declared.Walked.{Walked}
 use Rattle.scope.specs.declared.Walked.the-variants.{On, Stop}
-use Rattle.scope.specs.View.{View, view, Ready, Refuses}
+use Rattle.scope.specs.View.{View, view, Fits, Sound, Ready, Refuses}
 use Rattle.scope.specs.Machine.{here, inside, enter}
 use Rattle.step.specs.Memory.{rest, namesOf, symbolsOf, settled, FineState, Fine}
 use Rattle.step.specs.Contract.{HeadAt, Enters, EntersBeside, FineBeside}
 use Rattle.step.proofs.Memory.{stop-deeper, on-deeper, refuses-is}
+
+-- a walk that goes on has its chunk within the code area
+pub sound-on : {w : Walked} {s : State} → w ≡ On s → Sound w → Fits s
+sound-on q h = rw q at h
 
 -- Parameters in a row
 
@@ -45,7 +49,7 @@ module _ {tree : Bytes} {p n : ℕ} (h : HeadAt tree p n) where
   params-count : {ps : List Bytes} → ParamsAt tree (after tree (p + 3)) ps → n ≡ length ps
   params-count {ps} x = h .counted .names ps (x .names)
 
-  pub params-stand : {row : ℕ} → row ≡ after tree (p + 3) + 3 → Name.Row tree n row
+  pub params-stand : {m : ℕ} → m ≡ after tree (p + 3) → Name.Row tree n (m + 3)
   params-stand e =
       let x = h .params .1 in
       rw (e, params-count x) (row-stands tree (after tree (p + 3) + 3) (after tree (after tree (p + 3))) (h .params .0) (x .names .row))
@@ -70,12 +74,12 @@ module _ {tree : Bytes} {p n : ℕ} (h : HeadAt tree p n) where
       unfolding enter
       enter-many g d = refused-enters (λ c e ps m. rw (lt-leb nestingLimit (s .level) l, lt-ltb argumentsLimit (length ps) (rw m at g))) d
 
-      module _ {row : ℕ} (g : n ≤ argumentsLimit) (o : row ≡ after tree (p + 3) + 3) {t′ : List ℕ} (x : Symbol.Enters tree (s .level) (p + 3) row n t t′) where
+      module _ (g : n ≤ argumentsLimit) {m : ℕ} (o : m ≡ after tree (p + 3)) {t′ : List ℕ} (x : Symbol.Enters tree (s .level) (p + 3) (m + 3) n t t′) where
         -- the table is that of the parameters
         entered-tables : (ps : List Bytes) → ParamsAt tree (after tree (p + 3)) ps → tablesOf tree (s .level + 1) t′ ≡ withParams ps (named (content tree (p + 3))) ∷ tablesOf tree (s .level) t
         entered-tables ps y =
-            let m : Name.fields tree n row ≡ ps = rw (o, params-count y) (row-fields tree (after tree (p + 3) + 3) (after tree (after tree (p + 3))) ps (y .names .row)) in
-            ap (λ l. tablesOf tree l t′) (add-one (s .level)) ∙ x .tables ∙ ap (λ ps. withParams ps (named (content tree (p + 3))) ∷ tablesOf tree (s .level) t) m
+            let j : Name.fields tree n (m + 3) ≡ ps = rw (o, params-count y) (row-fields tree (after tree (p + 3) + 3) (after tree (after tree (p + 3))) ps (y .names .row)) in
+            ap (λ l. tablesOf tree l t′) (add-one (s .level)) ∙ x .tables ∙ ap (λ ps. withParams ps (named (content tree (p + 3))) ∷ tablesOf tree (s .level) t) j
 
         entered-step : (c e : Bytes) (ps : List Bytes) → ParamsAt tree (after tree (p + 3)) ps
             → on tt (view c e (symbolsOf tree (rest e t′) (inside s)) (inside s)) ≡ enter p (content tree (p + 3)) ps (view c e (symbolsOf tree (rest e t) s) s)

@@ -4,4 +4,4 @@ pub mod FunctionConstants
 pub mod Symbols
 pub mod Functions
 pub mod Loads
-pub mod Closing
+pub mod Closed

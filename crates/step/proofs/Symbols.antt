@@ -1,15 +1,18 @@
 -- Definitions and lookups in the table area.
-use Prim.Native.Nat.{ℕ, _+_}
+use Prim.Native.Nat.{ℕ, _+_, _≤_, _<_}
+use native.Mathlib.Omega.{arith}
 use mathlib.Core.List.{List}
 use mathlib.Core.Path.{_≡_, refl, sym, ap, _∙_}
-use lib.ListN.{length, take}
+use lib.ListN.{length}
+use lib.Seq.{length-take-le}
 use Rattle.definition.specs.Basic.{Bytes}
-use Rattle.definition.specs.Number
+use Rattle.definition.specs.Limit.{nestingLimit}
+use Rattle.definition.specs.Number.{refusal}
 use Rattle.definition.specs.Opcode.{Instr, instr, opSetGlobal, opSetLocal}
 use Rattle.definition.specs.SymbolTable.{Table, Defined, Resolved, place, builtins, resolve, loadOf}
 use Rattle.definition.specs.Walk.{Res, on, refuse}
 use Rattle.definition.specs.declared.Refusal.{Refusal}
-use Rattle.symbol_table.specs.Layout.{symbolOf, globalsOf, globalsIn, tablesOf, Good}
+use Rattle.symbol_table.specs.Layout.{partSize, base, symbolOf, globalsOf, globalsIn, tablesOf, Good}
 use Rattle.symbol_table.specs.Contract as Symbol
 use Rattle.symbol_table.specs.Contract.{definedOf, resolvedOf, Resolves}
 use Rattle.symbol_table.specs.declared.Definition.{Definition}
@@ -24,14 +27,50 @@ use Rattle.scope.specs.View.{Symbols, View, view, ended, Ready, Done, Refuses}
 use Rattle.scope.specs.Machine.{define, placed, withTables, load, loaded, emit}
 use Rattle.step.specs.declared.Defining.{Defining}
 use Rattle.step.specs.Memory.{Rest, rest, namesOf, symbolsOf, noSymbols, settled, result, FineState, Fine, Keeps}
-use Rattle.step.specs.Contract.{Steps, Defines, DefinesBeside, placedAt}
+use Rattle.step.specs.Contract.{Steps, placedAt, Defines, FineBeside, DefinesBeside}
 use Rattle.step.proofs.Memory.{stop-deeper, keeps-refl, done-steps, refuses-is}
 
 -- the table area after a step on it, with as many open functions
 table-fine : {tree e : Bytes} {t t′ : List ℕ} {s : State} → length t′ ≡ length t → Good tree (namesOf e s) (s .level) t′ → FineState tree (rest e t) s → FineState tree (rest e t′) s
 table-fine n g f = record { symbols = g; level = f .level; area = rw n (f .area); pool = f .pool }
 
--- A definition's answer, as the machine takes it
+-- What the code needs of the table area
+module _ {tree : Bytes} {t : List ℕ} {w : Walked} {s : State} (q : w ≡ On s) (h : FineBeside tree t w) where
+  beside-fine : FineState tree (rest (h .session) t) s
+  beside-fine = let f = h .fine in rw q at f
+
+  pub beside-base : base (s .level) ≤ length t
+  beside-base = let f = beside-fine in omega (arith, f .level, f .area)
+
+  pub beside-part : s .level < nestingLimit → base (s .level) + partSize ≤ length t
+  beside-part l = let f = beside-fine in omega (arith, f .area)
+
+  pub beside-good : (names : Bytes) × Good tree names (s .level) t
+  beside-good = (namesOf (h .session) s, beside-fine .symbols)
+
+-- What a lookup needs, and the names as a part of the session
+module _ (tree e : Bytes) (t : List ℕ) {w : Walked} {s : State} (q : w ≡ On s) (f : Fine tree (rest e t) w) where
+  fine-on : FineState tree (rest e t) s
+  fine-on = rw q at f
+
+  pub fine-base : base (s .level) ≤ length t
+  fine-base = omega (arith, fine-on .level, fine-on .area)
+
+  pub fine-good : Good tree (namesOf e s) (s .level) t
+  fine-good = fine-on .symbols
+
+  pub names-length : s .«names_end» ≡ length (namesOf e s)
+  names-length = sym (length-take-le (s .«names_end») e (omega (arith, fine-on .pool)))
+
+-- A definition's answer, as the code tells it
+module _ (p : ℕ) (s : State) (a : Definition) where
+  pub placed-is : {d : Defining} {b : Definition} → a ≡ b → d ≡ placedAt p s b → d ≡ placedAt p s a
+  placed-is q e = e ∙ sym (ap (placedAt p s) q)
+
+  pub placed-refused : {r : Walked} {k o i : ℕ} → Refuses (On s) r k p → record { walked = Stop (refusal k p) s; op = o; operand = i } ≡ placedAt p s a → record { walked = r; op = o; operand = i } ≡ placedAt p s a
+  placed-refused {o = o} {i = i} d e = (λ u. record { walked = refuses-is d u; op = o; operand = i }) ∙ e
+
+-- and as the machine takes it
 module _ (tree c e : Bytes) (t : List ℕ) (p : ℕ) (s : State) where
   place-step : (y : Symbols) (a : Definition)
       → result tree c (rest e t) (placedAt p s a .walked) (instr (placedAt p s a .op) (placedAt p s a .operand) 0)
@@ -89,23 +128,25 @@ module _ (p : ℕ) (tree e : Bytes) (t t′ : List ℕ) (s : State) {a : Lookup}
   answer-view = ap (λ g. view c e (record { globals = globalsOf tree (namesOf e s) g; tables = tablesOf tree (s .level) t′ }) s) (x .globals)
 
 module _ (p : ℕ) {tree e : Bytes} {t t′ : List ℕ} {w : Walked} {s : State} (q : w ≡ On s) where
-  pub load-found : {c c′ : Bytes} {k o i : ℕ} {r : Walked} → length t′ ≡ length t → Fine tree (rest e t) w → Resolves builtins tree (namesOf e s) (s .level) p (Found k) t t′ → instr o i 0 ≡ loadOf (symbolOf k)
+  pub load-found : {c c′ : Bytes} {b : Lookup} {k o i : ℕ} {r : Walked} → length t′ ≡ length t → Fine tree (rest e t) w → Resolves builtins tree (namesOf e s) (s .level) p b t t′ → b ≡ Found k → instr o i 0 ≡ loadOf (symbolOf k)
       → Done c c′ (On s) r (emit p (instr o i 0)) → Steps tree (load p (content tree p)) c c′ (rest e t) (rest e t′) w r
-  load-found {c} n f x j d =
+  load-found {c} n f z g j d =
+      let x = rw g at z in
       let f′ : FineState tree (rest e t) s = rw q at f in
-      let z = done-steps {tree = tree} {m = rest e t′} (table-fine n (x .good) f′) d in
+      let y = done-steps {tree = tree} {m = rest e t′} (table-fine n (x .good) f′) d in
       rw q
       (record {
-        step = λ _ _. z .step tt tt ∙ (λ u. settled (emit p (j u) (answer-view p tree e t t′ s x c u))) ∙ ap settled (sym (answer-step p tree e t t′ s x c));
-        ready = z .ready;
-        fine = z .fine;
-        keeps = z .keeps;
+        step = λ _ _. y .step tt tt ∙ (λ u. settled (emit p (j u) (answer-view p tree e t t′ s x c u))) ∙ ap settled (sym (answer-step p tree e t t′ s x c));
+        ready = y .ready;
+        fine = y .fine;
+        keeps = y .keeps;
       })
 
   -- a lookup that is refused with number k
-  pub load-refused : (k : ℕ) {c : Bytes} {a : Lookup} {r : Walked} → ((v : View) (ts : List Table) → loaded p v (resolvedOf a ts) ≡ refuse k p v) → Ready c w → Resolves builtins tree (namesOf e s) (s .level) p a t t′
+  pub load-refused : (k : ℕ) {c : Bytes} {b : Lookup} (a : Lookup) {r : Walked} → ((v : View) (ts : List Table) → loaded p v (resolvedOf a ts) ≡ refuse k p v) → Ready c w → Resolves builtins tree (namesOf e s) (s .level) p b t t′ → b ≡ a
       → Refuses (On s) r k p → Steps tree (load p (content tree p)) c c (rest e t) (rest e t′) w r
-  load-refused k {c} none h x d =
+  load-refused k {c} a none h z g d =
+      let x = rw g at z in
       rw (q, refuses-is d)
       (record {
         step = λ _ _. ap settled (sym (answer-step p tree e t t′ s x c ∙ none (view c e (symbolsOf tree (rest e t) s) s) (tablesOf tree (s .level) t′)));

@@ -97,6 +97,11 @@ pub record Leaves (tree : Bytes) (p n : ℕ) (c c′ : Bytes) (m m′ : Rest) (o
   pub fine : Fine tree m′ r
   pub keeps : Keeps o r
 
+-- the memory stands well for some tree
+pub record FineFor (m : Rest) (w : Walked) : Type 0 where
+  pub tree : Bytes
+  pub fine : Fine tree m w
+
 -- so, whatever tree the table area stands well for
 pub record LeavesBeside (p n : ℕ) (c c′ e e′ : Bytes) (t : List ℕ) (o w r : Walked) : Type 0 where
   pub leaves : (tree : Bytes) → Fine tree (rest e t) w → Leaves tree p n c c′ (rest e t) (rest e′ t) o w r

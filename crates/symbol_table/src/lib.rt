@@ -2,6 +2,7 @@
 mod enclosed;
 mod globals;
 mod layout;
+pub mod leaving;
 mod name;
 
 use enclosed::cross_in;

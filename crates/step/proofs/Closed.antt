@@ -9,24 +9,24 @@ use lib.Dec.{leb}
 use lib.ListN.{length, getD, take, drop}
 use borrow.Author.Tests.{le-leb, lt-leb}
 use Rattle.definition.specs.Basic.{Bytes, pick}
-use Rattle.definition.specs.Limit.{codeSize}
+use Rattle.definition.specs.Limit.{codeSize, freeLimit}
 use Rattle.definition.specs.Number
 use Rattle.definition.specs.Tag.{tagFunctionConst}
 use Rattle.definition.specs.Opcode.{instr, size, opClosure}
 use Rattle.definition.specs.SymbolTable.{Symbol, Table, loadOf}
 use Rattle.definition.specs.Walk.{Res, on, stop, bind, refuse, Go}
 use Rattle.definition.specs.declared.Refusal.{Refusal}
-use Rattle.symbol_table.specs.Layout.{part, partSize, base, back, symbolOf, originalsAt, originalsOf, tableOf, tablesOf, Good}
+use Rattle.symbol_table.specs.Layout.{part, partSize, base, back, symbolOf, originalsAt, originalsOf, tableOf, tablesOf, GoodTable, Good}
 use Rattle.scope.specs.declared.State.{State}
 use Rattle.scope.specs.declared.Walked.{Walked}
 use Rattle.scope.specs.declared.Walked.the-variants.{On, Stop}
-use Rattle.scope.specs.View.{Symbols, View, view, ended, then, Fits, Ready, Done, Refuses}
+use Rattle.scope.specs.View.{Symbols, View, view, ended, then, Fits, Sound, Ready, Done, Refuses}
 use Rattle.scope.specs.Machine.{here, emit, returned, addConstant, outside, functionContent, loadsSize, loads, closeOver, leave}
 use Rattle.step.specs.declared.Added.{Added}
 use Rattle.step.specs.Memory.{Rest, rest, namesOf, symbolsOf, settled, result, memory, FineState, Fine, Deeper, Keeps}
-use Rattle.step.specs.Contract.{Adds, outsideOf, Closes, LeavesBeside}
+use Rattle.step.specs.Contract.{Adds, FineFor, LeavesBeside, outsideOf, Closable, Closes}
 use Rattle.step.proofs.Loads.{captured, originals-count}
-use Rattle.step.proofs.Memory.{follow, chain, stop-deeper, on-deeper, deeper-keeps, done-step, done-fine, done-keeps, done-done, refuses-is}
+use Rattle.step.proofs.Memory.{follow, chain, stop-deeper, on-deeper, deeper-keeps, done-step, done-fine, done-keeps, done-done, fine-roomy, refuses-is}
 
 -- The innermost table, as closing reads it
 module _ (tree : Bytes) (t : List ℕ) (o s : State) (l : s .level ≡ o .level + 1) where
@@ -36,6 +36,10 @@ module _ (tree : Bytes) (t : List ℕ) (o s : State) (l : s .level ≡ o .level 
   inner-tables : tablesOf tree (s .level) t ≡ record { entries = tableOf tree r .entries; definitions = getD r 1 0; originals = originalsOf r (getD r 2 0) } ∷ tablesOf tree (o .level) t
   unfolding tablesOf tableOf
   inner-tables = rw (l, add-one (o .level))
+
+  inner-good : (names : Bytes) → Good tree names (s .level) t → GoodTable tree r
+  unfolding Good
+  inner-good names g = let h : Good tree names (suc (o .level)) t = rw (l, add-one (o .level)) at g in h .0
 
   outer-good : (names : Bytes) → Good tree names (s .level) t → Good tree names (o .level) t
   unfolding Good
@@ -118,57 +122,96 @@ module _ (p params : ℕ) (c e : Bytes) (t : List ℕ) (o s : State) (l : s .lev
           keeps = deeper-keeps (outside-keeps o s l n (a .walked) (x .keeps)) (done-keeps [] (rest [] []) (outsideOf o (a .walked)) r d);
         }
 
+-- two steps in a row, from a walk by another name
+pub done-from : {f g : Go View} {c c₁ c₂ : Bytes} {w v u r : Walked} → v ≡ w → Done c c₁ v u f → Done c₁ c₂ u r g → Done c c₂ w r (λ x. then (f x) g)
+done-from q d h = rw (← q) (done-done d h)
+
+-- Closing, as the code takes it: what it reads of the table
+module _ {c e : Bytes} {t : List ℕ} {o s : State} (h : Closable c e t o s) where
+  pub few-captures : {n : ℕ} → n ≡ getD (part (o .level) t) 2 0 → n ≤ freeLimit
+  few-captures k = omega (arith, h .sized .free)
+
+  pub closes-ready : {k : View → Res View ℕ} {e₁ : Bytes} {a : Added} → Adds k e e₁ (On s) a → Ready c (outsideOf o (a .walked))
+  closes-ready {a = a} x = outside-ready o (a .walked) (h .outer) (x .ready c (record { area = h .area; sound = h .inner }))
+
+module _ (p params : ℕ) {c e : Bytes} {t : List ℕ} {o s : State} (h : Closable c e t o s) {n z : ℕ} (k : n ≡ getD (part (o .level) t) 2 0) (q : z ≡ loadsSize (originalsOf (part (o .level) t) n)) where
+  pub closes-full : {r : Walked} → codeSize < here o + s .chunk .len + z → Refuses (On s) r Number.code p → Closes p params c c e e t o s r
+  closes-full f d = close-full p params c e t o s (h .level) (rw k at q) (h .area) f d
+
+  pub closes-on : {d : ℕ} {c₂ e₁ : Bytes} {a : Added} {r : Walked} → d ≡ getD (part (o .level) t) 1 0
+      → Adds (addConstant p tagFunctionConst (functionContent d params (take (s .chunk .len) (drop (s .chunk .start) c)))) e e₁ (On s) a → here o + s .chunk .len + z ≤ codeSize
+      → Done c c₂ (outsideOf o (a .walked)) r (λ v. then (loads p (originalsOf (part (o .level) t) n) v) (emit p (instr opClosure (a .index) n))) → Closes p params c c₂ e e₁ t o s r
+  closes-on m x f j = close-on p params c e t o s (h .level) (rw k at q) (h .names) f (rw m at x) (rw k at j)
+
 -- Leaving
-module _ (p n : ℕ) {c c₁ e : Bytes} {t : List ℕ} {o w v : Walked} (d : Done c c₁ w v (returned p)) where
-  pub leave-on : {c₂ e′ : Bytes} {q s : State} {r : Walked} → o ≡ On q → v ≡ On s → Closes p n c₁ c₂ e e′ t q s r → LeavesBeside p n c c₂ e e′ t o w r
-  unfolding leave
-  leave-on {q = q} {s = s} i j x =
+module _ (p : ℕ) {c c₁ e : Bytes} {t : List ℕ} {o w v : Walked} (d : Done c c₁ w v (returned p)) where
+  pub leave-closable : {q s : State} → Sound o → Deeper 1 o w → FineFor (rest e t) w → o ≡ On q → v ≡ On s → Closable c₁ e t q s
+  leave-closable {q} {s} a k g i j =
+      let x = deeper-keeps k (done-keeps (g .tree) (rest e t) w v d) .origin s j in
+      let y : x .from ≡ q = cc in
+      let l : s .level ≡ q .level + 1 = omega (arith, x .level, ap (λ u. u .level) y) in
+      let f : FineState (g .tree) (rest e t) s = let z = done-fine (g .tree) (rest e t) w v d (g .fine) in rw j at z in
       record {
-        leaves = λ tree f.
-            record {
-              step = λ u k.
-                  let z : q ≡ u .state = cc in
-                  chain (memory tree c (rest e t) w) (returned p) (λ v. closeOver p n q v (v .symbols .tables)) (ap (memory tree c₁ (rest e t)) (sym j) ∙ done-step tree (rest e t) w v d) (x .step tree)
-                  ∙ ap (λ q. settled (then (memory tree c (rest e t) w) (λ v. then (returned p v) (λ v. closeOver p n q v (v .symbols .tables))))) z;
-              stopped = λ y u k. let z : _≡_ {A = ℕ} 0 1 = cc in absurd (omega arith);
-              ready = x .ready;
-              fine = x .fine tree (rw j at (done-fine tree (rest e t) w v d f));
-              keeps = rw i (x .keeps);
-            };
+        area = d .ready .area;
+        outer = rw i at a;
+        inner = let z = d .ready in (rw j at z) .sound;
+        level = l;
+        names = x .names ∙ ap (λ u. u .«names_end») y;
+        roomy = fine-roomy (g .tree) (rest e t) f;
+        table = omega (arith, f .level, f .area);
+        sized = inner-good (g .tree) t q s l (namesOf e s) (f .symbols) .sized;
       }
 
-  -- a function that was stopped inside
-  pub leave-stop : {q : State} {y : Refusal} {s : State} → o ≡ On q → v ≡ Stop y s → LeavesBeside p n c c₁ e e t o w (Stop y s)
-  unfolding leave
-  leave-stop {y = y} {s = s} i j =
-      record {
-        leaves = λ tree f.
-            record {
-              step = λ u k. chain (memory tree c (rest e t) w) (returned p) (λ v. closeOver p n (u .state) v (v .symbols .tables)) (ap (memory tree c₁ (rest e t)) (sym j) ∙ done-step tree (rest e t) w v d) refl;
-              stopped = λ y u k. let z : _≡_ {A = ℕ} 0 1 = cc in absurd (omega arith);
-              ready = rw j at (d .ready);
-              fine = tt;
-              keeps = stop-deeper;
-            };
-      }
+  module _ (n : ℕ) where
+    pub leave-on : {c₂ e′ : Bytes} {q s : State} {r : Walked} → o ≡ On q → v ≡ On s → Closes p n c₁ c₂ e e′ t q s r → LeavesBeside p n c c₂ e e′ t o w r
+    unfolding leave
+    leave-on {q = q} {s = s} i j x =
+        record {
+          leaves = λ tree f.
+              record {
+                step = λ u k.
+                    let z : q ≡ u .state = cc in
+                    chain (memory tree c (rest e t) w) (returned p) (λ v. closeOver p n q v (v .symbols .tables)) (ap (memory tree c₁ (rest e t)) (sym j) ∙ done-step tree (rest e t) w v d) (x .step tree)
+                    ∙ ap (λ q. settled (then (memory tree c (rest e t) w) (λ v. then (returned p v) (λ v. closeOver p n q v (v .symbols .tables))))) z;
+                stopped = λ y u k. let z : _≡_ {A = ℕ} 0 1 = cc in absurd (omega arith);
+                ready = x .ready;
+                fine = x .fine tree (rw j at (done-fine tree (rest e t) w v d f));
+                keeps = rw i (x .keeps);
+              };
+        }
 
-  -- or outside: nothing is closed
-  pub leave-none : {y : Refusal} {s : State} → o ≡ Stop y s → Deeper 1 o w → LeavesBeside p n c c₁ e e t o w v
-  leave-none {y} {s} i k =
-      record {
-        leaves = λ tree f.
-            record {
-              step = λ u j. let z : _≡_ {A = ℕ} 0 1 = cc in absurd (omega arith);
-              stopped = λ _ _ _. done-step tree (rest e t) w v d ∙ stays tree w k;
-              ready = d .ready;
-              fine = done-fine tree (rest e t) w v d f;
-              keeps = record { origin = λ u j. absurd (never (deeper-keeps k (done-keeps tree (rest e t) w v d) .origin u j .is)) };
-            };
-      }
-    where
-      never : {u : State} → o ≡ On u → ⊥
-      never j = let z : _≡_ {A = ℕ} 0 1 = cc in omega arith
+    -- a function that was stopped inside
+    pub leave-stop : {q : State} {y : Refusal} {s : State} → o ≡ On q → v ≡ Stop y s → LeavesBeside p n c c₁ e e t o w (Stop y s)
+    unfolding leave
+    leave-stop {y = y} {s = s} i j =
+        record {
+          leaves = λ tree f.
+              record {
+                step = λ u k. chain (memory tree c (rest e t) w) (returned p) (λ v. closeOver p n (u .state) v (v .symbols .tables)) (ap (memory tree c₁ (rest e t)) (sym j) ∙ done-step tree (rest e t) w v d) refl;
+                stopped = λ y u k. let z : _≡_ {A = ℕ} 0 1 = cc in absurd (omega arith);
+                ready = rw j at (d .ready);
+                fine = tt;
+                keeps = stop-deeper;
+              };
+        }
 
-      stays : (tree : Bytes) (w : Walked) → Deeper 1 o w → settled (then (memory tree c (rest e t) w) (returned p)) ≡ memory tree c (rest e t) w
-      stays tree (On u) k = absurd (never (k .origin u refl .is))
-      stays tree (Stop x u) k = refl
+    -- or outside: nothing is closed
+    pub leave-none : {y : Refusal} {s : State} → o ≡ Stop y s → Deeper 1 o w → LeavesBeside p n c c₁ e e t o w v
+    leave-none {y} {s} i k =
+        record {
+          leaves = λ tree f.
+              record {
+                step = λ u j. let z : _≡_ {A = ℕ} 0 1 = cc in absurd (omega arith);
+                stopped = λ _ _ _. done-step tree (rest e t) w v d ∙ stays tree w k;
+                ready = d .ready;
+                fine = done-fine tree (rest e t) w v d f;
+                keeps = record { origin = λ u j. absurd (never (deeper-keeps k (done-keeps tree (rest e t) w v d) .origin u j .is)) };
+              };
+        }
+      where
+        never : {u : State} → o ≡ On u → ⊥
+        never j = let z : _≡_ {A = ℕ} 0 1 = cc in omega arith
+
+        stays : (tree : Bytes) (w : Walked) → Deeper 1 o w → settled (then (memory tree c (rest e t) w) (returned p)) ≡ memory tree c (rest e t) w
+        stays tree (On u) k = absurd (never (k .origin u refl .is))
+        stays tree (Stop x u) k = refl
