@@ -8,7 +8,7 @@ use borrow.Author.Tests.{eq-eqb, ne-eqb}
 use Rattle.definition.specs.Basic.{Bytes, byteAt}
 use Rattle.definition.specs.Opcode.{plain, opIndex}
 use Rattle.definition.specs.Number
-use Rattle.definition.specs.Tag.{tagIdentifier, tagPrefix, tagInfix, tagInteger, tagBoolean, tagString, tagIndex, tagMacro, tagIntegerConst, tagStringConst}
+use Rattle.definition.specs.Tag.{tagIdentifier, tagInteger, tagBoolean, tagString, tagMacro, tagIntegerConst, tagStringConst}
 use Rattle.definition.specs.Syntax.{Expr}
 use Rattle.definition.specs.Walk.{Go, walkExpr, operate, prefixes, infixes, lessThan}
 use Rattle.field.specs.Layout.{tag, after, content}

@@ -1,7 +1,7 @@
 -- Steps and walks in a row on the lent memory: what each promises, and what they promise together.
 use Prim.Native.Nat.{ℕ}
 use mathlib.Core.List.{[]}
-use mathlib.Core.Path.{_≡_, refl, sym, ap, _∙_}
+use mathlib.Core.Path.{_≡_, refl, ap, _∙_}
 use Rattle.definition.specs.Basic.{Bytes}
 use Rattle.definition.specs.Walk.{Res, on, stop, refuse, bind, Go}
 use Rattle.scope.specs.View.{Symbols, View, view, ended, endedAt, then, outlineOf, Ready, Done, Jumps, Refuses}
@@ -10,6 +10,7 @@ use Rattle.scope.specs.declared.Walked.the-variants.{On, Stop}
 use Rattle.scope.specs.declared.Jumped.{Jumped}
 use Rattle.step.specs.Memory.{Rest, symbolsOf, noSymbols, settled, result, memory, Fine, Walks}
 use Rattle.step.specs.Contract.{Steps}
+use Rattle.walk.specs.Parts.{Standing}
 use Rattle.step.proofs.Memory.{chain, follow, with-value, no-way, deeper-keeps, same-symbols, done-steps}
 
 -- Walks in a row
@@ -22,6 +23,10 @@ module _ {tree : Bytes} {A : Type 0} {R : A → Type 0} {k : A → Go View} {c c
   -- the same walk, of what stands there by another name
   pub walks-as : {B : Type 0} {Q : B → Type 0} {l : B → Go View} → ((b : B) → Q b → (a : A) × R a × (l b ≡ k a)) → Walks tree R k c c′ m m′ w r → Walks tree Q l c c′ m m′ w r
   walks-as f d = record { step = λ b q. let i = f b q in rw (i .2) (d .step (i .0) (i .1)); ready = d .ready; fine = d .fine; keeps = d .keeps }
+
+  -- after it all stands well still
+  pub onward : Standing tree c m w → Walks tree R k c c′ m m′ w r → Standing tree c′ m′ r
+  onward s d = record { ready = d .ready; fine = d .fine; short = s .short }
 
 -- a walk, and then a walk
 pub walk-walk : {tree : Bytes} {A B : Type 0} {R : A → Type 0} {Q : B → Type 0} {k : A → Go View} {l : B → Go View} {c c₁ c₂ : Bytes} {m m₁ m₂ : Rest} {w v r : Walked}
@@ -63,7 +68,7 @@ module _ {c c′ : Bytes} {w : Walked} {j : Jumped} {k : View → Res View ℕ} 
       later (on a v) = refl
       later (stop x v) = refl
 
-  -- after it all stands as well as before
+  -- as a step, on the whole memory
   pub jumps-steps : {tree : Bytes} {m : Rest} → Fine tree m w → Jumps c c′ w j k → Steps tree (λ v. bind (k v) (λ _. on tt)) c c′ m m w (j .walked)
   jumps-steps f d = done-steps f (jumps-done d)
 

@@ -3,7 +3,7 @@ use Prim.Native.Nat.{ℕ, _+_}
 use mathlib.Core.Path.{_≡_, refl, ap, _∙_}
 use Rattle.definition.specs.Basic.{Bytes}
 use Rattle.definition.specs.Opcode.{Instr, instr, plain, opPop, opReturnValue}
-use Rattle.definition.specs.Tag.{tagExprStmt, tagBlock, tagLet, tagReturn}
+use Rattle.definition.specs.Tag.{tagExprStmt, tagBlock, tagReturn}
 use Rattle.definition.specs.Syntax.{Stmt, Expr}
 use Rattle.definition.specs.Tree.{stmtTag}
 use Rattle.definition.specs.Walk.{Go, walkStmt, walkStmts, walkExpr}
@@ -14,7 +14,7 @@ use Rattle.scope.specs.declared.Walked.{Walked}
 use Rattle.step.specs.Memory.{Rest, memory, Walks}
 use Rattle.step.specs.Contract.{Defines}
 use Rattle.step.specs.declared.Defining.{Defining}
-use Rattle.tree.specs.At.{ValueAt, LetAt, BlockStmtAt, stmtIs}
+use Rattle.tree.specs.At.{ValueAt, LetAt, stmtIs}
 use Rattle.tree.specs.Reads.{ReadsStmt, ReadsExpr, ReadsStmts}
 use Rattle.step.proofs.Memory.{follow, with-value, deeper-keeps}
 use Rattle.tree.proofs.Parts.{stmt-is}

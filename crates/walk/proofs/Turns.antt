@@ -4,16 +4,17 @@ use native.Mathlib.Omega.{arith}
 use mathlib.Core.Path.{_≡_, refl, sym, ap, _∙_}
 use lib.ListN.{length}
 use Rattle.definition.specs.Basic.{Bytes}
-use Rattle.definition.specs.Syntax.{Stmts, Exprs}
 use Rattle.definition.specs.Walk.{on, Go, walkStmt, walkStmts, walkExpr, walkExprs}
 use Rattle.field.specs.Layout.{after, Whole}
-use Rattle.scope.specs.View.{View, then, Ready}
+use Rattle.scope.specs.View.{View, then}
 use Rattle.scope.specs.Machine.{machine}
 use Rattle.scope.specs.declared.Walked.{Walked}
 use Rattle.scope.specs.declared.Walked.the-variants.{On, Stop}
-use Rattle.step.specs.Memory.{Rest, settled, memory, Fine, Keeps, Walks}
+use Rattle.step.specs.Memory.{Rest, settled, memory, Keeps, Walks}
 use Rattle.tree.specs.Reads.{Some, ReadsStmt, ReadsStmts, ReadsExpr, ReadsExprs}
 use Rattle.step.proofs.Memory.{chain, keeps-refl, deeper-keeps}
+use Rattle.walk.specs.Parts.{Standing}
+use Rattle.walk.proofs.Sequence.{onward}
 use Rattle.tree.proofs.Rows.{First, first-stmt, no-stmts, first-expr, no-exprs}
 
 -- in a turn: what is left, and that its walk gives what the whole walk gives
@@ -23,15 +24,14 @@ pub record Turn {B : Type 0} (tree : Bytes) (R : ℕ → ℕ → B → Type 0) (
   pub session : length (m .session) ≡ length (m₀ .session)
   pub table : length (m .table) ≡ length (m₀ .table)
   pub left : Some (R at end)
-  pub ready : Ready c v
-  pub fine : Fine tree m v
+  pub standing : Standing tree c m v
   pub keeps : Keeps w v
   pub same : (b : B) → R from end b → (b′ : B) × R at end b′ × (settled (then (memory tree c₀ m₀ w) (k b)) ≡ settled (then (memory tree c m v) (k b′)))
 
 module _ {B : Type 0} {tree : Bytes} {R : ℕ → ℕ → B → Type 0} {k : B → Go View} {from end : ℕ} {c₀ : Bytes} {m₀ : Rest} {w : Walked} where
   -- before the first turn
-  pub turn-holds : Some (R from end) → Ready c₀ w → Fine tree m₀ w → Turn tree R k from end c₀ m₀ w from c₀ m₀ w
-  turn-holds s a f = record { onward = omega arith; code = refl; session = refl; table = refl; left = s; ready = a; fine = f; keeps = keeps-refl w; same = λ b r. (b, r, refl) }
+  pub turn-holds : Some (R from end) → Standing tree c₀ m₀ w → Turn tree R k from end c₀ m₀ w from c₀ m₀ w
+  turn-holds s f = record { onward = omega arith; code = refl; session = refl; table = refl; left = s; standing = f; keeps = keeps-refl w; same = λ b r. (b, r, refl) }
 
   -- a turn: the first of what is left is walked
   turn-again : {A : Type 0} {P : ℕ → A → Type 0} {one : A → Go View} {cons : A → B → B} {at next : ℕ} {c c₁ : Bytes} {m m₁ : Rest} {v v₁ : Walked}
@@ -47,8 +47,7 @@ module _ {B : Type 0} {tree : Bytes} {R : ℕ → ℕ → B → Type 0} {k : B �
         session = ls ∙ t .session;
         table = lt ∙ t .table;
         left = (i .others, rw e (i .behind));
-        ready = d .ready;
-        fine = d .fine;
+        standing = onward (t .standing) d;
         keeps = deeper-keeps (t .keeps) (d .keeps);
         same = λ b r.
             let s = t .same b r in
@@ -65,8 +64,8 @@ module _ {B : Type 0} {tree : Bytes} {R : ℕ → ℕ → B → Type 0} {k : B �
   turn-ends {at = at} {c = c} {m = m} {v = v} nothing last t =
       record {
         step = λ b r. let s = t .same b r in sym (s .2 ∙ ap (λ x. settled (then (memory tree c m v) (k x))) (last (s .0) (s .1)) ∙ ap (λ f. settled (then (memory tree c m v) f)) nothing ∙ unit v);
-        ready = t .ready;
-        fine = t .fine;
+        ready = t .standing .ready;
+        fine = t .standing .fine;
         keeps = t .keeps;
       }
     where

@@ -1,14 +1,24 @@
--- The walk of parts that functions of their own compile, and of a whole tree.
-use Prim.Native.Nat.{ℕ}
+-- What the walk's functions ask of the memory; the walk of parts that functions of their own compile; a whole tree.
+use Prim.Native.Nat.{ℕ, _≤_}
 use mathlib.Core.Path.{_≡_}
+use lib.ListN.{length}
 use Rattle.definition.specs.Basic.{Bytes}
+use Rattle.definition.specs.Limit.{treeLimit}
 use Rattle.definition.specs.Opcode.{instr, opJump}
 use Rattle.definition.specs.Syntax.{Stmts, Else, Exprs, count}
 use Rattle.definition.specs.Tree.{readTree, Parsed}
 use Rattle.definition.specs.Walk.{on, bind, Go, walkStmts, walkElse, walkExprs}
-use Rattle.scope.specs.View.{View, then}
+use Rattle.scope.specs.View.{View, then, Ready}
 use Rattle.scope.specs.Machine.{machine, emit, jump, patch}
+use Rattle.scope.specs.declared.Walked.{Walked}
+use Rattle.step.specs.Memory.{Rest, Fine}
 use Rattle.tree.specs.Reads.{Branches}
+
+-- all stands well for a walk that goes on
+pub record Standing (tree c : Bytes) (m : Rest) (w : Walked) : Type 0 where
+  pub ready : Ready c w
+  pub fine : Fine tree m w
+  pub short : length tree ≤ treeLimit
 
 -- an array or a hash: its items, then their number
 abbrev pub walkList : ℕ → ℕ → Exprs → Go View
@@ -33,5 +43,5 @@ walkBranches p j b v =
 
 -- the statements that a whole tree reads as
 pub record ReadsTree (tree : Bytes) (b : Stmts) : Type 0 where
-  pub literals : ℕ
-  pub reads : readTree tree ≡ Parsed.parsed b literals
+  pub end : ℕ
+  pub reads : readTree tree ≡ Parsed.parsed b end
