@@ -14,7 +14,7 @@ use symbol_table::leaving::original;
 use symbol_table::load_of;
 ghost use mathlib.Core.Path.{_≡_};
 ghost use Prim.Native.Nat.{_+_, _*_, _≤_};
-ghost use lib.ListN.{length, getD};
+ghost use lib.ListN.{length};
 ghost use Rattle.definition.specs.Limit.{freeLimit};
 ghost use Rattle.definition.specs.Opcode.{instr, opClosure};
 ghost use Rattle.symbol_table.specs.Layout.{partSize, base, part, originalsOf};
