@@ -4,7 +4,7 @@ use mathlib.Core.Path.{_≡_, _∙_, ap, sym, refl}
 use mathlib.Core.Bool.{Bool, true, false}
 use mathlib.Core.List.{List}
 use native.Mathlib.Omega.{arith}
-use lib.Dec.{eqb, leb}
+use lib.Dec.{eqb}
 use lib.ListN.{length}
 use borrow.Author.Tests.{eq-eqb, ne-eqb, leb-true}
 use Rattle.definition.specs.Tag.{tagIntegerConst, tagStringConst, tagFunctionConst}
@@ -29,7 +29,8 @@ module _ (byte : ℕ → ℕ) (in₀ tag len : ℕ) (good : isConstant (headOf t
   pub plain-constant : (tag ≡ tagFunctionConst → ⊥) → item (readContent byte (headOf tag len) in₀) ≡ Next (in₀ + len)
   plain-constant n = go (eqb tag tagIntegerConst) refl (eqb tag tagStringConst) refl
     where
-      go : (a : Bool) → eqb tag tagIntegerConst ≡ a → (b : Bool) → eqb tag tagStringConst ≡ b → item (readContent byte (headOf tag len) in₀) ≡ Next (in₀ + len)
+      go : (a : Bool) → eqb tag tagIntegerConst ≡ a → (b : Bool) → eqb tag tagStringConst ≡ b
+          → item (readContent byte (headOf tag len) in₀) ≡ Next (in₀ + len)
       go true s b t = rw s
       go false s true t = rw (s, t)
       go false s false t =

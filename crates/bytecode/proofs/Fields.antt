@@ -1,11 +1,10 @@
 -- What was read of a field: its head was good, and reading goes on after it.
 use Prim.Native.Nat.{ℕ, _+_, _≤_, _<_}
-use mathlib.Core.Path.{_≡_, _∙_, ap, sym, refl}
+use mathlib.Core.Path.{_≡_, ap, refl}
 use mathlib.Core.Bool.{Bool, true, false}
 use mathlib.Core.List.{List, []}
 use native.Mathlib.Omega.{arith}
-use lib.Dec.{leb, eqb}
-use lib.ListN.{length}
+use lib.Dec.{leb}
 use borrow.Author.Tests.{leb-true}
 use Rattle.definition.specs.Basic.{pick, both, Bytes}
 use Rattle.definition.specs.Tag.{tagIntegerConst, tagStringConst}
@@ -71,13 +70,17 @@ module _ (byte : ℕ → ℕ) (at end : ℕ) where
   content-end : (h : Head) (in₀ : ℕ) {x : Const} {n : ℕ} → readContent byte h in₀ ≡ decoded x n → n ≡ in₀ + h .len
   content-end h in₀ {x} {n} e = go (tagged tagIntegerConst h) (tagged tagStringConst h) e
     where
+      -- a content without a look into it
+      whole : (Bytes → Const) → Decoded Const
+      whole c = decoded (c (bytes byte in₀ (h .len))) (in₀ + h .len)
+
       function-end : readFunction byte in₀ (h .len) ≡ decoded x n → n ≡ in₀ + h .len
       function-end j =
           let t = then-read _ j in
           let m : t .1 ≡ in₀ + h .len = ended (readInstr byte) (in₀ + h .len) (h .len) [] (in₀ + 3) (t .2) .ends in
           cc (t .3)
 
-      go : (a b : Bool) → pick a (decoded (Const.integer (bytes byte in₀ (h .len))) (in₀ + h .len)) (pick b (decoded (Const.string (bytes byte in₀ (h .len))) (in₀ + h .len)) (readFunction byte in₀ (h .len))) ≡ decoded x n → n ≡ in₀ + h .len
+      go : (a b : Bool) → pick a (whole Const.integer) (pick b (whole Const.string) (readFunction byte in₀ (h .len))) ≡ decoded x n → n ≡ in₀ + h .len
       go true b j = cc
       go false true j = cc
       go false false j = function-end j

@@ -1,13 +1,13 @@
 -- The head of a field: what the code finds of it, and what the definition reads.
-use Prim.Native.Nat.{ℕ, _+_, _*_, _-_, _≤_, _<_}
-use mathlib.Core.Path.{_≡_, _∙_, ap, sym, refl}
+use Prim.Native.Nat.{ℕ, _+_, _-_, _≤_, _<_}
+use mathlib.Core.Path.{_≡_, refl}
 use mathlib.Core.Bool.{Bool, true, false}
 use native.Mathlib.Omega.{arith}
-use lib.Dec.{leb, eqb}
+use lib.Dec.{leb}
 use borrow.Author.Tests.{leb-true, le-leb, lt-leb}
-use Rattle.definition.specs.Basic.{pick, both}
+use Rattle.definition.specs.Basic.{both}
 use Rattle.definition.specs.Field.{Head, head, fits}
-use Rattle.definition.specs.Decode.{Decoded, decoded, malformed, then, readHead}
+use Rattle.definition.specs.Decode.{Decoded, malformed, then, readHead}
 use Rattle.bytecode.specs.declared.FieldHead.{FieldHead}
 use Rattle.bytecode.specs.declared.FieldHead.the-variants.{Whole, Cut}
 use Rattle.bytecode.specs.Checked.{headOf, headAnswer}

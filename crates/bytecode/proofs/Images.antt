@@ -1,13 +1,12 @@
 -- An image, from its main code and its pool.
-use Prim.Native.Nat.{ℕ, _+_, _≤_}
+use Prim.Native.Nat.{ℕ, _≤_}
 use mathlib.Core.Path.{_≡_, _∙_, ap, sym, refl}
-use mathlib.Core.Bool.{Bool, true, false}
-use mathlib.Core.List.{List, []}
+use mathlib.Core.List.{[]}
 use native.Mathlib.Omega.{arith}
 use lib.ListN.{length}
 use borrow.Author.Tests.{eq-eqb, ne-eqb}
 use Rattle.definition.specs.Basic.{Bytes, byteAt}
-use Rattle.definition.specs.Bytecode.{Code, Const, Image}
+use Rattle.definition.specs.Bytecode.{Code, Image}
 use Rattle.definition.specs.Decode.{Decoded, decoded, malformed, then, ending, readHead, mainHead, readInstr, readPool, readImageOf, readImage}
 use Rattle.bytecode.specs.declared.Checked.{Checked}
 use Rattle.bytecode.specs.declared.Checked.the-variants.{Good, Wrong}
@@ -23,9 +22,6 @@ then-assoc (decoded a n) f g = refl
 then-assoc (malformed p) f g = refl
 
 module _ (b : Bytes) where
-  byte : ℕ → ℕ
-  byte = byteAt b
-
   -- what follows main code
   after-main : Code → ℕ → Decoded Image
   after-main c at = then (readPool (byteAt b) at (length b)) (λ cs at₁. ending (record { code = c; pool = cs }) at₁ (length b))

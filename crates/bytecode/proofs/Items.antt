@@ -54,26 +54,38 @@ module _ {A : Type 0} (f : ℕ → ℕ → Decoded A) (end : ℕ) where
         let z : r .rest ≡ 0 = omega (arith, r .left) in
         sym (ap checked (r .same ∙ ap (λ (k : ℕ). items f k (r .xs) at end) z ∙ too-many (r .xs) at n))
 
-    -- the next item, where one may follow
-    next : (at ≡ end → ⊥) → count < most → (k : ℕ) × (count + 1 + k ≡ most) × (items f most [] start end ≡ then (f at end) (λ x at₁. items f k (x ∷ r .xs) at₁ end))
+    -- the next item decides, where one may follow
+    record Next : Type 0 where
+      fewer : ℕ
+      left : count + 1 + fewer ≡ most
+      decides : items f most [] start end ≡ then (f at end) (λ x at₁. items f fewer (x ∷ r .xs) at₁ end)
+
+    next : (at ≡ end → ⊥) → count < most → Next
     next n h = go (r .rest) refl
       where
-        go : (m : ℕ) → r .rest ≡ m → (k : ℕ) × (count + 1 + k ≡ most) × (items f most [] start end ≡ then (f at end) (λ x at₁. items f k (x ∷ r .xs) at₁ end))
+        go : (m : ℕ) → r .rest ≡ m → Next
         go zero e = absurd (omega (arith, r .left))
-        go (suc k) e = (k, omega (arith, r .left), r .same ∙ ap (λ (m : ℕ). items f m (r .xs) at end) e ∙ one-more k (r .xs) at n)
+        go (suc k) e =
+            record {
+              fewer = k;
+              left = omega (arith, r .left);
+              decides = r .same ∙ ap (λ (m : ℕ). items f m (r .xs) at end) e ∙ one-more k (r .xs) at n;
+            }
 
     pub wrong : {p : ℕ} → (at ≡ end → ⊥) → count < most → f at end ≡ malformed p → Wrong p ≡ checked (items f most [] start end)
-    wrong n h e = let k = next n h in sym (ap checked (k .2 ∙ ap (λ (d : Decoded A). then d (λ x at₁. items f (k .0) (x ∷ r .xs) at₁ end)) e))
+    wrong n h e =
+        let k = next n h in
+        sym (ap checked (k .decides ∙ ap (λ (d : Decoded A). then d (λ x at₁. items f (k .fewer) (x ∷ r .xs) at₁ end)) e))
 
     pub again : {x : A} {at₁ : ℕ} → (at ≡ end → ⊥) → count < most → f at end ≡ decoded x at₁ → Reading most start at₁ (count + 1)
     again {x} {at₁} n h e =
         let k = next n h in
         record {
-          rest = k .0;
+          rest = k .fewer;
           xs = x ∷ r .xs;
           counted = omega (arith, r .counted);
-          left = k .1;
-          same = k .2 ∙ ap (λ (d : Decoded A). then d (λ y at₂. items f (k .0) (y ∷ r .xs) at₂ end)) e;
+          left = k .left;
+          same = k .decides ∙ ap (λ (d : Decoded A). then d (λ y at₂. items f (k .fewer) (y ∷ r .xs) at₂ end)) e;
         }
 
 -- items that were read go up to the end, and are as many as may be at most
@@ -94,7 +106,8 @@ stopped most end at xs {ys} {n} d k e = go (eqb at end) refl
         record { ends = cc; few = omega (arith, ap length l) }
     go false t = k (rw t at e)
 
-pub ended : {A : Type 0} (f : ℕ → ℕ → Decoded A) (end most : ℕ) (xs : List A) (at : ℕ) {ys : List A} {n : ℕ} → items f most xs at end ≡ decoded ys n → Ended most end xs ys n
+pub ended : {A : Type 0} (f : ℕ → ℕ → Decoded A) (end most : ℕ) (xs : List A) (at : ℕ) {ys : List A} {n : ℕ}
+    → items f most xs at end ≡ decoded ys n → Ended most end xs ys n
 unfolding items
 ended f end zero xs at e = stopped 0 end at xs (malformed at) (λ j. absurd (unlike j)) e
 ended {A} f end (suc most) xs at {ys} {n} e = stopped (suc most) end at xs (more (f at end)) (go (f at end) (λ x at₁. ended f end most (x ∷ xs) at₁)) e
@@ -102,6 +115,7 @@ ended {A} f end (suc most) xs at {ys} {n} e = stopped (suc most) end at xs (more
     more : Decoded A → Decoded (List A)
     more d = then d (λ x at₁. items f most (x ∷ xs) at₁ end)
 
-    go : (d : Decoded A) → ((x : A) (at₁ : ℕ) → items f most (x ∷ xs) at₁ end ≡ decoded ys n → Ended most end (x ∷ xs) ys n) → more d ≡ decoded ys n → Ended (suc most) end xs ys n
+    go : (d : Decoded A) → ((x : A) (at₁ : ℕ) → items f most (x ∷ xs) at₁ end ≡ decoded ys n → Ended most end (x ∷ xs) ys n)
+        → more d ≡ decoded ys n → Ended (suc most) end xs ys n
     go (decoded x at₁) ih j = let r = ih x at₁ j in record { ends = r .ends; few = omega (arith, r .few) }
     go (malformed p) ih j = absurd (unlike j)

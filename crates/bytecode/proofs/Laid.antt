@@ -4,19 +4,18 @@ use mathlib.Core.Path.{_≡_, _∙_, ap, sym, refl, subst}
 use mathlib.Core.Bool.{Bool, true, false}
 use mathlib.Core.List.{List, []}
 use native.Mathlib.Omega.{arith}
-use lib.Dec.{leb}
 use lib.ListN.{length, drop}
 use borrow.Author.Tests.{leb-true}
 use Rattle.definition.specs.Basic.{Bytes, byteAt, pick}
 use Rattle.definition.specs.Limit.{poolLimit}
 use Rattle.definition.specs.Tag.{tagNames, tagPool}
-use Rattle.definition.specs.Field.{Head, head, tagged}
+use Rattle.definition.specs.Field.{head, tagged}
 use Rattle.definition.specs.Bytecode.{Const}
 use Rattle.definition.specs.Session.{Session}
 use Rattle.definition.specs.Decode.{Decoded, decoded, malformed, then, items, allZero, poolHead, readConst, readNameField, readNames, readPool, readSession}
 use Rattle.bytecode.specs.declared.SessionLayout.{SessionLayout}
-use Rattle.bytecode.specs.declared.Layout.the-variants.{Sound, Broken}
-use Rattle.bytecode.specs.Checked.{layout, layoutOf, constants, nameFields}
+use Rattle.bytecode.specs.declared.Layout.the-variants.{Sound}
+use Rattle.bytecode.specs.Checked.{layout, layoutOf, constants}
 use Rattle.bytecode.specs.Layout.{LaidOut}
 use Rattle.bytecode.proofs.Heads.{both-true}
 use Rattle.bytecode.proofs.Items.{unlike, ended}
@@ -90,7 +89,8 @@ module _ (b : Bytes) where
   pub laid : {l : SessionLayout} → Sound l ≡ layoutOf b → LaidOut b l
   laid {l} e = go (readNames (byteAt b) 0 (length b)) refl (readSession b) refl e
     where
-      go : (x : Decoded (List Bytes)) → readNames (byteAt b) 0 (length b) ≡ x → (y : Decoded Session) → readSession b ≡ y → Sound l ≡ layout x y → LaidOut b l
+      go : (x : Decoded (List Bytes)) → readNames (byteAt b) 0 (length b) ≡ x → (y : Decoded Session) → readSession b ≡ y
+          → Sound l ≡ layout x y → LaidOut b l
       go (decoded ns at) p (decoded z n) q j =
           let i : record { «names_end» = at; «pool_end» = n; names = length (z .globals); constants = length (z .pool) } ≡ l = cc in
           subst (λ (m : SessionLayout). LaidOut b m) i (laid-out ns at z n p q)

@@ -1,5 +1,5 @@
 -- A loop that copies a part of bytes to the start of an output, one byte a turn.
-use Prim.Native.Nat.{ℕ, zero, suc, _+_, _≤_, _<_}
+use Prim.Native.Nat.{ℕ, _+_, _≤_, _<_}
 use mathlib.Core.Path.{_≡_, _∙_, ap, sym, refl}
 use mathlib.Core.List.{_++_}
 use native.Mathlib.Nat.{zero-add}
@@ -31,7 +31,8 @@ module _ (b : Bytes) (start size : ℕ) where
     byte-is : (k : ℕ) → k < size → getD copied k 0 ≡ getD b (start + k) 0
     byte-is k h = getD-take size (drop start b) k 0 h ∙ getD-drop start b k 0
 
-    pub again : {out₀ out : Bytes} {k : ℕ} → size ≤ length out₀ → k < size → Copying out₀ out k → Copying out₀ (set out k (getD b (start + k) 0)) (k + 1)
+    pub again : {out₀ out : Bytes} {k : ℕ} → size ≤ length out₀ → k < size → Copying out₀ out k
+        → Copying out₀ (set out k (getD b (start + k) 0)) (k + 1)
     again {out₀} {out} {k} room h c =
         record {
           within = omega arith;

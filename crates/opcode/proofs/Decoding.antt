@@ -7,11 +7,11 @@ use lib.Dec.{leb}
 use borrow.Author.Tests.{leb-true}
 use Rattle.definition.specs.Basic.{both}
 use Rattle.definition.specs.Number.{refusal, badInstruction}
-use Rattle.definition.specs.Opcode.{Instr, instr, instrAt, operandAt, capturesAt, width, whole, opLast}
+use Rattle.definition.specs.Opcode.{instr, instrAt, operandAt, capturesAt, width, whole, opLast}
 use Rattle.definition.specs.Decode.{decoded, malformed, readInstr}
 use Rattle.opcode.specs.declared.Instruction.{Instruction}
 use Rattle.opcode.specs.declared.Decoded.the-variants.{Instr as Found, Refused}
-use Rattle.opcode.specs.Decoding.{sizeAt, instruction, answer}
+use Rattle.opcode.specs.Decoding.{sizeAt, instruction, decodeAnswer}
 
 pub both-left : (a b : Bool) → both a b ≡ true → a ≡ true
 both-left true b e = refl
@@ -23,7 +23,8 @@ both-right false b e = let z : _≡_ {A = ℕ} 0 1 = cc in absurd (omega arith)
 
 module _ (byte : ℕ → ℕ) (at : ℕ) where
   -- an instruction with the operands that its width has
-  pub made : (w : ℕ) {a b : ℕ} → width (byte at) ≡ w → a ≡ operandAt byte w at → b ≡ capturesAt byte w at → instruction (instr (byte at) a b) ≡ instruction (instrAt byte at)
+  pub made : (w : ℕ) {a b : ℕ} → width (byte at) ≡ w → a ≡ operandAt byte w at → b ≡ capturesAt byte w at
+      → instruction (instr (byte at) a b) ≡ instruction (instrAt byte at)
   made w e p q = rw (e, p, q)
 
   module _ (end : ℕ) where
@@ -56,8 +57,9 @@ module _ (byte : ℕ → ℕ) (at : ℕ) where
         go false k = rw k
 
     -- what is answered
-    pub reads : {size : ℕ} {i : Instruction} → size ≡ sizeAt byte at end → (size ≡ 0 → ⊥) → i ≡ instruction (instrAt byte at) → Found i (at + size) ≡ answer (readInstr byte at end)
+    pub reads : {size : ℕ} {i : Instruction} → size ≡ sizeAt byte at end → (size ≡ 0 → ⊥) → i ≡ instruction (instrAt byte at)
+        → Found i (at + size) ≡ decodeAnswer (readInstr byte at end)
     reads e n p = rw (read-next (stands e n), p)
 
-    pub refuses : {size : ℕ} → size ≡ sizeAt byte at end → size ≡ 0 → Refused (refusal badInstruction at) ≡ answer (readInstr byte at end)
+    pub refuses : {size : ℕ} → size ≡ sizeAt byte at end → size ≡ 0 → Refused (refusal badInstruction at) ≡ decodeAnswer (readInstr byte at end)
     refuses e n = rw (read-none e n)

@@ -1,17 +1,17 @@
 -- The bytes of an instruction, stored one after the other, and what is answered of it.
 use Prim.Native.Nat.{ℕ, zero, suc, _+_, _≤_, _<_, _/_, _%_}
 use mathlib.Core.Path.{_≡_, _∙_, ap, sym, refl}
-use mathlib.Core.Bool.{Bool, true, false}
+use mathlib.Core.Bool.{true, false}
 use mathlib.Core.List.{[], _∷_, _++_}
 use native.Mathlib.Omega.{arith}
 use native.Mathlib.Nat.{zero-add}
 use native.Mathlib.Numerals.{one-add}
-use lib.Dec.{leb, ltb, lit≤}
+use lib.Dec.{leb, ltb}
 use lib.ListN.{length, drop}
 use lib.Seq.{sets, sets-eq}
 use borrow.Author.Tests.{le-leb, lt-leb, le-ltb, lt-ltb}
 use Rattle.definition.specs.Basic.{Bytes, both}
-use Rattle.definition.specs.Opcode.{Instr, instr, operands, bytesOf, width, opLast}
+use Rattle.definition.specs.Opcode.{Instr, operands, bytesOf, width, opLast}
 use Rattle.definition.specs.Valid.{operandBound, capturesBound}
 use Rattle.definition.specs.Number.{refusal, outputShort, badInstruction}
 use Rattle.definition.specs.declared.Answer.{Answer}
@@ -44,7 +44,8 @@ module _ (i : Instr) (w : ℕ) (e : width (i .op) ≡ w) (s : w ≤ 3) where
       ∙ ap (λ (v : ℕ). atStart (i .op ∷ operands v (i .a) (i .b)) out) (sym e)
 
 -- the stores of each width
-pub puts : {i : Instr} {w : ℕ} {out : Bytes} → Ready i w out → (v : ℕ) → w ≡ v → sets out 0 (i .op ∷ operands v (i .a) (i .b)) ≡ atStart (bytesOf i) out
+pub puts : {i : Instr} {w : ℕ} {out : Bytes} → Ready i w out → (v : ℕ) → w ≡ v
+    → sets out 0 (i .op ∷ operands v (i .a) (i .b)) ≡ atStart (bytesOf i) out
 puts {i} {w} {out} r v e = rw (← e) (put-done i w (r .is) (r .small) out (r .room))
 
 -- captures are a byte already
@@ -71,7 +72,8 @@ through : (i : Instr) (out r : Bytes) (x : Answer) → valid i ≡ true → (x �
     → (x ≡ encodeAnswer i (length out)) × (r ≡ encodeInto i out)
 through i out r x v p = (p .0 ∙ rw v, p .1 ∙ rw v)
 
-pub encodes-not : (i : Instr) (out : Bytes) → valid i ≡ false → (Refused (refusal badInstruction 0) ≡ encodeAnswer i (length out)) × (out ≡ encodeInto i out)
+pub encodes-not : (i : Instr) (out : Bytes) → valid i ≡ false
+    → (Refused (refusal badInstruction 0) ≡ encodeAnswer i (length out)) × (out ≡ encodeInto i out)
 encodes-not i out v = (rw v, rw v)
 
 module _ (i : Instr) (w : ℕ) (out : Bytes) (v : valid i ≡ true) (e : w ≡ entry (i .op)) where

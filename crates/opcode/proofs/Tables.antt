@@ -1,9 +1,9 @@
 -- A constant table is a rule tabulated: antt computes the rule at every entry once, and the law carries it to each.
-use mathlib.Core.Path.{_≡_, _∙_, ap, refl}
+use mathlib.Core.Path.{_≡_, _∙_, ap}
 use mathlib.Core.Bool.{Bool, true, false}
 use mathlib.Core.List.{List, [], _∷_}
 use Prim.Native.Nat.{ℕ, zero, suc, _+_, _<_}
-use native.Mathlib.Nat.{add-zero, zero-add, add-suc, suc-add}
+use native.Mathlib.Nat.{zero-add}
 use native.Mathlib.Omega.{arith}
 use lib.Dec.{T}
 use lib.ListN.{getD}

@@ -4,10 +4,10 @@ use mathlib.Core.Path.{_≡_, sym, refl}
 use mathlib.Core.Bool.{Bool, true, false}
 use native.Mathlib.Omega.{arith}
 use lib.Dec.{leb, leb→le}
-use lib.ListN.{getD}
-use borrow.Author.Tests.{lt-leb, le-leb}
-use Rattle.definition.specs.Basic.{pick, both}
-use Rattle.definition.specs.Opcode.{opLast, widths, width, whole}
+use lib.ListN.{length, getD, List·getD-eq-default}
+use borrow.Author.Tests.{lt-leb, le-leb, leb-false}
+use Rattle.definition.specs.Basic.{both}
+use Rattle.definition.specs.Opcode.{opLast, widths, width}
 use Rattle.opcode.specs.Table.{entry, noInstruction}
 use Rattle.opcode.specs.Decoding.{sizeAt}
 use Rattle.opcode.proofs.Tables.{tabulate, tabulated, every-at}
@@ -39,6 +39,10 @@ unknown o {w} e n = go (leb o opLast) refl
     go : (b : Bool) → leb o opLast ≡ b → leb o opLast ≡ false
     go true k = let i : w ≡ width o = rw k at e in absurd (omega (arith, width-small o))
     go false k = k
+
+-- a byte past the last instruction's has no operands
+pub no-operands : (o : ℕ) {w : ℕ} → w ≡ entry o → w ≡ noInstruction → width o ≡ 0
+no-operands o e n = let k : length widths ≤ o = omega (arith, leb-false o opLast (unknown o e n)) in List·getD-eq-default widths 0 k
 
 -- The length of the instruction at an offset, by the table's entry
 module _ (byte : ℕ → ℕ) (at end : ℕ) where

@@ -21,6 +21,6 @@ abbrev pub instrOf : Instruction → Instr
 instrOf i = instr (i .op) (i .operand) (i .captures)
 
 -- what was read, as an answer: number 16 where nothing was
-abbrev pub answer : Decode.Decoded Instr → Decoded
-answer (decoded i n) = Found (instruction i) n
-answer (malformed p) = Refused (refusal badInstruction p)
+abbrev pub decodeAnswer : Decode.Decoded Instr → Decoded
+decodeAnswer (decoded i n) = Found (instruction i) n
+decodeAnswer (malformed p) = Refused (refusal badInstruction p)

@@ -17,7 +17,7 @@ ghost use Rattle.definition.specs.Opcode.{instrAt, bytesOf, width as operandLen
 ghost use Rattle.definition.specs.Decode.{readInstr};
 ghost use Rattle.definition.specs.Valid.{operandBound, capturesBound};
 ghost use Rattle.opcode.specs.Table.{entry};
-ghost use Rattle.opcode.specs.Decoding.{sizeAt, instruction, instrOf, answer};
+ghost use Rattle.opcode.specs.Decoding.{sizeAt, instruction, instrOf, decodeAnswer};
 ghost use Rattle.opcode.specs.Words.{words, joined, startOf, wordAnswer, wordInto};
 ghost use Rattle.opcode.specs.Encoding.{valid, encodeAnswer, encodeInto, Ready, atStart};
 
@@ -39,6 +39,17 @@ pub fn width(op: u8) -> u8
     ensures { λ r. ⌜ r ≡ entry op ⌝ }
 {
     WIDTHS[wide(op)]
+}
+
+// How many operand bytes follow a first byte; none after a byte that is no instruction's.
+pub fn operand_length(op: u8) -> usize
+    ensures { λ r. ⌜ r ≡ operandLength op ⌝ }
+{
+    let w = width(op);
+    if w == NO_INSTRUCTION {
+        return 0;
+    }
+    wide(w)
 }
 
 // The length of the instruction at `at`, if it stands whole before `end`; else 0.
@@ -112,7 +123,7 @@ fn instruction_at(code: &[u8], at: usize, size: usize) -> Instruction
 // The instruction at `at`, if it stands whole before `end`; else number 16 there.
 pub fn decode_at(code: &[u8], at: usize, end: usize) -> Decoded
     requires { ⌜ end ≤ length (now code) ⌝ }
-    ensures { λ r. ⌜ r ≡ answer (readInstr (byteAt (now (code .entry))) at end) ⌝ }
+    ensures { λ r. ⌜ r ≡ decodeAnswer (readInstr (byteAt (now (code .entry))) at end) ⌝ }
 {
     let size = size_at(code, at, end);
     if size == 0 {
@@ -126,7 +137,7 @@ pub fn decode_at(code: &[u8], at: usize, end: usize) -> Decoded
 
 // The first instruction of a slice; an empty slice is refused, 16 at 0.
 pub fn decode(code: &[u8]) -> Decoded
-    ensures { λ r. ⌜ r ≡ answer (readInstr (byteAt (now (code .entry))) 0 (length (now (code .entry)))) ⌝ }
+    ensures { λ r. ⌜ r ≡ decodeAnswer (readInstr (byteAt (now (code .entry))) 0 (length (now (code .entry)))) ⌝ }
 {
     decode_at(code, 0, code.len())
 }

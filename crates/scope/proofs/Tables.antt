@@ -1,23 +1,11 @@
 -- The rules of the tables of instruction bytes.
 use Prim.Native.Nat.{ℕ, zero, suc, _<_}
 use native.Mathlib.Nat.{le-of-suc-le-suc, not-suc-le-zero}
-use mathlib.Core.List.{List, [], _∷_, _++_, map}
+use mathlib.Core.List.{List, [], _∷_, map}
 use mathlib.Core.Option.{Option, none, some}
 use mathlib.Core.Path.{_≡_, refl}
-use lib.ListN.{length, getD, replicate}
+use lib.ListN.{length, getD}
 use Rattle.scope.specs.Code.{noOpcode, opcodeOf}
-
--- past a table stand zeros
-zeros : (n o : ℕ) → _≡_ {A = ℕ} (getD (replicate n 0) o 0) 0
-zeros zero o = refl
-zeros (suc n) zero = refl
-zeros (suc n) (suc o) = zeros n o
-
--- so a table may be filled up with them
-pub padded : (l : List ℕ) (n o : ℕ) → getD (l ++ replicate n 0) o 0 ≡ getD l o 0
-padded [] n o = zeros n o
-padded (x ∷ xs) n zero = refl
-padded (x ∷ xs) n (suc o) = padded xs n o
 
 -- the byte for an instruction that may be missing
 abbrev pub byteOf : Option ℕ → ℕ

@@ -5,7 +5,6 @@ ghost use Prim.Native.Nat.{_+_, _/_, _%_, _≤_, _<_};
 ghost use lib.ListN.{length};
 ghost use lib.Seq.{sets};
 ghost use Rattle.definition.specs.Opcode.{instr, size, operands, bytesOf};
-use crate::widths;
 
 // The low byte of a number.
 fn low(x: usize) -> u8
@@ -55,7 +54,7 @@ pub fn write_instruction(code: &mut [u8], at: usize, op: u8, a: usize, b: usize)
     requires { ⌜ at + size (instr op a b) ≤ length (now code) ⌝ }
     ensures { λ _. ⌜ now (code .exit) ≡ sets (now (code .entry)) at (bytesOf (instr op a b)) ⌝ }
 {
-    let n = widths::operand_length(op);
+    let n = opcode::operand_length(op);
     code[at] = op;
     write_operands(code, at + 1, n, a, b);
 }

@@ -13,7 +13,6 @@ ghost use Rattle.scope.specs.Code.{lengthOf, opcodeOf, jumpAndPatch};
 mod instruction;
 pub mod numbers;
 pub mod opcodes;
-pub mod widths;
 
 // The size of the code area: the open chunks together.
 pub const CODE_SIZE: usize = 32768;
@@ -147,7 +146,7 @@ fn emit_instruction(code: &mut [u8], w: Walked, place: usize, op: u8, a: usize, 
         Walked::On(s) => {
             let c = s.chunk;
             let at = c.start + c.len;
-            let n = 1 + widths::operand_length(op);
+            let n = 1 + opcode::operand_length(op);
             if CODE_SIZE < at + n {
                 return refuse(w, numbers::CODE, place);
             }

@@ -1,13 +1,13 @@
 // A function is closed over the code outside it.
 use super::Added;
 use super::pool::add_function;
+use opcode::operand_length;
 use scope::State;
 use scope::Walked;
 use scope::emit_any;
 use scope::emit_closure;
 use scope::numbers;
 use scope::refuse;
-use scope::widths::operand_length;
 use symbol_table::leaving::captures;
 use symbol_table::leaving::definitions;
 use symbol_table::leaving::original;

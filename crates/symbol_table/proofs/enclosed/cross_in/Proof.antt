@@ -5,7 +5,7 @@ use Rattle.symbol_table.proofs.enclosed.cross_in.Statement.{statement}
 use Rattle.symbol_table.proofs.enclosed.cross_in.Tie as tie
 
 returns : tie.Need-returns
-returns c = rw (c .before .before .outer .given .1) (crosses-function _ _ _ _ (c .if1 .taken))
+returns c = rw (c .before .before .outer .given .1) (crosses-function _ _ _ _ (omega arith))
 
 returns-2 : tie.Need-returns-2
 returns-2 c = rw (c .before .before .before .outer .given .1) (crosses-far _ _ _ _ (c .if2 .taken))

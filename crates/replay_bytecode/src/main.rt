@@ -1,0 +1,304 @@
+// Runs recorded cases of instructions, images and sessions, and writes the answer to each on a line.
+// The file `cases` has a question on each line: a word (image, decode or start), a space, and bytes in hexadecimal, where `{6100}3.`
+// stands for the bytes between the braces three times over. A session's bytes (start) are followed by zeros up to 65,536.
+use bytecode::ImageCheck;
+use bytecode::Layout;
+use libc::STDOUT_FILENO;
+use opcode::Decoded;
+use opcode::Instruction;
+ghost use Prim.Native.Nat.{_≤_};
+
+// Where reading stands in a line: its first letter, whether its bytes have begun, how many there are, the digit that waits for a
+// second one, where the last group began, and how often it is to stand.
+struct Reading {
+    kind: u8,
+    begun: bool,
+    length: usize,
+    half: bool,
+    high: u8,
+    group: usize,
+    times: usize,
+    counting: bool,
+}
+
+// A line's beginning.
+fn fresh() -> Reading {
+    Reading {
+        kind: 0,
+        begun: false,
+        length: 0,
+        half: false,
+        high: 0,
+        group: 0,
+        times: 0,
+        counting: false,
+    }
+}
+
+// Write a number with a space before it.
+fn write_number(n: usize) {
+    io::write_all(STDOUT_FILENO, b" ");
+    io::print_decimal(STDOUT_FILENO, n as u64);
+}
+
+// Write a refusal's line.
+fn write_refusal(number: usize, place: usize) {
+    io::write_all(STDOUT_FILENO, b"refused");
+    write_number(number);
+    write_number(place);
+    io::write_all(STDOUT_FILENO, b"\n");
+}
+
+// Write a decoded instruction's line: its byte, its operands and its length.
+fn write_instruction(i: Instruction, size: usize) {
+    io::write_all(STDOUT_FILENO, b"ok");
+    write_number(field::wide(i.op));
+    if size > 1 {
+        write_number(i.operand as usize);
+    }
+    if size > 3 {
+        write_number(field::wide(i.captures));
+    }
+    write_number(size);
+    io::write_all(STDOUT_FILENO, b"\n");
+}
+
+// Answer a question on the image check.
+fn answer_image(image: &[u8]) {
+    match bytecode::check_image(image) {
+        ImageCheck::Sound => {
+            io::write_all(STDOUT_FILENO, b"ok\n");
+        }
+        ImageCheck::Refused(r) => write_refusal(r.number, r.place),
+    }
+}
+
+// Answer a question on decoding.
+fn answer_decode(code: &[u8]) {
+    match opcode::decode(code) {
+        Decoded::Instr(i, size) => write_instruction(i, size),
+        Decoded::Refused(r) => write_refusal(r.number, r.place),
+    }
+}
+
+// Answer a question on a session's layout.
+fn answer_session(session: &[u8]) {
+    match bytecode::read_layout(session) {
+        Layout::Sound(_) => {
+            io::write_all(STDOUT_FILENO, b"ok\n");
+        }
+        Layout::Broken => write_refusal(2, 0),
+    }
+}
+
+// Zero the bytes from an offset on.
+fn clear(bytes: &mut [u8], from: usize) {
+    let mut i = from;
+    while i < bytes.len() {
+        bytes[i] = 0;
+        i += 1;
+    }
+}
+
+// Answer a line's question on the first `length` bytes; a session is all of them.
+fn answer(bytes: &[u8], kind: u8, length: usize) {
+    if bytes.len() < length {
+        return;
+    }
+    if kind == b'i' {
+        answer_image(&bytes[..length]);
+        return;
+    }
+    if kind == b'd' {
+        answer_decode(&bytes[..length]);
+        return;
+    }
+    answer_session(bytes);
+}
+
+// The value of a hexadecimal digit; 16 where it is none.
+fn digit(b: u8) -> u8
+    ensures { λ r. ⌜ r ≤ 16 ⌝ }
+{
+    if b >= b'0' {
+        if b <= b'9' {
+            return b - b'0';
+        }
+    }
+    if b >= b'a' {
+        if b <= b'f' {
+            return b - b'a' + 10;
+        }
+    }
+    16
+}
+
+// Put a byte behind the others, if there is room: their number then.
+fn put(bytes: &mut [u8], length: usize, b: u8) -> usize {
+    if bytes.len() <= length {
+        return length;
+    }
+    bytes[length] = b;
+    length + 1
+}
+
+// Put the byte that stands `size` before the end behind the others.
+fn put_again(bytes: &mut [u8], length: usize, size: usize) -> usize {
+    if bytes.len() <= length {
+        return length;
+    }
+    if length < size {
+        return length;
+    }
+    let b = bytes[length - size];
+    put(bytes, length, b)
+}
+
+// Put the last `size` bytes behind the others once more.
+fn put_group(bytes: &mut [u8], length: usize, size: usize) -> usize {
+    let mut n = length;
+    let mut k = 0;
+    while k < size {
+        n = put_again(bytes, n, size);
+        k += 1;
+    }
+    n
+}
+
+// Put the bytes from `group` on behind the others, so that they stand `times` times.
+fn repeat(bytes: &mut [u8], group: usize, length: usize, times: usize) -> usize {
+    if length < group {
+        return length;
+    }
+    let size = length - group;
+    let mut n = length;
+    let mut left = times;
+    while left > 1 {
+        n = put_group(bytes, n, size);
+        left -= 1;
+    }
+    n
+}
+
+// Read a byte of a line's first word.
+fn read_word(s: Reading, b: u8) -> Reading {
+    let mut t = s;
+    if b == b' ' {
+        t.begun = true;
+        return t;
+    }
+    if t.kind == 0 {
+        t.kind = b;
+    }
+    t
+}
+
+// Read a byte of a group's count.
+fn read_count(bytes: &mut [u8], s: Reading, b: u8) -> Reading {
+    let mut t = s;
+    let times = s.times;
+    if b == b'.' {
+        t.counting = false;
+        t.length = repeat(bytes, s.group, s.length, times);
+        return t;
+    }
+    if times < 65536 {
+        t.times = times * 10 + field::wide(digit(b));
+    }
+    t
+}
+
+// Read a byte of a line's bytes.
+fn read_byte(bytes: &mut [u8], s: Reading, b: u8) -> Reading {
+    let mut t = s;
+    if b == b'{' {
+        t.group = s.length;
+        return t;
+    }
+    if b == b'}' {
+        t.counting = true;
+        t.times = 0;
+        return t;
+    }
+    let d = digit(b);
+    if d == 16 {
+        return t;
+    }
+    if s.half {
+        t.half = false;
+        t.length = put(bytes, s.length, s.high % 16 * 16 + d % 16);
+        return t;
+    }
+    t.half = true;
+    t.high = d;
+    t
+}
+
+// Read a byte of the cases.
+fn read(bytes: &mut [u8], s: Reading, b: u8) -> Reading {
+    if b == b'\n' {
+        clear(bytes, s.length);
+        answer(bytes, s.kind, s.length);
+        return fresh();
+    }
+    if !s.begun {
+        return read_word(s, b);
+    }
+    if s.counting {
+        return read_count(bytes, s, b);
+    }
+    read_byte(bytes, s, b)
+}
+
+// Read a part of the cases.
+fn read_part(bytes: &mut [u8], s: Reading, part: &[u8]) -> Reading {
+    let mut t = s;
+    let mut i = 0;
+    while i < part.len() {
+        t = read(bytes, t, part[i]);
+        i += 1;
+    }
+    t
+}
+
+// What reading a file on gives: where reading stands, or nothing more.
+enum Step {
+    More(Reading),
+    Done,
+}
+
+// Read on in a file of cases.
+fn read_some(fd: i32, bytes: &mut [u8], s: Reading) -> Step {
+    let mut part = io::buffer();
+    let got = libc::read(fd, &mut part);
+    if got <= 0 {
+        return Step::Done;
+    }
+    let n = io::count(got, &part);
+    Step::More(read_part(bytes, s, &part[..n]))
+}
+
+// Read a whole file of cases. Nothing says that a file ends, so the turns are counted down.
+fn read_all(fd: i32, bytes: &mut [u8]) {
+    let mut s = fresh();
+    let mut turns = u64::MAX;
+    while turns > 0 {
+        match read_some(fd, bytes, s) {
+            Step::More(t) => s = t,
+            Step::Done => return,
+        }
+        turns -= 1;
+    }
+}
+
+fn main() {
+    let path = b"cases";
+    let fd = os::open_read(path);
+    if fd < 0 {
+        os::fail(path);
+        return;
+    }
+    let mut bytes = io::large_buffer();
+    read_all(fd, &mut bytes);
+    libc::close(fd);
+}
