@@ -2,6 +2,7 @@
 use super::Added;
 use super::pool::add_function;
 use opcode::operand_length;
+use scope::CODE_SIZE;
 use scope::State;
 use scope::Walked;
 use scope::emit_any;
@@ -21,9 +22,6 @@ ghost use Rattle.symbol_table.specs.Layout.{partSize, base, part, originalsOf};
 ghost use Rattle.scope.specs.View.{then, Ready, Done};
 ghost use Rattle.scope.specs.Machine as machine;
 ghost use Rattle.step.specs.Contract.{outsideOf, Closable, Closes};
-
-// The code area: the open chunks together.
-const CODE_SIZE: usize = 32768;
 
 // How long the loads of the first `n` captured originals are together.
 fn loads_size(table: &[u32], level: usize, n: usize) -> usize
