@@ -1,5 +1,5 @@
 -- A function is closed over the code outside it.
-use Prim.Native.Nat.{ℕ, zero, suc, _+_, _≤_, _<_}
+use Prim.Native.Nat.{ℕ, suc, _+_, _≤_, _<_}
 use native.Mathlib.Omega.{arith}
 use native.Mathlib.Numerals.{add-one}
 use mathlib.Core.Bool.{Bool}
@@ -12,20 +12,20 @@ use Rattle.definition.specs.Basic.{Bytes, pick}
 use Rattle.definition.specs.Limit.{codeSize, freeLimit}
 use Rattle.definition.specs.Number
 use Rattle.definition.specs.Tag.{tagFunctionConst}
-use Rattle.definition.specs.Opcode.{instr, size, opClosure}
-use Rattle.definition.specs.SymbolTable.{Symbol, Table, loadOf}
-use Rattle.definition.specs.Walk.{Res, on, stop, bind, refuse, Go}
+use Rattle.definition.specs.Opcode.{instr, opClosure}
+use Rattle.definition.specs.Walk.{Res, bind, refuse, Go}
 use Rattle.definition.specs.declared.Refusal.{Refusal}
-use Rattle.symbol_table.specs.Layout.{part, partSize, base, back, symbolOf, originalsAt, originalsOf, tableOf, tablesOf, GoodTable, Good}
+use Rattle.symbol_table.specs.Layout.{part, originalsOf, tableOf, tablesOf, GoodTable, Good, symbolOf, originalsAt}
+use Rattle.symbol_table.proofs.Back.{length-back}
 use Rattle.scope.specs.declared.State.{State}
 use Rattle.scope.specs.declared.Walked.{Walked}
 use Rattle.scope.specs.declared.Walked.the-variants.{On, Stop}
-use Rattle.scope.specs.View.{Symbols, View, view, ended, then, Fits, Sound, Ready, Done, Refuses}
+use Rattle.scope.specs.View.{View, view, then, Fits, Sound, Ready, Done, Refuses}
 use Rattle.scope.specs.Machine.{here, emit, returned, addConstant, outside, functionContent, loadsSize, loads, closeOver, leave}
 use Rattle.step.specs.declared.Added.{Added}
 use Rattle.step.specs.Memory.{Rest, rest, namesOf, symbolsOf, settled, result, memory, FineState, Fine, Deeper, Keeps}
 use Rattle.step.specs.Contract.{Adds, FineFor, LeavesBeside, outsideOf, Closable, Closes}
-use Rattle.step.proofs.Loads.{captured, originals-count}
+use Rattle.step.proofs.Loads.{captured}
 use Rattle.step.proofs.Memory.{follow, chain, stop-deeper, on-deeper, deeper-keeps, done-step, done-fine, done-keeps, done-done, fine-roomy, refuses-is}
 
 -- The innermost table, as closing reads it
@@ -94,7 +94,7 @@ module _ (p params : ℕ) (c e : Bytes) (t : List ℕ) (o s : State) (l : s .lev
     close-numbers : (tree : Bytes) → closeOver p params o (view c e (symbolsOf tree (rest e t) s) s) (tablesOf tree (s .level) t) ≡ closed tree (leb (here o + s .chunk .len + z) codeSize) (getD (part (o .level) t) 2 0)
     close-numbers tree =
         ap (closeOver p params o (view c e (symbolsOf tree (rest e t) s) s)) (inner-tables tree t o s l)
-        ∙ (λ u. closed tree (leb (here o + s .chunk .len + sym h u) codeSize) (originals-count (part (o .level) t) (getD (part (o .level) t) 2 0) u))
+        ∙ (λ u. closed tree (leb (here o + s .chunk .len + sym h u) codeSize) (length-back symbolOf (part (o .level) t) originalsAt (getD (part (o .level) t) 2 0) u))
 
     pub close-full : {r : Walked} → codeSize ≤ length c → codeSize < here o + s .chunk .len + z → Refuses (On s) r Number.code p → Closes p params c c e e t o s r
     close-full a f d =

@@ -5,26 +5,25 @@ use mathlib.Core.Bool.{Bool, true, false}
 use mathlib.Core.List.{List}
 use mathlib.Core.Path.{_≡_, refl, sym, _∙_}
 use lib.Dec.{leb}
-use lib.ListN.{length, take}
+use lib.ListN.{length}
 use lib.Seq.{sets, length-sets}
 use borrow.Author.Tests.{le-leb, lt-leb, leb-true, leb-false}
 use Rattle.definition.specs.Basic.{Bytes, pick}
 use Rattle.definition.specs.Limit.{constantsLimit, poolLimit, sessionSize}
 use Rattle.definition.specs.Number
-use Rattle.definition.specs.Number.{refusal}
 use Rattle.definition.specs.Field.{field}
 use Rattle.definition.specs.Opcode.{instr, opConstant}
-use Rattle.definition.specs.Walk.{Res, on, refuse, bind}
+use Rattle.definition.specs.Walk.{Res, on, refuse}
 use Rattle.definition.specs.declared.Refusal.{Refusal}
 use Rattle.field.specs.Layout.{content}
 use Rattle.scope.specs.declared.State.{State}
 use Rattle.scope.specs.declared.Walked.{Walked}
 use Rattle.scope.specs.declared.Walked.the-variants.{On, Stop}
-use Rattle.scope.specs.View.{View, view, Ready, Refuses, Done}
+use Rattle.scope.specs.View.{View, view, Refuses, Done}
 use Rattle.scope.specs.Machine.{withConstant, addConstant, emit, literal}
 use Rattle.session.proofs.Stores.{take-sets}
 use Rattle.step.specs.declared.Added.{Added}
-use Rattle.step.specs.Memory.{rest, symbolsOf, memory, RoomyState, Roomy, FineState, Fine}
+use Rattle.step.specs.Memory.{rest, symbolsOf, memory, Roomy, FineState, Fine}
 use Rattle.step.specs.Contract.{Steps, StepsBeside, hasRoom, Adds}
 use Rattle.step.proofs.Memory.{follow, with-value, stop-deeper, on-deeper, keeps-refl, deeper-keeps, done-steps, refuses-is}
 

@@ -1,31 +1,29 @@
 -- A function is entered.
-use Prim.Native.Nat.{ℕ, suc, _+_, _≤_, _<_}
+use Prim.Native.Nat.{ℕ, _+_, _≤_, _<_}
 use native.Mathlib.Omega.{arith}
 use native.Mathlib.Numerals.{add-one}
 use mathlib.Core.List.{List, [], _∷_}
 use mathlib.Core.Path.{_≡_, refl, sym, ap, _∙_}
-use lib.Dec.{leb, ltb}
 use lib.ListN.{length}
 use borrow.Author.Tests.{le-leb, lt-leb, lt-ltb, le-ltb}
 use Rattle.definition.specs.Basic.{Bytes}
-use Rattle.definition.specs.Limit.{tableSize, nestingLimit, argumentsLimit}
+use Rattle.definition.specs.Limit.{nestingLimit, argumentsLimit}
 use Rattle.definition.specs.Number
 use Rattle.definition.specs.SymbolTable.{named, withParams}
 use Rattle.definition.specs.Walk.{on, refuse}
 use Rattle.definition.specs.declared.Refusal.{Refusal}
-use Rattle.field.specs.Layout.{content, after, Whole}
+use Rattle.field.specs.Layout.{content, after}
 use Rattle.tree.specs.At.{Row, NamedAt, ParamsAt}
-use Rattle.tree.specs.Reads.{Some, Counted}
 use Rattle.symbol_table.specs.Name as Name
-use Rattle.symbol_table.specs.Layout.{base, partSize, globalsOf, tablesOf, Good}
+use Rattle.symbol_table.specs.Layout.{globalsOf, tablesOf}
 use Rattle.symbol_table.specs.Contract as Symbol
 use Rattle.scope.specs.declared.State.{State}
 use Rattle.scope.specs.declared.Walked.{Walked}
 use Rattle.scope.specs.declared.Walked.the-variants.{On, Stop}
-use Rattle.scope.specs.View.{View, view, Fits, Sound, Ready, Refuses}
-use Rattle.scope.specs.Machine.{here, inside, enter}
-use Rattle.step.specs.Memory.{rest, namesOf, symbolsOf, settled, FineState, Fine}
-use Rattle.step.specs.Contract.{HeadAt, Enters, EntersBeside, FineBeside}
+use Rattle.scope.specs.View.{view, Fits, Sound, Refuses}
+use Rattle.scope.specs.Machine.{inside, enter}
+use Rattle.step.specs.Memory.{rest, namesOf, symbolsOf, settled, FineState}
+use Rattle.step.specs.Contract.{HeadAt, Enters, EntersBeside}
 use Rattle.step.proofs.Memory.{stop-deeper, on-deeper, refuses-is}
 
 -- a walk that goes on has its chunk within the code area

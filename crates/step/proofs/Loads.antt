@@ -1,5 +1,5 @@
 -- The loads of captured originals.
-use Prim.Native.Nat.{ℕ, zero, suc, _+_, _*_, _≤_, _<_}
+use Prim.Native.Nat.{ℕ, _+_, _*_, _≤_, _<_}
 use native.Mathlib.Omega.{arith}
 use native.Mathlib.Numerals.{add-one}
 use mathlib.Core.List.{List, [], _∷_}
@@ -10,7 +10,8 @@ use Rattle.definition.specs.Opcode.{instr, width, size}
 use Rattle.definition.specs.SymbolTable.{Symbol, loadOf}
 use Rattle.definition.specs.Walk.{on}
 use Rattle.definition.proofs.Instructions.{width-most}
-use Rattle.symbol_table.specs.Layout.{part, back, symbolOf, originalsAt, originalsOf}
+use Rattle.symbol_table.specs.Layout.{part, symbolOf, originalsAt, originalsOf}
+use Rattle.symbol_table.proofs.Back.{back-none, back-next}
 use Rattle.scope.specs.declared.Walked.{Walked}
 use Rattle.scope.specs.declared.Walked.the-variants.{On, Stop}
 use Rattle.scope.specs.View.{Symbols, ended, then, Ready, Done}
@@ -22,19 +23,11 @@ abbrev pub captured : List ℕ → ℕ → List Symbol
 captured t l = originalsOf (part l t) (getD (part l t) 2 0)
 
 -- one more at a time
-module _ (r : List ℕ) (i : ℕ) where
-  originals-more : originalsOf r (i + 1) ≡ symbolOf (getD r (originalsAt + i) 0) ∷ originalsOf r i
-  unfolding back
-  originals-more = rw (add-one i)
+originals-more : (r : List ℕ) (i : ℕ) → originalsOf r (i + 1) ≡ symbolOf (getD r (originalsAt + i) 0) ∷ originalsOf r i
+originals-more r i = rw (add-one i) (back-next symbolOf r originalsAt i)
 
-pub originals-none : (r : List ℕ) → originalsOf r 0 ≡ []
-unfolding back
-originals-none r = refl
-
-pub originals-count : (r : List ℕ) (n : ℕ) → length (originalsOf r n) ≡ n
-unfolding back
-originals-count r zero = refl
-originals-count r (suc n) = ap suc (originals-count r n)
+originals-none : (r : List ℕ) → originalsOf r 0 ≡ []
+originals-none r = back-none symbolOf r originalsAt 0 (omega arith)
 
 pub size-none : (r : List ℕ) → 0 ≡ loadsSize (originalsOf r 0)
 size-none r = rw (originals-none r)

@@ -1,7 +1,7 @@
 -- Steps on the lent memory in a row, and steps on the code area alone.
 use Prim.Native.Nat.{ℕ, _+_}
 use native.Mathlib.Omega.{arith}
-use mathlib.Core.List.{List, []}
+use mathlib.Core.List.{[]}
 use mathlib.Core.Path.{_≡_, refl, sym, ap, _∙_}
 use Rattle.definition.specs.Basic.{Bytes}
 use Rattle.definition.specs.Walk.{Res, on, stop, bind, Go}
@@ -10,7 +10,7 @@ use Rattle.definition.specs.declared.Refusal.{Refusal}
 use Rattle.scope.specs.declared.State.{State}
 use Rattle.scope.specs.declared.Walked.{Walked}
 use Rattle.scope.specs.declared.Walked.the-variants.{On, Stop}
-use Rattle.scope.specs.View.{Symbols, View, view, ended, then, Outline, outline, outlineOf, Ready, Done, Refuses}
+use Rattle.scope.specs.View.{View, view, ended, then, outline, outlineOf, Ready, Done, Refuses}
 use Rattle.step.specs.Memory.{Rest, stateOf, symbolsOf, noSymbols, settled, result, memory, Roomy, FineState, Fine, Deeper, Keeps}
 use Rattle.step.specs.Contract.{Steps}
 

@@ -8,25 +8,25 @@ use lib.Seq.{length-take-le}
 use Rattle.definition.specs.Basic.{Bytes}
 use Rattle.definition.specs.Limit.{nestingLimit}
 use Rattle.definition.specs.Number.{refusal}
-use Rattle.definition.specs.Opcode.{Instr, instr, opSetGlobal, opSetLocal}
-use Rattle.definition.specs.SymbolTable.{Table, Defined, Resolved, place, builtins, resolve, loadOf}
-use Rattle.definition.specs.Walk.{Res, on, refuse}
+use Rattle.definition.specs.Opcode.{instr}
+use Rattle.definition.specs.SymbolTable.{Table, builtins, loadOf}
+use Rattle.definition.specs.Walk.{refuse}
 use Rattle.definition.specs.declared.Refusal.{Refusal}
-use Rattle.symbol_table.specs.Layout.{partSize, base, symbolOf, globalsOf, globalsIn, tablesOf, Good}
+use Rattle.symbol_table.specs.Layout.{partSize, base, symbolOf, globalsOf, tablesOf, Good}
 use Rattle.symbol_table.specs.Contract as Symbol
 use Rattle.symbol_table.specs.Contract.{definedOf, resolvedOf, Resolves}
 use Rattle.symbol_table.specs.declared.Definition.{Definition}
 use Rattle.symbol_table.specs.declared.Definition.the-variants.{Global, Local, GlobalsFull, LocalsFull}
 use Rattle.symbol_table.specs.declared.Lookup.{Lookup}
-use Rattle.symbol_table.specs.declared.Lookup.the-variants.{Found, Undefined, Full}
+use Rattle.symbol_table.specs.declared.Lookup.the-variants.{Found}
 use Rattle.field.specs.Layout.{content}
 use Rattle.scope.specs.declared.State.{State}
 use Rattle.scope.specs.declared.Walked.{Walked}
 use Rattle.scope.specs.declared.Walked.the-variants.{On, Stop}
-use Rattle.scope.specs.View.{Symbols, View, view, ended, Ready, Done, Refuses}
+use Rattle.scope.specs.View.{Symbols, View, view, Ready, Done, Refuses}
 use Rattle.scope.specs.Machine.{define, placed, withTables, load, loaded, emit}
 use Rattle.step.specs.declared.Defining.{Defining}
-use Rattle.step.specs.Memory.{Rest, rest, namesOf, symbolsOf, noSymbols, settled, result, FineState, Fine, Keeps}
+use Rattle.step.specs.Memory.{rest, namesOf, symbolsOf, settled, result, FineState, Fine, Keeps}
 use Rattle.step.specs.Contract.{Steps, placedAt, Defines, FineBeside, DefinesBeside}
 use Rattle.step.proofs.Memory.{stop-deeper, keeps-refl, done-steps, refuses-is}
 

@@ -2,6 +2,7 @@
 use super::Added;
 use super::pool::add_function;
 use opcode::operand_length;
+use scope::CODE_SIZE;
 use scope::State;
 use scope::Walked;
 use scope::emit_any;
@@ -14,16 +15,13 @@ use symbol_table::leaving::original;
 use symbol_table::load_of;
 ghost use mathlib.Core.Path.{_≡_};
 ghost use Prim.Native.Nat.{_+_, _*_, _≤_};
-ghost use lib.ListN.{length, getD};
+ghost use lib.ListN.{length};
 ghost use Rattle.definition.specs.Limit.{freeLimit};
 ghost use Rattle.definition.specs.Opcode.{instr, opClosure};
 ghost use Rattle.symbol_table.specs.Layout.{partSize, base, part, originalsOf};
 ghost use Rattle.scope.specs.View.{then, Ready, Done};
 ghost use Rattle.scope.specs.Machine as machine;
 ghost use Rattle.step.specs.Contract.{outsideOf, Closable, Closes};
-
-// The code area: the open chunks together.
-const CODE_SIZE: usize = 32768;
 
 // How long the loads of the first `n` captured originals are together.
 fn loads_size(table: &[u32], level: usize, n: usize) -> usize

@@ -1,6 +1,7 @@
 -- A child's field lies inside its parent's, so what is left to walk falls.
 use Prim.Native.Nat.{ℕ, _+_, _≤_}
 use native.Mathlib.Omega.{arith}
+use mathlib.Core.Path.{_≡_}
 use Rattle.definition.specs.Basic.{Bytes}
 use Rattle.definition.specs.Syntax.{Stmt, Stmts, Else, Expr}
 use Rattle.field.specs.Layout.{after}
@@ -11,6 +12,10 @@ use Rattle.tree.specs.Reads.{ReadsOther}
 pub record Inside (tree : Bytes) (child parent : ℕ) : Type 0 where
   pub from : parent + 3 ≤ child
   pub upto : after tree child ≤ after tree parent
+
+-- the same of an offset by another name
+pub inside-at : {tree : Bytes} {child at parent : ℕ} → child ≡ at → Inside tree at parent → Inside tree child parent
+inside-at q i = rw q i
 
 module _ {tree : Bytes} {at : ℕ} where
   module _ {E : ℕ → Expr → Type 0} where
