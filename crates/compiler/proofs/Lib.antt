@@ -3,3 +3,7 @@ pub mod Conditions
 pub mod Lent
 pub mod Appending
 pub mod Opened
+pub mod Started
+pub mod Walked
+pub mod Defined
+pub mod Accepted

@@ -10,6 +10,10 @@ use Rattle.definition.specs.Number
 use Rattle.definition.specs.Number.{refusal}
 use Rattle.definition.specs.Tag.{tagNames, tagPool}
 use Rattle.definition.specs.Field.{field}
+use Rattle.definition.specs.Syntax.{Stmts}
+use Rattle.definition.specs.Tree.{Parsed, readTree}
+use Rattle.definition.specs.Compile.{translate}
+use Rattle.definition.specs.declared.Refusal.{Refusal}
 use Rattle.definition.specs.Bytecode.{poolBytes}
 use Rattle.definition.specs.Session.{Session, namesBytes, sessionFields, sessionBytes}
 use Rattle.definition.specs.Decode.{Decoded, decoded, malformed, then, readNames, readPool, allZero, readSession}
@@ -17,12 +21,14 @@ use Rattle.definition.specs.Valid.{AreBytes, ValidSession}
 use Rattle.definition.proofs.Bytes.{Stands, stands-left, stands-front, stands-self}
 use Rattle.definition.proofs.Fields.{head-field}
 use Rattle.definition.proofs.Sessions.{names-length, read-names, read-session, write-session}
+use Rattle.tree.specs.Check.{verdict}
+use Rattle.tree.specs.declared.Checked.the-variants.{Refused}
 use Rattle.field.specs.Layout.{after}
 use Rattle.refinement.specs.Relation.{namesEnd, poolEnd}
 use Rattle.bytecode.specs.Checked.{layout, layoutOf}
 use Rattle.bytecode.specs.declared.SessionLayout.{SessionLayout}
 use Rattle.bytecode.specs.declared.Layout.the-variants.{Sound, Broken}
-use Rattle.compiler.specs.Result.{refusedResult, sessionResult, result}
+use Rattle.compiler.specs.Result.{refusedResult, stepResult, sessionResult, result}
 use Rattle.compiler.specs.Stage.{layoutAt, Opened}
 
 -- the names in front of a valid session's bytes are read
@@ -97,3 +103,12 @@ broken tree e o = go (readNames (byteAt e) 0 (length e)) (λ ns at. then (readPo
         in-pool ns at (decoded z n) r = let no : _≡_ {A = ℕ} 0 1 = cc in absurd (omega arith)
         in-pool ns at (malformed q) r = refl
     go (malformed p) k = λ _. refl
+
+-- a tree that was refused is refused
+pub refused-tree : (tree e o : Bytes) {l : SessionLayout} → Opened e l → {r : Refusal} → verdict (readTree tree) ≡ Refused r → result tree e o ≡ refusedResult e o r
+unfolding result
+refused-tree tree e o x {r} h = ap (sessionResult tree e o) (x .reads) ∙ go (readTree tree) h
+  where
+    go : (p : Parsed Stmts) → verdict p ≡ Refused r → stepResult e o (translate (length o) (x .session) p) ≡ refusedResult e o r
+    go (Parsed.parsed b n) h = let no : _≡_ {A = ℕ} 0 1 = cc in absurd (omega arith)
+    go (Parsed.refused q) h = let same : q ≡ r = cc in ap (refusedResult e o) same

@@ -2,3 +2,4 @@ pub mod Result
 pub mod Promise
 pub mod Names
 pub mod Stage
+pub mod Translated

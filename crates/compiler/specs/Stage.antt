@@ -5,12 +5,17 @@ use mathlib.Core.List.{List}
 use lib.ListN.{length}
 use Rattle.definition.specs.Basic.{Bytes}
 use Rattle.definition.specs.Limit.{sessionSize, codeSize, tableSize}
+use Rattle.definition.specs.Tree.{readTree}
 use Rattle.definition.specs.Session.{Session, sessionBytes}
 use Rattle.definition.specs.Decode.{decoded, readSession}
 use Rattle.definition.specs.Valid.{ValidSession}
 use Rattle.definition.specs.Call.{Lent}
 use Rattle.refinement.specs.Relation.{namesEnd, poolEnd}
+use Rattle.bytecode.specs.Checked.{layoutOf}
 use Rattle.bytecode.specs.declared.SessionLayout.{SessionLayout}
+use Rattle.bytecode.specs.declared.Layout.the-variants.{Sound}
+use Rattle.tree.specs.Check.{verdict}
+use Rattle.tree.specs.declared.Checked.the-variants.{Good}
 
 -- what is lent
 abbrev pub lentOf : Bytes → Bytes → Bytes → List ℕ → Lent
@@ -40,3 +45,9 @@ pub record Opened (e : Bytes) (l : SessionLayout) : Type 0 where
   pub bytes : e ≡ sessionBytes session
   pub valid : ValidSession session
   pub layout : l ≡ layoutAt session
+
+-- a checked tree, a session of that layout, and work areas of their sizes
+pub record Checked (tree e c : Bytes) (t : List ℕ) (l : SessionLayout) : Type 0 where
+  pub lengths : Lengths e c t
+  pub layout : layoutOf e ≡ Sound l
+  pub good : verdict (readTree tree) ≡ Good

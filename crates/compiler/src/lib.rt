@@ -1,15 +1,23 @@
 // Compiling in a session: the public functions.
 mod names;
+mod translate;
 
+use bytecode::Layout;
+use bytecode::read_layout;
 use definition::Answer;
+use definition::Refusal;
+use translate::translate;
+use tree::Checked;
 ghost use mathlib.Core.Path.{_≡_};
 ghost use Prim.Native.Nat.{_≤_};
-ghost use lib.ListN.{length};
+ghost use lib.ListN.{length, take};
 ghost use lib.Dec.{leb};
 ghost use Rattle.definition.specs.Basic.{both};
 ghost use Rattle.definition.specs.Limit.{sessionSize, codeSize, tableSize};
 ghost use Rattle.definition.specs.Call.{cleared};
-ghost use Rattle.compiler.specs.Promise.{Makes};
+ghost use Rattle.compiler.specs.Result.{result, wholeOf};
+ghost use Rattle.compiler.specs.Promise.{Compiles, Makes};
+ghost use Rattle.compiler.specs.Stage.{lentOf, Long, Lengths};
 
 // The bytes of a session.
 const SESSION_SIZE: usize = 65536;
@@ -19,6 +27,12 @@ const CODE_SIZE: usize = 32768;
 
 // The numbers of the table area.
 const TABLE_SIZE: usize = 16384;
+
+// Number 1: a work area or the session is below its size.
+const SHORT_BUFFER: usize = 1;
+
+// Number 2: the session's layout is broken.
+const NO_SESSION: usize = 2;
 
 // Makes a fresh session.
 pub fn make_session(session: &mut [u8]) -> Answer
@@ -54,4 +68,69 @@ fn clear_table(table: &mut [u32])
     ensures { λ _. ⌜ now (table .exit) ≡ cleared tableSize (now (table .entry)) ⌝ }
 {
     session::zero::clear_numbers(&mut table[..TABLE_SIZE]);
+}
+
+// Compiles a tree in buffers of just these sizes: the session's layout, the tree, then the walk.
+fn compile_in(
+    session: &mut [u8],
+    tree: &[u8],
+    output: &mut [u8],
+    code: &mut [u8],
+    table: &mut [u32],
+) -> Answer
+    requires { ⌜ Lengths (now session) (now code) (now table) ⌝ }
+    ensures { λ r. ⌜ record { answer = r; session = now (session .exit); output = now (output .exit) } ≡ result (now (tree .entry)) (now (session .entry)) (now (output .entry)) ⌝ }
+{
+    match read_layout(session) {
+        Layout::Broken => Answer::Refused(Refusal {
+            number: NO_SESSION,
+            place: 0,
+        }),
+        Layout::Sound(layout) => match tree::check(tree) {
+            Checked::Refused(r) => Answer::Refused(r),
+            Checked::Good => translate(session, tree, output, code, table, layout),
+        },
+    }
+}
+
+// Compiles a tree in buffers that are large enough, and zeroes the work areas.
+fn compile_lent(
+    session: &mut [u8],
+    tree: &[u8],
+    output: &mut [u8],
+    code: &mut [u8],
+    table: &mut [u32],
+) -> Answer
+    requires { ⌜ Long (now session) (now code) (now table) ⌝ }
+    ensures { λ r. ⌜ record { answer = r; lent = lentOf (now (session .exit)) (now (output .exit)) (now (code .exit)) (now (table .exit)) } ≡ wholeOf (lentOf (now (session .entry)) (now (output .entry)) (now (code .entry)) (now (table .entry))) (result (now (tree .entry)) (take sessionSize (now (session .entry))) (now (output .entry))) ⌝ }
+{
+    let answer = compile_in(
+        &mut session[..SESSION_SIZE],
+        tree,
+        output,
+        &mut code[..CODE_SIZE],
+        &mut table[..TABLE_SIZE],
+    );
+    clear_code(code);
+    clear_table(table);
+    answer
+}
+
+// Compiles a tree in a session, and leaves image, session and zeroed work areas; or refuses it.
+pub fn compile(
+    session: &mut [u8],
+    tree: &[u8],
+    output: &mut [u8],
+    code: &mut [u8],
+    table: &mut [u32],
+) -> Answer
+    ensures { λ r. ⌜ Compiles (now (tree .entry)) (lentOf (now (session .entry)) (now (output .entry)) (now (code .entry)) (now (table .entry))) r (lentOf (now (session .exit)) (now (output .exit)) (now (code .exit)) (now (table .exit))) ⌝ }
+{
+    if long_enough(session, code, table) {
+        return compile_lent(session, tree, output, code, table);
+    }
+    Answer::Refused(Refusal {
+        number: SHORT_BUFFER,
+        place: 0,
+    })
 }

@@ -33,7 +33,7 @@ use Rattle.refinement.proofs.Buffer.{restored, pool-stands, appended-length, na
 use Rattle.bytecode.specs.declared.SessionLayout.{SessionLayout}
 use Rattle.compiler.specs.Result.{refusedResult, resultOf, stepResult}
 use Rattle.compiler.specs.Names.{Appends, laterFields}
-use Rattle.compiler.specs.Translated.{Translated, finalResult}
+use Rattle.compiler.specs.Translated.{imageLength, Translated, finalResult}
 use Rattle.compiler.proofs.Opened.{pool-end}
 use Rattle.compiler.proofs.Defined.{later-are}
 
@@ -73,7 +73,7 @@ module _ {tree c b : Bytes} {t : List ℕ} {l : SessionLayout} {s : Memory.State
   code-part = ap (λ n. take n c) (p .compiled .len) ∙ p .compiled .code
 
   -- the image's length
-  pub image-size : 6 + s .chunk .len + (s .«pool_end» - (l .«names_end» + 3)) ≡ length (imageBytes (imageOf (p .state)))
+  image-size : imageLength l s ≡ length (imageBytes (imageOf (p .state)))
   image-size =
       let code = encode (p .state .code) in
       let pool = poolBytes (p .state .pool) in
@@ -127,27 +127,36 @@ module _ {tree c b : Bytes} {t : List ℕ} {l : SessionLayout} {s : Memory.State
       ∙ accepted-session z (a .new) more (p .state .pool) refl (omega (arith, names-end)) (omega (arith, n .end)) (omega (arith, new-end, a .upto)) (omega (arith, fields-length (sessionOf (p .state)) (p .compiled .valid .session)))
       ∙ ap sessionBytes extended-is
 
+  -- the output has room for the image's parts
+  pub image-room : {o : ℕ} → imageLength l s ≤ o → 6 + length (take (s .chunk .len) c) + length (take (s .«pool_end» - (l .«names_end» + 3)) (drop (l .«names_end» + 3) b)) ≤ o
+  image-room h = omega (arith, ap length code-part, ap length pool-part, new-end, p .compiled .len, code-length (p .state .code))
+
+  -- the session has room for the names and the pool behind them
+  pub session-room : {end : ℕ} {b₁ : Bytes} → Appends (laterFields tree (take (l .«names_end») b) t (l .names) (getD t 0 0)) (l .«names_end») b b₁ end → length b₁ ≡ length b
+      → (k : ℕ) → k ≤ s .«pool_end» - (l .«names_end» + 3) → (3 ≤ end) × (end + (3 + k) ≤ length b₁)
+  session-room n e k h = (omega (arith, n .end, names-end), omega (arith, n .end, names-room, bounds .session))
+
   -- The output has room: image and session are written
-  pub accepted : (o : Bytes) {o₁ x b₁ b₂ : Bytes} {end : ℕ} → 6 + s .chunk .len + (s .«pool_end» - (l .«names_end» + 3)) ≤ length o
+  pub accepted : (o : Bytes) {o₁ b₁ b₂ : Bytes} {end total : ℕ} → total ≡ imageLength l s → total ≤ length o
       → o₁ ≡ over (field tagMain (take (s .chunk .len) c) ++ field tagPool (take (s .«pool_end» - (l .«names_end» + 3)) (drop (l .«names_end» + 3) b))) o
       → Appends (laterFields tree (take (l .«names_end») b) t (l .names) (getD t 0 0)) (l .«names_end») b b₁ end
-      → x ≡ take (s .«pool_end» - (l .«names_end» + 3)) (drop (6 + s .chunk .len) o₁)
-      → b₂ ≡ finished end x b₁
-      → record { answer = Length (6 + s .chunk .len + (s .«pool_end» - (l .«names_end» + 3))); session = b₂; output = o₁ } ≡ finalResult p o
-  accepted o {o₁} h w n e q =
+      → b₂ ≡ finished end (take (total - (6 + s .chunk .len)) (drop (6 + s .chunk .len) o₁)) b₁
+      → record { answer = Length total; session = b₂; output = o₁ } ≡ finalResult p o
+  accepted o {o₁} {b₁} {end = end} {total} k h w n q =
       let m = imageOf (p .state) in
       let code = encode (p .state .code) in
       let pool = poolBytes (p .state .pool) in
       let image : o₁ ≡ over (imageBytes m) o = w ∙ (λ i. over (field tagMain (code-part i) ++ field tagPool (pool-part i)) o) in
-      let back : take (s .«pool_end» - (l .«names_end» + 3)) (drop (6 + s .chunk .len) o₁) ≡ pool =
-      ap (λ o. take (s .«pool_end» - (l .«names_end» + 3)) (drop (6 + s .chunk .len) o)) image
-      ∙ second-content o tagMain tagPool code pool {i = 6 + s .chunk .len} {n = s .«pool_end» - (l .«names_end» + 3)} (omega (arith, p .compiled .len, code-length (p .state .code))) (omega (arith, new-end)) in
-      let session = session-written n (e ∙ back) q in
-      (λ i. record { answer = Length (image-size i); session = session i; output = image i })
-      ∙ sym (ap (λ x. stepResult (sessionBytes (p .session)) o x) (pick-true _ _ (le-leb (length (imageBytes m)) (length o) (omega (arith, image-size)))))
+      let size : total ≡ length (imageBytes m) = k ∙ image-size in
+      let back : take (total - (6 + s .chunk .len)) (drop (6 + s .chunk .len) o₁) ≡ pool =
+      ap (λ o. take (total - (6 + s .chunk .len)) (drop (6 + s .chunk .len) o)) image
+      ∙ second-content o tagMain tagPool code pool {i = 6 + s .chunk .len} {n = total - (6 + s .chunk .len)} (omega (arith, p .compiled .len, code-length (p .state .code))) (omega (arith, new-end)) in
+      let session = session-written n back q in
+      (λ i. record { answer = Length (size i); session = session i; output = image i })
+      ∙ sym (ap (λ x. stepResult (sessionBytes (p .session)) o x) (pick-true _ _ (le-leb (length (imageBytes m)) (length o) (omega arith))))
 
   -- The output is short: zeros restore the session
-  pub short : {o b₁ : Bytes} → length o < 6 + s .chunk .len + (s .«pool_end» - (l .«names_end» + 3)) → b₁ ≡ sets b (l .«pool_end») (replicate (s .«pool_end» - l .«pool_end») 0)
+  pub short : {o b₁ : Bytes} → length o < imageLength l s → b₁ ≡ sets b (l .«pool_end») (replicate (s .«pool_end» - l .«pool_end») 0)
       → record { answer = Refused (refusal Number.outputShort 0); session = b₁; output = o } ≡ finalResult p o
   short {o} h q =
       let z = p .session in

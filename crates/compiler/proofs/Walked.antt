@@ -2,7 +2,7 @@
 use Prim.Native.Nat.{ℕ, _+_, _-_, _≤_}
 use native.Mathlib.Omega.{arith}
 use mathlib.Core.List.{List, []}
-use mathlib.Core.Path.{_≡_, refl, sym, ap, subst₂, _∙_}
+use mathlib.Core.Path.{_≡_, refl, sym, ap, subst, subst₂, _∙_}
 use lib.ListN.{length, take, replicate}
 use lib.Seq.{sets, take-all}
 use Rattle.definition.specs.Basic.{Bytes, byteAt}
@@ -11,16 +11,21 @@ use Rattle.definition.specs.Syntax.{Stmts}
 use Rattle.definition.specs.Tree.{Parsed, readTree}
 use Rattle.definition.specs.Session.{Session, sessionBytes}
 use Rattle.definition.specs.Decode.{decoded, readNames, readSession}
-use Rattle.definition.specs.Valid.{ValidSession}
+use Rattle.definition.specs.Valid.{AreBytes}
 use Rattle.definition.specs.Walk.{Res, on, stop, walkStmts}
 use Rattle.definition.specs.Compiler as Structured
 use Rattle.definition.specs.Compiler.{State}
 use Rattle.definition.specs.Compile as Definition
 use Rattle.definition.specs.Compile.{start, translate}
 use Rattle.definition.specs.declared.Refusal.{Refusal}
+use Rattle.definition.specs.declared.Answer.the-variants.{Refused}
 use Rattle.definition.proofs.ReadWellFormed.{read-well-formed}
 use Rattle.definition.proofs.Sessions.{session-length}
-use Rattle.scope.specs.View.{View, view, then}
+use Rattle.tree.specs.Check.{verdict}
+use Rattle.tree.specs.Reads.{Some}
+use Rattle.tree.specs.declared.Checked.the-variants.{Good}
+use Rattle.field.specs.Layout.{after}
+use Rattle.scope.specs.View.{View, view, then, Ready}
 use Rattle.scope.specs.Machine.{machine}
 use Rattle.scope.specs.declared.State as Memory
 use Rattle.scope.specs.declared.Walked.{Walked}
@@ -30,14 +35,15 @@ use Rattle.refinement.proofs.Walk.{walk-ends}
 use Rattle.refinement.proofs.Outcome.{memory-through, memory-halts}
 use Rattle.refinement.proofs.Buffer.{restored}
 use Rattle.bytecode.specs.declared.SessionLayout.{SessionLayout}
-use Rattle.symbol_table.specs.Layout.{globalsIn, tablesOf}
+use Rattle.symbol_table.specs.Layout.{globalsSize}
 use Rattle.symbol_table.specs.Contract.{HasNames, Starts}
-use Rattle.step.specs.Memory.{Rest, rest, symbolsOf, noSymbols, settled, memory, Origin, Walks}
+use Rattle.step.specs.Memory.{Rest, rest, symbolsOf, noSymbols, settled, memory, FineState, Origin, Walks}
 use Rattle.walk.specs.Parts.{ReadsTree}
 use Rattle.compiler.specs.Result.{Result, refusedResult, stepResult, sessionResult, result}
-use Rattle.compiler.specs.Stage.{layoutAt, Opened}
-use Rattle.compiler.specs.Translated.{startState, Translated, finalResult}
-use Rattle.compiler.proofs.Started.{started-view}
+use Rattle.compiler.specs.Stage.{Opened, Lengths, Checked}
+use Rattle.compiler.specs.Translated.{startState, Translated, Through, Halted, WalkEnded}
+use Rattle.compiler.proofs.Opened.{opened}
+use Rattle.compiler.proofs.Started.{opened-names, opened-after, started-fine, started-view, started-ready}
 
 -- a walk that goes on is settled as it is
 settled-on : {A : Type 0} (y : Res View A) {a : A} {v : View} → on a v ≡ settled y → y ≡ on a v
@@ -57,18 +63,6 @@ settled-stop (stop q u) {r} {v} e =
     let refusal : q ≡ r = cc in
     let same : view (u .code) (u .session) noSymbols (u .state) ≡ v = cc in
     record { view = u; same = ap (λ r. stop r u) refusal; session = ap (λ (x : View). x .session) same; state = ap (λ (x : View). x .state) same }
-
--- the walk went through: what is there, and what the call's result is
-pub record Through (tree e c′ e′ : Bytes) (t′ : List ℕ) (l : SessionLayout) (s : Memory.State) : Type 0 where
-  pub translated : Translated tree c′ e′ t′ l s
-  pub same : (o : Bytes) → result tree e o ≡ finalResult translated o
-
--- the walk stopped: zeros restore the session, and the refusal is the call's result
-pub record Halted (tree e e′ : Bytes) (l : SessionLayout) (q : Refusal) (s : Memory.State) : Type 0 where
-  pub low : l .«pool_end» ≤ s .«pool_end»
-  pub high : s .«pool_end» ≤ sessionSize
-  pub restores : sets e′ (l .«pool_end») (replicate (s .«pool_end» - l .«pool_end») 0) ≡ e
-  pub same : (o : Bytes) → result tree e o ≡ refusedResult e o q
 
 -- where the walk goes on, no function is open
 started-level : (l : SessionLayout) {s : Memory.State} → Origin 0 (On (startState l)) s → s .level ≡ 0
@@ -101,7 +95,7 @@ module _ {e : Bytes} {l : SessionLayout} (x : Opened e l) {t₀ t : List ℕ} (b
 
   -- the walk that was done is that on views
   walk-is : {c′ : Bytes} {m : Rest} {r : Walked} → WalksTree tree l c c′ (rest e t) m r → memory tree c′ m r ≡ settled (done (x .session) e c b)
-  walk-is w = w .step b (record { literals = n; reads = reads }) ∙ ap (λ m. settled (then m (walkStmts machine b))) (started-view x begun tree c)
+  walk-is w = w .step b (record { end = n; reads = reads }) ∙ ap (λ m. settled (then m (walkStmts machine b))) (started-view x begun tree c)
 
   pub walk-through : {c′ e′ : Bytes} {t′ : List ℕ} {s : Memory.State} → WalksTree tree l c c′ (rest e t) (rest e′ t′) (On s) → Through tree e c′ e′ t′ l s
   walk-through {c′} {e′} {t′} {s} w =
@@ -134,3 +128,62 @@ module _ {e : Bytes} {l : SessionLayout} (x : Opened e l) {t₀ t : List ℕ} (b
         restores = (λ i. sets e′ (ends i) (replicate (s .«pool_end» - ends i) 0)) ∙ restored z e (take-all sessionSize e (omega arith) ∙ x .bytes) a;
         same = λ o. result-is o ∙ ap (λ w. stepResult e o (Definition.finish (length o) z w)) (k .same);
       }
+
+  -- however it ended
+  pub walk-ended : {c′ e′ : Bytes} {t′ : List ℕ} (r : Walked) → WalksTree tree l c c′ (rest e t) (rest e′ t′) r → WalkEnded tree e c′ e′ t′ l r
+  walk-ended (On s) w = walk-through w
+  walk-ended (Stop q s) w = walk-stopped w
+
+-- The walk of a call
+
+-- a tree that was found good reads as statements
+record ReadsWell (x : Parsed Stmts) : Type 0 where
+  statements : Stmts
+  end : ℕ
+  same : x ≡ Parsed.parsed statements end
+
+reads-well : (x : Parsed Stmts) → verdict x ≡ Good → ReadsWell x
+reads-well (Parsed.parsed b n) e = record { statements = b; end = n; same = refl }
+reads-well (Parsed.refused r) e = let no : _≡_ {A = ℕ} 0 1 = cc in absurd (omega arith)
+
+module _ {tree e c : Bytes} {t : List ℕ} {l : SessionLayout} (k : Checked tree e c t l) (bytes : AreBytes e) where
+  -- the session, and what the tree reads as
+  x : Opened e l
+  x = opened e bytes (k .lengths .session) (k .layout)
+
+  well : ReadsWell (readTree tree)
+  well = reads-well (readTree tree) (k .good)
+
+  -- what starting the table area needs
+  pub start-needs : (length e ≤ sessionSize) × (HasNames e × (globalsSize ≤ length t))
+  start-needs = (omega (arith, k .lengths .session), (opened-names x, omega (arith, k .lengths .table)))
+
+  module _ {end : ℕ} {t₁ : List ℕ} (ends : end ≡ after e 0) (begun : Starts e end t t₁) {s : Memory.State} (first : s ≡ startState l) where
+    begun-at : Starts e (l .«names_end») t t₁
+    begun-at = subst (λ n. Starts e n t t₁) (ends ∙ opened-after x) begun
+
+    -- what the walk needs
+    pub walk-needs : length t₁ ≡ length t → Some (ReadsTree tree) × (Ready c (On s) × FineState tree (rest e t₁) s)
+    walk-needs n = (
+      (well .statements, record { end = well .end; reads = well .same }),
+      (subst (λ s. Ready c (On s)) (sym first) (started-ready l (k .lengths .code)), subst (λ s. FineState tree (rest e t₁) s) (sym first) (started-fine x begun-at tree (n ∙ k .lengths .table))),
+    )
+
+    -- how it ended
+    pub walked : {c′ e′ : Bytes} {t′ : List ℕ} (r : Walked) → Walks tree (ReadsTree tree) (walkStmts machine) c c′ (rest e t₁) (rest e′ t′) (On s) r → WalkEnded tree e c′ e′ t′ l r
+    walked {c′} {e′} {t′} r w =
+        walk-ended x begun-at c (k .lengths .code) tree (well .statements) (well .end) (well .same) r
+        (subst (λ s. Walks tree (ReadsTree tree) (walkStmts machine) c c′ (rest e t₁) (rest e′ t′) (On s) r) first w)
+
+-- how it ended, by its answer
+module _ (tree e c′ e′ : Bytes) (t′ : List ℕ) (l : SessionLayout) where
+  pub went-through : {r : Walked} {s : Memory.State} → WalkEnded tree e c′ e′ t′ l r → r ≡ On s → Through tree e c′ e′ t′ l s
+  went-through w h = subst (λ r. WalkEnded tree e c′ e′ t′ l r) h w
+
+  pub went-back : {r : Walked} {q : Refusal} {s : Memory.State} → WalkEnded tree e c′ e′ t′ l r → r ≡ Stop q s → Halted tree e e′ l q s
+  went-back w h = subst (λ r. WalkEnded tree e c′ e′ t′ l r) h w
+
+-- zeros over what was added, and the refusal
+pub halted-result : (tree e : Bytes) {e′ : Bytes} {l : SessionLayout} {q : Refusal} {s : Memory.State} → Halted tree e e′ l q s → {b : Bytes} → b ≡ sets e′ (l .«pool_end») (replicate (s .«pool_end» - l .«pool_end») 0)
+    → (o : Bytes) → record { answer = Refused q; session = b; output = o } ≡ result tree e o
+halted-result tree e {q = q} h k o = (λ i. refusedResult ((k ∙ h .restores) i) o q) ∙ sym (h .same o)
