@@ -1,24 +1,22 @@
 -- The end of a walk that went through: image and session are written, or the output is short.
 use Prim.Native.Nat.{ℕ, _+_, _-_, _≤_, _<_}
 use native.Mathlib.Omega.{arith}
-use mathlib.Core.Bool.{Bool, true, false}
 use mathlib.Core.List.{List, _++_}
-use mathlib.Core.Path.{_≡_, refl, sym, ap, subst, _∙_}
+use mathlib.Core.Path.{_≡_, refl, sym, ap, _∙_}
 use lib.ListN.{length, take, drop, getD, replicate, length-append}
 use lib.Seq.{sets, take-all}
-use lib.Dec.{leb}
 use borrow.Author.Tests.{le-leb, lt-leb}
-use Rattle.definition.specs.Basic.{Bytes, pick}
-use Rattle.definition.specs.Limit.{sessionSize, codeSize}
+use Rattle.definition.specs.Basic.{Bytes}
+use Rattle.definition.specs.Limit.{sessionSize}
 use Rattle.definition.specs.Number
 use Rattle.definition.specs.Number.{refusal}
 use Rattle.definition.specs.Tag.{tagNames, tagMain, tagPool}
 use Rattle.definition.specs.Field.{field}
-use Rattle.definition.specs.Bytecode.{poolBytes, poolSize, encode, sizeOf, imageBytes}
+use Rattle.definition.specs.Bytecode.{poolBytes, poolSize, encode, imageBytes}
 use Rattle.definition.specs.Session.{Session, namesBytes, sessionFields, sessionBytes}
 use Rattle.definition.specs.Valid.{ValidSession}
 use Rattle.definition.specs.Call.{over}
-use Rattle.definition.specs.Compile.{Outcome, imageOf, sessionOf, turnedDown}
+use Rattle.definition.specs.Compile.{imageOf, sessionOf}
 use Rattle.definition.specs.declared.Answer.the-variants.{Length, Refused}
 use Rattle.definition.proofs.Basic.{pick-true, pick-false}
 use Rattle.definition.proofs.Instructions.{code-length}
@@ -31,7 +29,7 @@ use Rattle.scope.specs.declared.State as Memory
 use Rattle.refinement.specs.Relation.{namesEnd, poolEnd}
 use Rattle.refinement.proofs.Buffer.{restored, pool-stands, appended-length, names-extended}
 use Rattle.bytecode.specs.declared.SessionLayout.{SessionLayout}
-use Rattle.compiler.specs.Result.{refusedResult, resultOf, stepResult}
+use Rattle.compiler.specs.Result.{stepResult}
 use Rattle.compiler.specs.Names.{Appends, laterFields}
 use Rattle.compiler.specs.Translated.{imageLength, Translated, finalResult}
 use Rattle.compiler.proofs.Opened.{pool-end}

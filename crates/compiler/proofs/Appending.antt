@@ -6,10 +6,8 @@ use mathlib.Core.List.{List, [], _∷_, _++_}
 use mathlib.Core.Path.{_≡_, refl, sym, ap, _∙_}
 use lib.ListN.{length, getD, set, take, drop, length-append, length-drop}
 use lib.Seq.{sets, length-sets, length-take-le, take-nil, take-suc, take-take, getD-take, getD-drop}
-use lib.Dec.{ltb}
 use borrow.Author.Tests.{lt-ltb, le-ltb}
-use Rattle.definition.specs.Basic.{Bytes, byteAt, pick}
-use Rattle.definition.specs.Field.{field}
+use Rattle.definition.specs.Basic.{Bytes}
 use Rattle.definition.specs.Tag.{tagName}
 use Rattle.definition.specs.Session.{nameBytes, namesBytes}
 use Rattle.definition.proofs.Basic.{pick-true, pick-false}
@@ -17,7 +15,7 @@ use Rattle.session.specs.Write.{heading}
 use Rattle.session.proofs.Stores.{sets-append, take-sets}
 use Rattle.session.proofs.Fields.{field-stored}
 use Rattle.session.proofs.Sessions.{written-append}
-use Rattle.symbol_table.specs.Name.{len, after, content, Stands}
+use Rattle.symbol_table.specs.Name.{len, content, Stands}
 use Rattle.symbol_table.specs.Layout.{back, globalName, GlobalStands}
 use Rattle.compiler.specs.Names.{Appends, HasName, laterNames, laterFields, LaterNames}
 

@@ -2,32 +2,29 @@
 use Prim.Native.Nat.{ℕ, _≤_}
 use native.Mathlib.Omega.{arith}
 use mathlib.Core.Bool.{Bool, true, false}
-use mathlib.Core.List.{List, [], _∷_, _++_}
-use mathlib.Core.Logic.{_↔_}
+use mathlib.Core.List.{List, _∷_}
 use mathlib.Core.Path.{_≡_, refl, sym, ap, subst, subst₂, _∙_}
 use lib.ListN.{length, take, drop}
-use lib.Dec.{leb}
-use lib.Seq.{take-append-seam, drop-append-seam, drop-at}
-use borrow.Author.Tests.{leb-true}
-use Rattle.definition.specs.Basic.{Bytes, byteAt, pick}
-use Rattle.definition.specs.Limit.{sessionSize, codeSize, tableSize}
+use lib.Seq.{drop-append-seam, drop-at}
+use Rattle.definition.specs.Basic.{Bytes}
+use Rattle.definition.specs.Limit.{sessionSize}
 use Rattle.definition.specs.Number
 use Rattle.definition.specs.Number.{refusal}
 use Rattle.definition.specs.Bytecode.{Image, imageBytes}
 use Rattle.definition.specs.Session.{Session, sessionBytes}
 use Rattle.definition.specs.Decode.{Decoded, decoded, malformed, readSession}
-use Rattle.definition.specs.Compile.{Outcome, Step, Request, enough, compile}
-use Rattle.definition.specs.Call.{Lent, Called, over, cleared, answered, refusedCall, inSession, request, call, made}
+use Rattle.definition.specs.Compile.{Outcome, Step, enough, compile}
+use Rattle.definition.specs.Call.{Lent, Called, answered, inSession, request, call}
 use Rattle.definition.specs.Series.{Call, lent, calls, AllAlike, shapes, Indistinguishable}
 use Rattle.definition.specs.declared.Refusal.{Refusal}
 use Rattle.definition.specs.declared.Answer.{Answer}
-use Rattle.definition.specs.declared.Answer.the-variants.{Length, Refused}
+use Rattle.definition.specs.declared.Answer.the-variants.{Refused}
 use Rattle.definition.specs.Valid.{AreBytes}
 use Rattle.definition.proofs.Sessions.{write-session, session-length}
 use Rattle.definition.proofs.Steps.{CallNumber, translate-valid, compile-valid, compile-fits}
 use Rattle.definition.proofs.Series.{condition-3}
 use Rattle.compiler.proofs.Whole.{compile-is, call-enough, call-short, long-front}
-use Rattle.compiler.specs.Promise.{Compiles, Makes, Cleared, Ended, Ran, Wrote, Exact}
+use Rattle.compiler.specs.Promise.{Compiles, Makes, Ended, Ran, Wrote, Exact}
 
 -- Condition 3
 

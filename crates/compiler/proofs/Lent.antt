@@ -1,10 +1,10 @@
 -- The first part of what is lent, and the rest of it.
 use Prim.Native.Nat.{ℕ, zero, suc, _≤_, _<_}
 use native.Mathlib.Omega.{arith}
-use mathlib.Core.Bool.{Bool, true, false}
+use mathlib.Core.Bool.{true, false}
 use mathlib.Core.List.{List, [], _∷_, _++_}
-use mathlib.Core.Path.{_≡_, refl, sym, ap, _∙_}
-use lib.ListN.{length, take, drop, replicate, getD}
+use mathlib.Core.Path.{_≡_, sym, ap, _∙_}
+use lib.ListN.{length, take, drop, replicate}
 use lib.Seq.{length-take-le, drop-at}
 use lib.Dec.{leb}
 use borrow.Author.Tests.{leb-true}
@@ -18,7 +18,7 @@ use Rattle.definition.specs.Valid.{AreBytes}
 use Rattle.definition.specs.declared.Answer.{Answer}
 use Rattle.definition.specs.declared.Answer.the-variants.{Refused}
 use Rattle.definition.proofs.Basic.{both-left, both-right}
-use Rattle.compiler.specs.Result.{Result, result, wholeOf}
+use Rattle.compiler.specs.Result.{result, wholeOf}
 use Rattle.compiler.specs.Promise.{Compiles}
 use Rattle.compiler.specs.Stage.{lentOf, Long}
 use Rattle.compiler.proofs.Whole.{call-whole, call-short}

@@ -1,9 +1,9 @@
 -- A session's bytes: their layout, and what its parts hold.
 use Prim.Native.Nat.{ℕ, _+_, _-_, _≤_}
 use native.Mathlib.Omega.{arith}
-use mathlib.Core.List.{List, _++_}
-use mathlib.Core.Path.{_≡_, refl, sym, ap, subst, _∙_}
-use lib.ListN.{length, drop, replicate, length-append, length-replicate}
+use mathlib.Core.List.{List}
+use mathlib.Core.Path.{_≡_, refl, sym, ap, _∙_}
+use lib.ListN.{length, drop, replicate, length-append}
 use Rattle.definition.specs.Basic.{Bytes, byteAt, pick}
 use Rattle.definition.specs.Limit.{sessionSize, poolLimit}
 use Rattle.definition.specs.Number
@@ -29,7 +29,7 @@ use Rattle.bytecode.specs.Checked.{layout, layoutOf}
 use Rattle.bytecode.specs.declared.SessionLayout.{SessionLayout}
 use Rattle.bytecode.specs.declared.Layout.the-variants.{Sound, Broken}
 use Rattle.compiler.specs.Result.{refusedResult, stepResult, sessionResult, result}
-use Rattle.compiler.specs.Stage.{layoutAt, Opened}
+use Rattle.compiler.specs.Stage.{Opened}
 
 -- the names in front of a valid session's bytes are read
 names-in : (z : Session) → ValidSession z → (b : Bytes) → Stands (byteAt b) 0 (field tagNames (namesBytes (z .globals))) → namesEnd z ≤ length b

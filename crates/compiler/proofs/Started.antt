@@ -1,26 +1,24 @@
 -- The lent memory as the walk starts.
-use Prim.Native.Nat.{ℕ, _+_, _≤_}
+use Prim.Native.Nat.{ℕ}
 use native.Mathlib.Omega.{arith}
 use mathlib.Core.List.{List, []}
-use mathlib.Core.Path.{_≡_, refl, sym, ap, subst, _∙_}
-use lib.ListN.{length, take}
+use mathlib.Core.Path.{_≡_, sym, ap, _∙_}
+use lib.ListN.{length}
 use Rattle.definition.specs.Basic.{Bytes, byteAt}
 use Rattle.definition.specs.Limit.{codeSize, tableSize}
-use Rattle.definition.specs.Session.{Session, sessionBytes}
 use Rattle.definition.specs.Decode.{readNames}
-use Rattle.definition.specs.Valid.{ValidSession}
-use Rattle.definition.specs.Walk.{Res, on}
+use Rattle.definition.specs.Walk.{on}
 use Rattle.definition.proofs.Pools.{pool-length}
 use Rattle.definition.proofs.Sessions.{session-length}
 use Rattle.field.specs.Layout.{after}
-use Rattle.scope.specs.View.{View, Symbols, view, Ready}
+use Rattle.scope.specs.View.{view, Ready}
 use Rattle.scope.specs.declared.Walked.the-variants.{On}
 use Rattle.refinement.specs.Relation.{namesEnd, poolEnd, startView}
 use Rattle.bytecode.specs.declared.SessionLayout.{SessionLayout}
-use Rattle.symbol_table.specs.Layout.{globalsIn, tablesOf}
+use Rattle.symbol_table.specs.Layout.{tablesOf}
 use Rattle.symbol_table.specs.Contract.{HasNames, Starts}
 use Rattle.step.specs.Memory.{rest, symbolsOf, memory, RoomyState, FineState}
-use Rattle.compiler.specs.Stage.{layoutAt, Opened}
+use Rattle.compiler.specs.Stage.{Opened}
 use Rattle.compiler.specs.Translated.{startState}
 use Rattle.compiler.proofs.Opened.{names-read, names-after, room-behind, pool-end}
 

@@ -1,16 +1,15 @@
 -- From the walk's promise on lent memory to the definition's walk.
-use Prim.Native.Nat.{ℕ, _+_, _-_, _≤_}
+use Prim.Native.Nat.{ℕ, _-_, _≤_}
 use native.Mathlib.Omega.{arith}
-use mathlib.Core.List.{List, []}
+use mathlib.Core.List.{List}
 use mathlib.Core.Path.{_≡_, refl, sym, ap, subst, subst₂, _∙_}
-use lib.ListN.{length, take, replicate}
+use lib.ListN.{length, replicate}
 use lib.Seq.{sets, take-all}
-use Rattle.definition.specs.Basic.{Bytes, byteAt}
-use Rattle.definition.specs.Limit.{sessionSize, codeSize, tableSize}
+use Rattle.definition.specs.Basic.{Bytes}
+use Rattle.definition.specs.Limit.{sessionSize, codeSize}
 use Rattle.definition.specs.Syntax.{Stmts}
 use Rattle.definition.specs.Tree.{Parsed, readTree}
-use Rattle.definition.specs.Session.{Session, sessionBytes}
-use Rattle.definition.specs.Decode.{decoded, readNames, readSession}
+use Rattle.definition.specs.Session.{Session}
 use Rattle.definition.specs.Valid.{AreBytes}
 use Rattle.definition.specs.Walk.{Res, on, stop, walkStmts}
 use Rattle.definition.specs.Compiler as Structured
@@ -30,7 +29,7 @@ use Rattle.scope.specs.Machine.{machine}
 use Rattle.scope.specs.declared.State as Memory
 use Rattle.scope.specs.declared.Walked.{Walked}
 use Rattle.scope.specs.declared.Walked.the-variants.{On, Stop}
-use Rattle.refinement.specs.Relation.{namesEnd, poolEnd, startView, Marks, marks, Appended, Stopped, Compiled, WalkEnds}
+use Rattle.refinement.specs.Relation.{poolEnd, startView, marks, Appended, Compiled, WalkEnds}
 use Rattle.refinement.proofs.Walk.{walk-ends}
 use Rattle.refinement.proofs.Outcome.{memory-through, memory-halts}
 use Rattle.refinement.proofs.Buffer.{restored}
@@ -39,9 +38,9 @@ use Rattle.symbol_table.specs.Layout.{globalsSize}
 use Rattle.symbol_table.specs.Contract.{HasNames, Starts}
 use Rattle.step.specs.Memory.{Rest, rest, symbolsOf, noSymbols, settled, memory, FineState, Origin, Walks}
 use Rattle.walk.specs.Parts.{ReadsTree}
-use Rattle.compiler.specs.Result.{Result, refusedResult, stepResult, sessionResult, result}
-use Rattle.compiler.specs.Stage.{Opened, Lengths, Checked}
-use Rattle.compiler.specs.Translated.{startState, Translated, Through, Halted, WalkEnded}
+use Rattle.compiler.specs.Result.{refusedResult, stepResult, sessionResult, result}
+use Rattle.compiler.specs.Stage.{Opened, Checked}
+use Rattle.compiler.specs.Translated.{startState, Through, Halted, WalkEnded}
 use Rattle.compiler.proofs.Opened.{opened}
 use Rattle.compiler.proofs.Started.{opened-names, opened-after, started-fine, started-view, started-ready}
 

@@ -1,14 +1,13 @@
 -- From what happens on the session's 65,536 bytes to the whole call on lent memory.
-use Prim.Native.Nat.{ℕ, _≤_}
-use native.Mathlib.Omega.{arith}
-use mathlib.Core.Bool.{Bool, true, false}
-use mathlib.Core.List.{List, _++_}
-use mathlib.Core.Path.{_≡_, refl, sym, ap, subst, _∙_}
-use lib.ListN.{length, take, drop, length-take, take-append-drop}
+use Prim.Native.Nat.{ℕ}
+use mathlib.Core.Bool.{true, false}
+use mathlib.Core.List.{_++_}
+use mathlib.Core.Path.{_≡_, refl, sym, ap, _∙_}
+use lib.ListN.{length, take, drop, take-append-drop}
 use lib.Dec.{leb}
 use lib.Seq.{length-take-le}
 use borrow.Author.Tests.{leb-true}
-use Rattle.definition.specs.Basic.{Bytes, byteAt, pick}
+use Rattle.definition.specs.Basic.{Bytes}
 use Rattle.definition.specs.Limit.{sessionSize, codeSize, tableSize}
 use Rattle.definition.specs.Number
 use Rattle.definition.specs.Number.{refusal}
@@ -16,14 +15,14 @@ use Rattle.definition.specs.Bytecode.{imageBytes}
 use Rattle.definition.specs.Tree.{readTree}
 use Rattle.definition.specs.Session.{Session, sessionBytes}
 use Rattle.definition.specs.Decode.{Decoded, decoded, malformed, readSession}
-use Rattle.definition.specs.Compile.{Outcome, Step, Request, turnedDown, translate, enough, compile}
-use Rattle.definition.specs.Call.{Lent, Called, over, cleared, ended, answered, inSession, request, call}
+use Rattle.definition.specs.Compile.{Outcome, Step, turnedDown, translate, enough, compile}
+use Rattle.definition.specs.Call.{Lent, over, ended, answered, inSession, request, call}
 use Rattle.definition.specs.Valid.{AreBytes, ValidSession}
 use Rattle.definition.specs.declared.Answer.the-variants.{Refused}
 use Rattle.definition.proofs.Basic.{both-right, pick-true, pick-false}
 use Rattle.definition.proofs.Sessions.{write-session, session-length}
 use Rattle.definition.proofs.Steps.{compile-valid}
-use Rattle.compiler.specs.Result.{Result, refusedResult, resultOf, stepResult, sessionResult, result, wholeOf}
+use Rattle.compiler.specs.Result.{resultOf, stepResult, sessionResult, result, wholeOf}
 
 -- the call by number 1's test
 pub call-enough : (tree : Bytes) (l : Lent) → enough (request l tree) ≡ true → call tree l ≡ inSession l tree (readSession (take sessionSize (l .session)))

@@ -1,5 +1,4 @@
 -- What a compile call gives once its buffers are large enough, on exactly the session's 65,536 bytes.
-use Prim.Native.Nat.{ℕ}
 use mathlib.Core.List.{_++_}
 use lib.ListN.{length, drop}
 use Rattle.definition.specs.Basic.{Bytes}

@@ -1,11 +1,9 @@
 -- `compile` keeps its promise, whatever it is lent. Assumes nothing.
 use native.Mathlib.Omega.{arith}
-use mathlib.Core.Bool.{true, false}
-use mathlib.Core.Path.{_≡_, sym, _∙_}
+use mathlib.Core.Path.{sym, _∙_}
 use borrow.Author.Needs.{needs}
 use Rattle.definition.specs.Limit.{sessionSize}
-use Rattle.definition.specs.Compile.{enough}
-use Rattle.definition.specs.Call.{Lent, request}
+use Rattle.definition.specs.Call.{Lent}
 use Rattle.compiler.specs.Stage.{lentOf}
 use Rattle.compiler.proofs.Lent.{long, front-bytes, promise-kept, promise-short}
 use Rattle.compiler.proofs.compile.Statement.{statement}

@@ -2,7 +2,6 @@
 use native.Mathlib.Omega.{arith}
 use mathlib.Core.Path.{sym, _∙_}
 use borrow.Author.Needs.{needs}
-use Rattle.definition.specs.Valid.{AreBytes}
 use Rattle.compiler.specs.Stage.{Opened}
 use Rattle.compiler.proofs.Opened.{opened, broken, refused-tree}
 use Rattle.compiler.proofs.compile_in.Statement.{statement}

@@ -1,10 +1,9 @@
 -- `compile_lent` is the whole call where the buffers are large enough: what was done on their first parts, and the work areas zeroed.
 -- Assumes nothing.
-use Prim.Native.Nat.{_≤_}
 use native.Mathlib.Omega.{arith}
 use mathlib.Core.Path.{_≡_, sym, _∙_}
 use mathlib.Core.List.{_++_}
-use lib.ListN.{length, take, drop}
+use lib.ListN.{length, drop}
 use lib.Seq.{length-front}
 use borrow.Author.Needs.{needs}
 use Rattle.definition.specs.Limit.{sessionSize, codeSize, tableSize}
