@@ -6,6 +6,7 @@ use bytecode::Layout;
 use bytecode::read_layout;
 use definition::Answer;
 use definition::Refusal;
+use scope::CODE_SIZE;
 use translate::translate;
 use tree::Checked;
 ghost use mathlib.Core.Path.{_≡_};
@@ -21,9 +22,6 @@ ghost use Rattle.compiler.specs.Stage.{lentOf, Long, Lengths};
 
 // The bytes of a session.
 const SESSION_SIZE: usize = 65536;
-
-// The bytes of the code area.
-const CODE_SIZE: usize = 32768;
 
 // The numbers of the table area.
 const TABLE_SIZE: usize = 16384;
