@@ -82,7 +82,7 @@ module _ {e : Bytes} {from to n : ℕ} where
 -- a part that lies in a front part
 part-of-front : (e : Bytes) (m i k : ℕ) → i + k ≤ m → take k (drop i (take m e)) ≡ take k (drop i e)
 part-of-front e m zero k h = take-take k m e (omega arith)
-part-of-front [] m (suc i) k h = rw take-nil
+part-of-front [] m (suc i) k h = ap (λ l. take k (drop (suc i) l)) (take-nil m)
 part-of-front (x ∷ e) zero (suc i) k h = absurd (omega arith)
 part-of-front (x ∷ e) (suc m) (suc i) k h = part-of-front e m i k (omega arith)
 
