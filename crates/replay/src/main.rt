@@ -217,4 +217,5 @@ fn main() {
     run_topic(b"random-damage");
     run_topic(b"damaged");
     run_topic(b"session-broken");
+    run_topic(b"boundary");
 }
