@@ -7,11 +7,11 @@ use mathlib.Core.Path.{_≡_, refl, sym, _∙_}
 use lib.Dec.{ltb, eqb}
 use lib.ListN.{length, set, length-set}
 use lib.Seq.{sets, length-sets}
-use borrow.Author.Tests.{le-leb, lt-leb, lt-ltb, le-ltb, ltb-true}
+use borrow.Author.Tests.{le-leb, lt-leb, lt-ltb, le-ltb, leb-true, leb-false, ltb-true, ltb-false}
 use Rattle.definition.specs.Basic.{Bytes, byteAt}
 use Rattle.definition.specs.Limit.{codeSize}
 use Rattle.definition.specs.Number
-use Rattle.definition.specs.Opcode.{Instr, instr, plain, size, bytesOf, width, opPop, opJump, opReturnValue, opReturn}
+use Rattle.definition.specs.Opcode.{Instr, instr, plain, size, bytesOf, opPop, opJump, opReturnValue, opReturn}
 use Rattle.definition.specs.Walk.{on, refuse, bind, Go}
 use Rattle.definition.specs.Compiler.{unpatched}
 use Rattle.definition.specs.declared.Refusal.{Refusal}
@@ -21,8 +21,10 @@ use Rattle.scope.specs.declared.State.{State}
 use Rattle.scope.specs.declared.Walked.{Walked}
 use Rattle.scope.specs.declared.Walked.the-variants.{On, Stop}
 use Rattle.scope.specs.declared.Jumped.{Jumped}
+use Rattle.scope.specs.declared.emission.Emitted.{Emitted}
 use Rattle.scope.specs.View.{Symbols, View, view, ended, endedAt, then, Fits, Ready, Done, Jumps, Refuses}
-use Rattle.scope.specs.Machine.{here, longer, put, emit, jump, patch, lastIs, withoutLast, dropped, returned}
+use Rattle.scope.specs.Emission.{Within, roomFor, Adds, holdsOperand, Changes}
+use Rattle.scope.specs.Machine.{withChunk, here, longer, put, emit, jump, patch, lastIs, withoutLast, dropped, returned}
 use Rattle.scope.specs.Code.{lengthOf, jumpAndPatch}
 
 -- a walk that goes on
@@ -32,6 +34,10 @@ ready-on e h = rw e at h
 -- its chunk is within the code area
 pub fits : {c : Bytes} {w : Walked} {s : State} → w ≡ On s → Ready c w → Fits s
 fits e h = ready-on e h .sound
+
+-- as emission and patching need it
+pub within : {c : Bytes} {w : Walked} {s : State} → w ≡ On s → Ready c w → Within c (s .chunk)
+within e h = record { area = h .area; room = fits e h .room }
 
 -- a last instruction is within its chunk
 pub last-within : (o : ℕ) (c : Bytes) (k : Chunk) {b : Bool} → b ≡ lastIs o c k → b ≡ true → k .last < k .len
@@ -61,20 +67,25 @@ module _ (p : ℕ) (i : Instr) (c : Bytes) (s : State) where
   unfolding emit
   full-step h e y = simp (lt-leb (here s + size i) codeSize h)
 
--- The two as the code takes them, with the operand length that it looked up
-module _ (p op a b : ℕ) {n : ℕ} {c : Bytes} {w : Walked} {s : State} (e : w ≡ On s) (h : Ready c w) (l : n ≡ width op) where
+-- The two as the code takes them, with what emission on the chunk answered
+module _ (p op a b : ℕ) {c c′ : Bytes} {w : Walked} {s : State} {e : Emitted} (q : w ≡ On s) (h : Ready c w) (d : Adds c (s .chunk) (record { op = op; a = a; b = b }) e c′) where
   -- the bytes are written, and the chunk is longer
-  pub emit-on : {c′ : Bytes} {s′ : State} → here s + (1 + n) ≤ codeSize → c′ ≡ sets c (here s) (bytesOf (instr op a b)) → s′ ≡ longer (1 + n) s → Done c c′ w (On s′) (emit p (instr op a b))
-  emit-on f q t = let g = fits e h in rw (e, q, t, l) (put-step p (instr op a b) c s (h .area) g (rw l at f))
+  pub emit-on : {s′ : State} → e .room ≡ true → s′ ≡ withChunk (e .chunk) s → Done c c′ w (On s′) (emit p (instr op a b))
+  emit-on t u =
+      let g = fits q h in
+      let r : roomFor (instr op a b) (s .chunk) ≡ true = sym (d .room) ∙ t in
+      rw (q, u, d .chunk, d .code, r) (put-step p (instr op a b) c s (h .area) g (leb-true (here s + size (instr op a b)) codeSize r))
 
   -- nothing is written
-  pub emit-full : {r : Walked} → codeSize < here s + (1 + n) → Refuses (On s) r Number.code p → Done c c w r (emit p (instr op a b))
-  emit-full f d = rw e (refused (ready-on e h) d (full-step p (instr op a b) c s (rw l at f)))
+  pub emit-full : {r : Walked} → e .room ≡ false → Refuses (On s) r Number.code p → Done c c′ w r (emit p (instr op a b))
+  emit-full t f =
+      let r : roomFor (instr op a b) (s .chunk) ≡ false = sym (d .room) ∙ t in
+      rw (q, d .code, r) (refused (ready-on q h) f (full-step p (instr op a b) c s (leb-false (here s + size (instr op a b)) codeSize r)))
 
 -- The jump at a position
 module _ (at : ℕ) {c : Bytes} {w : Walked} {s : State} (q : w ≡ On s) (h : Ready c w) where
   -- its operand is written
-  pub patch-on : {c′ : Bytes} → s .chunk .start + at + 2 < codeSize → c′ ≡ sets c (s .chunk .start + at + 1) (s .chunk .len / 256 % 256 ∷ s .chunk .len % 256 ∷ []) → Done c c′ w (On s) (λ v. on tt (patch at v))
+  patch-on : {c′ : Bytes} → s .chunk .start + at + 2 < codeSize → c′ ≡ sets c (s .chunk .start + at + 1) (s .chunk .len / 256 % 256 ∷ s .chunk .len % 256 ∷ []) → Done c c′ w (On s) (λ v. on tt (patch at v))
   unfolding patch
   patch-on f t =
       let g = fits q h in
@@ -86,11 +97,19 @@ module _ (at : ℕ) {c : Bytes} {w : Walked} {s : State} (q : w ≡ On s) (h : R
       })
 
   -- it is not within the code area
-  pub patch-past : codeSize ≤ s .chunk .start + at + 2 → Done c c w (On s) (λ v. on tt (patch at v))
+  patch-past : codeSize ≤ s .chunk .start + at + 2 → Done c c w (On s) (λ v. on tt (patch at v))
   unfolding patch
   patch-past f =
       let g = fits q h in
       rw q (record { step = λ e y. simp (le-ltb (s .chunk .start + at + 2) codeSize f); ready = record { area = h .area; sound = g }; same = refl })
+
+  -- the two, with what patching on the chunk answered
+  pub patched : {c′ : Bytes} {e : Emitted} {s′ : State} → Changes c (s .chunk) at e c′ → s′ ≡ withChunk (e .chunk) s → Done c c′ w (On s′) (λ v. on tt (patch at v))
+  patched {c′} d u = rw (u, d .chunk) (go (holdsOperand at (s .chunk)) refl)
+    where
+      go : (b : Bool) → holdsOperand at (s .chunk) ≡ b → Done c c′ w (On s) (λ v. on tt (patch at v))
+      go true t = patch-on (ltb-true (s .chunk .start + at + 2) codeSize t) (d .code ∙ rw t)
+      go false t = rw (d .code, t) (patch-past (ltb-false (s .chunk .start + at + 2) codeSize t))
 
 -- A last Pop that is dropped, or not there
 module _ {c : Bytes} {w : Walked} {s : State} {b : Bool} (q : w ≡ On s) (h : Ready c w) (l : b ≡ lastIs opPop c (s .chunk)) where

@@ -1,3 +1,4 @@
 pub mod View
 pub mod Machine
+pub mod Emission
 pub mod Code

@@ -6,6 +6,13 @@ ghost use lib.ListN.{length};
 ghost use lib.Seq.{sets};
 ghost use Rattle.definition.specs.Opcode.{instr, size, operands, bytesOf};
 
+// An instruction to emit: its byte, and what its operands are made of.
+pub struct Instruction {
+    pub op: u8,
+    pub a: usize,
+    pub b: usize,
+}
+
 // The low byte of a number.
 fn low(x: usize) -> u8
     ensures { λ r. ⌜ r ≡ x % 256 ⌝ }

@@ -1,15 +1,16 @@
-// The open chunks in the code area, as the Rust's CompilationScope has them: the chunk in work is a record by value.
+// The open chunks in the code area, as the Rust's CompilationScope has them: the chunk in work is a record, by value in the state, and
+// lent to emission and patching.
 ghost use mathlib.Core.Path.{_≡_};
 ghost use Prim.Native.Nat.{_+_, _≤_};
 ghost use lib.ListN.{length, getD};
 ghost use mathlib.Core.Option.{none};
-ghost use Rattle.definition.specs.Limit.{codeSize};
 ghost use Rattle.definition.specs.Opcode.{instr, plain, opClosure};
 ghost use Rattle.definition.specs.Walk.{on, operate, prefixes, infixes};
 ghost use Rattle.scope.specs.View.{Ready, Done, Jumps, Refuses};
 ghost use Rattle.scope.specs.Machine;
 ghost use Rattle.scope.specs.Code.{lengthOf, opcodeOf, jumpAndPatch};
 
+mod emission;
 mod instruction;
 pub mod numbers;
 pub mod opcodes;
@@ -61,21 +62,6 @@ fn with_chunk(s: State, c: Chunk) -> State
         names_end: s.names_end,
         pool_end: s.pool_end,
     }
-}
-
-// The chunk with an instruction of `n` bytes more.
-fn longer(s: State, n: usize) -> State
-    requires { ⌜ s .chunk .len + n ≤ codeSize ⌝ }
-    ensures { λ r. ⌜ r ≡ Machine.longer n s ⌝ }
-{
-    let c = s.chunk;
-    let next = Chunk {
-        start: c.start,
-        len: c.len + n,
-        last: c.len,
-        prev: c.last,
-    };
-    with_chunk(s, next)
 }
 
 // The chunk without its last instruction.
@@ -145,13 +131,14 @@ fn emit_instruction(code: &mut [u8], w: Walked, place: usize, op: u8, a: usize, 
     match w {
         Walked::On(s) => {
             let c = s.chunk;
-            let at = c.start + c.len;
-            let n = 1 + opcode::operand_length(op);
-            if CODE_SIZE < at + n {
-                return refuse(w, numbers::CODE, place);
+            let i = instruction::Instruction { op: op, a: a, b: b };
+            let e = emission::emit_lent(code, c, i);
+            let room = e.room;
+            if room {
+                let next = e.chunk;
+                return Walked::On(with_chunk(s, next));
             }
-            instruction::write_instruction(code, at, op, a, b);
-            Walked::On(longer(s, n))
+            refuse(w, numbers::CODE, place)
         }
         Walked::Stop(r, s) => w,
     }
@@ -204,15 +191,10 @@ pub fn patch(code: &mut [u8], w: Walked, at: usize) -> Walked
 {
     match w {
         Walked::On(s) => {
-            if CODE_SIZE <= at {
-                return w;
-            }
             let c = s.chunk;
-            let target = c.start + at;
-            if target + 2 < CODE_SIZE {
-                instruction::write_word(code, target + 1, c.len);
-            }
-            w
+            let e = emission::patch_lent(code, c, at);
+            let next = e.chunk;
+            Walked::On(with_chunk(s, next))
         }
         Walked::Stop(r, s) => w,
     }
