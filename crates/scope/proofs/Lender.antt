@@ -52,8 +52,9 @@ use Rattle.scope.proofs.Work.{Work, passedRow, chunkVal, emittedVal, ch
 answer-is : (r : Emitted) → Is Ch.the-row (r .chunk) (chunkVal (r .chunk) ∷ []) → Is Em.the-row r (emittedVal r ∷ [])
 answer-is r is = LL.owes Em.the-type Em′.the-laws r (is, (refl, tt))
 
--- a chunk in a local is a chunk that lies in memory, and back
+-- A chunk in a local, and a chunk that lies in memory as a borrow holds it
 module _ {M : Type 1} (𝓤 : URA M) (H : Heap 𝓤) (A : Atoms 𝓤) (W : Given 𝓤 H A) (d : Chunk) (b : ℕ) where
+  -- the one is the other
   lies : Is Ch.the-row d (chunkVal d ∷ []) → ent 𝓤 (sem 𝓤 H A (fat fullShare Ch′.mir b 0 (chunkVal d))) (sem 𝓤 H A (mem Ch.the-row .lies d b 0))
   unfolding partOf
   lies is =
@@ -61,6 +62,7 @@ module _ {M : Type 1} (𝓤 : URA M) (H : Heap 𝓤) (A : Atoms 𝓤) (W : Given
       owned ! Ch.the-row (Is Ch.the-row) (LL.makes Ch.the-type Ch′.the-plain 𝓤 H A) d _ is $ move ! (1 ∷ 0 ∷ []) $ fjoin ! $
       fpack ! (List Val) (λ us. fsep (cellAt fullShare (Ch.the-row .mir) us b 0) (Ch.the-row .own d us)) (chunkVal d ∷ []) $ done !
 
+  -- and back, with what is known of a chunk's machine value
   lay : ent 𝓤 (sem 𝓤 H A (mem Ch.the-row .lies d b 0)) (guard 𝓤 (Is Ch.the-row d (chunkVal d ∷ [])) (sem 𝓤 H A (fat fullShare Ch′.mir b 0 (chunkVal d))))
   unfolding partOf
   lay =
@@ -69,11 +71,12 @@ module _ {M : Type 1} (𝓤 : URA M) (H : Heap 𝓤) (A : Atoms 𝓤) (W : Given
       use1 W (‵ (fat fullShare Ch′.mir b 0 (chunkVal d))) (W .laws .raw-at fullShare Ch′.mir b 0 (chunkVal d)) $ check ! is $ done !))
 
 module _ (Z : Work) where
+  -- at exit the code area is given up to the callee; chunk and x are as they were passed
   abbrev lends-stays : Stays (core-ended Z .signature .params) (core-ended Z .kept)
   lends-stays = (gave-slice (0 ∷ []) tt (plain (λ _. u8)), (stay-none (λ _. Ch.the-row) yes, (stay-none (λ _. passedRow Z) yes, tt)))
 
   -- `fn h(code: &mut [u8], mut c: Chunk, x: T) -> Emitted { let room = f(code, &mut c, x); Emitted { chunk: c, room: room } }`
-  abbrev pub lends : Name → Fn
+  abbrev lends : Name → Fn
   lends f = record {
     lifetimes = 1;
     outlives = [];
@@ -90,6 +93,7 @@ module _ (Z : Work) where
   }
 
   module _ {M : Type 1} (𝓤 : URA M) (H : Heap 𝓤) (A : Atoms 𝓤) (W : Given 𝓤 H A) (κ : Lft) (q : Share) (b o : ℕ) (γ : GName) (ys : List ℕ) (c : Chunk) (is-c : Is Ch.the-row c (chunkVal c ∷ [])) (x : Z .passed .X) (is-x : Is (passedRow Z) x (Z .laws .val x ∷ [])) where
+    -- the code area, and its machine value
     abbrev code : RefT (List ℕ)
     code = record { ptr = (b, o); name = γ; now = ys }
 
@@ -100,6 +104,7 @@ module _ (Z : Work) where
     abbrev lent : ℕ → GName → RefT Chunk
     lent l δ = record { ptr = (l, 0); name = δ; now = c }
 
+    -- what is passed, and the machine values
     abbrev Arg : Type 0
     Arg = RefT (List ℕ) × (Chunk × (Z .passed .X × Unit {0}))
 
@@ -109,6 +114,7 @@ module _ (Z : Work) where
     abbrev vals : List Val × (List Val × (List Val × Unit {0}))
     vals = (s ∷ [], (chunkVal c ∷ [], (Z .laws .val x ∷ [], tt)))
 
+    -- what the walk ends in
     abbrev Post : Val → SProp 𝓤
     Post = walkOf 𝓤 H A (core-ended Z) lends-stays (core-clauses Z 𝓤) .post (((κ, tt), (q, tt), tt, a, vals), tt)
 
@@ -123,6 +129,7 @@ module _ (Z : Work) where
         nothing ! $ move ! (1 ∷ []) $ split ! $ move ! (1 ∷ 2 ∷ []) $ join ! $ move ! (1 ∷ 0 ∷ []) $ join ! $ frame ! $
         nothing ! $ owned ! (passedRow Z) (Is (passedRow Z)) (Z .laws .makes 𝓤 H A W) x _ is-x $ fjoin ! $ move ! (2 ∷ 0 ∷ []) $ fjoin ! $ move ! (1 ∷ 0 ∷ []) $ fjoin ! $ done !
 
+    -- at the end: the token, the last code, and an answer with the chunk that came back
     exits : (r : Emitted) → Is Ch.the-row (r .chunk) (chunkVal (r .chunk) ∷ []) → (zs : List ℕ) → Z .Says ys c x r zs → length zs ≡ length ys
         → ent 𝓤 (⋆ 𝓤 H A (‵ (flft κ q) ∷ ‵ ftrue ∷ ‵ (finally u8 γ zs) ∷ [])) (Post (emittedVal r))
     exits r is zs e l =

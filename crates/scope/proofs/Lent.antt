@@ -48,11 +48,12 @@ chunk-of : (r : Emitted) (w : Val) → Is Em.the-row r (w ∷ []) → Is Ch.the-
 chunk-of r w is = LL.owed Em.the-type Em′.the-laws r _ is .0
 
 module _ (Z : Work) where
-  abbrev pub thin-stays : Stays (thin-ended Z .signature .params) (thin-ended Z .kept)
+  -- at exit the code area is given up to the callee, and the chunk's borrow is still there
+  abbrev thin-stays : Stays (thin-ended Z .signature .params) (thin-ended Z .kept)
   thin-stays = (gave-slice (0 ∷ []) tt (plain (λ _. u8)), (stay-ref (1 ∷ []) tt (plain (λ _. Ch.the-row)), (stay-none (λ _. passedRow Z) yes, tt)))
 
   -- `fn f(code: &mut [u8], chunk: &mut Chunk, x: T) -> bool { let r = g(code, *chunk, x); *chunk = r.chunk; r.room }`
-  abbrev pub thin : Name → Fn
+  abbrev thin : Name → Fn
   thin g = record {
     lifetimes = 2;
     outlives = [];
@@ -68,12 +69,14 @@ module _ (Z : Work) where
   }
 
   module _ {M : Type 1} (𝓤 : URA M) (H : Heap 𝓤) (A : Atoms 𝓤) (W : Given 𝓤 H A) (κ κ′ : Lft) (q q′ : Share) (b o : ℕ) (γ : GName) (ys : List ℕ) (b′ o′ : ℕ) (γ′ : GName) (c : Chunk) (x : Z .passed .X) (is-x : Is (passedRow Z) x (Z .laws .val x ∷ [])) where
+    -- the code area, and its machine value
     abbrev code : RefT (List ℕ)
     code = record { ptr = (b, o); name = γ; now = ys }
 
     abbrev s : Val
     s = sliceVal (b, o) (length ys)
 
+    -- what is passed, and the machine values
     abbrev Arg : Type 0
     Arg = RefT (List ℕ) × (RefT Chunk × (Z .passed .X × Unit {0}))
 
@@ -83,6 +86,7 @@ module _ (Z : Work) where
     abbrev vals : List Val × (List Val × (List Val × Unit {0}))
     vals = (s ∷ [], (vptr b′ o′ ∷ [], (Z .laws .val x ∷ [], tt)))
 
+    -- what the walk ends in
     abbrev Post : Val → SProp 𝓤
     Post = walkOf 𝓤 H A (thin-ended Z) thin-stays (thin-clauses Z 𝓤) .post (((κ, (κ′, tt)), (q, (q′, tt)), tt, a, vals), tt)
 
@@ -95,6 +99,7 @@ module _ (Z : Work) where
         qed W (‵ (flft κ q) ∷ ‵ (MutSlice (named 0) κ u8 .own code (s ∷ [])) ∷ ‵ (Ch.the-row .own c (chunkVal c ∷ [])) ∷ []) ∵ says ! need $ nothing ! $ move ! (1 ∷ 0 ∷ []) $ join ! $ frame ! $
         nothing ! $ owned ! (passedRow Z) (Is (passedRow Z)) (Z .laws .makes 𝓤 H A W) x _ is-x $ fjoin ! $ move ! (2 ∷ 0 ∷ []) $ fjoin ! $ move ! (1 ∷ 0 ∷ []) $ fjoin ! $ done !
 
+    -- at the end: the tokens, the last code, the chunk's borrow at the chunk of the answer
     exits : (r : Emitted) (zs : List ℕ) → Z .Says ys c x r zs → length zs ≡ length ys
         → ent 𝓤 (⋆ 𝓤 H A (‵ (fobs γ′ (Ch.the-row .coded .code (r .chunk))) ∷ ‵ (fbor κ′ (Behind (mem Ch.the-row) b′ o′ γ′)) ∷ ‵ (flft κ′ q′) ∷ (‵ (flft κ q) ⊛ ‵ ftrue) ∷ ‵ (finally u8 γ zs) ∷ [])) (Post (vbool (r .room)))
     exits r zs e l =

@@ -46,6 +46,7 @@ of R τ = record { X = R .Denot; coded = R .coded; ty = τ; written = R .written
 abbrev pub position : Passed
 position = of usize (tyInt w64)
 
+-- its laws
 pub position-laws : PassedLaws position
 position-laws = record {
   val = λ n. vint w64 n;
@@ -58,6 +59,7 @@ position-laws = record {
 abbrev pub instruction : Passed
 instruction = of In.the-row In′.mir
 
+-- its laws
 pub instruction-laws : PassedLaws instruction
 instruction-laws = record {
   val = LL.val In.the-type In′.the-laws;

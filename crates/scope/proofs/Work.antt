@@ -34,9 +34,11 @@ pub record Work : Type 2 where
   pub Asks : List ℕ → Chunk → passed .X → Type 0
   pub Says : List ℕ → Chunk → passed .X → Emitted → List ℕ → Type 0
 
+-- an instruction is added
 abbrev pub emission : Work
 emission = record { passed = instruction; laws = instruction-laws; Asks = λ ys c i. Within ys c; Says = Adds }
 
+-- the operand of the jump at a position is changed
 abbrev pub patching : Work
 patching = record { passed = position; laws = position-laws; Asks = λ ys c at. Within ys c; Says = Changes }
 
@@ -52,6 +54,7 @@ pub chunk-typed : {M : Type 1} (𝓤 : URA M) (H : Heap 𝓤) (A : Atoms 𝓤) �
 chunk-typed 𝓤 H A W d is = LL.lawful Ch.the-type Ch′.the-laws 𝓤 H A W .typed d _ is .0
 
 module _ (Z : Work) where
+  -- the type of what is passed
   abbrev pub passedRow : RattleType
   passedRow = row (Z .passed)
 
@@ -96,6 +99,7 @@ module _ (Z : Work) where
       ensures = λ g r e. fact 𝓤 (Z .Says (now (a .0)) (now (a .1 .0)) (a .1 .1 .0) (emitted (now (e .1 .0)) r) (now (e .0)));
     }
 
+  -- The two contracts
   module _ {M : Type 1} (𝓤 : URA M) (H : Heap 𝓤) (A : Atoms 𝓤) where
     abbrev pub Core : Contract 𝓤
     Core = tripleOf 𝓤 H A core-signature (closing 𝓤 H A core-ended (core-clauses 𝓤))
