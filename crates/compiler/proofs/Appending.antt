@@ -15,7 +15,8 @@ use Rattle.session.specs.Write.{heading}
 use Rattle.session.proofs.Stores.{sets-append, take-sets}
 use Rattle.session.proofs.Fields.{field-stored}
 use Rattle.session.proofs.Sessions.{written-append}
-use Rattle.symbol_table.specs.Name.{len, content, Stands}
+use Rattle.field.specs.Layout.{len, content}
+use Rattle.symbol_table.specs.Name.{Stands}
 use Rattle.symbol_table.specs.Layout.{back, globalName, GlobalStands}
 use Rattle.compiler.specs.Names.{Appends, HasName, laterNames, laterFields, LaterNames}
 
