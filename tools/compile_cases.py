@@ -15,25 +15,52 @@ def word(n):
     return n.to_bytes(2, "big")
 
 
+def long(n):
+    return n.to_bytes(3, "big")
+
+
+FRESH = bytes.fromhex("400000510000")
+OTHER = b"\xa5" * 16
+
+
+def call(sizes, lend, tree, outcome):
+    """A call, in buffers of the full lengths or of these."""
+    kind = b"\x03" if sizes is None else b"\x06" + b"".join(long(n) for n in sizes)
+    return kind + long(lend) + word(len(tree)) + tree + outcome
+
+
+def make(size, values):
+    """A session made over other bytes, and what must stand there afterwards."""
+    ok = values[0] == "ok"
+    number, value = (0, size) if ok else (int(values[1]), int(values[2]))
+    after = FRESH if ok else OTHER
+    made = b"\x05" + long(size) + bytes([number]) + long(value)
+    return b"\x02" + word(len(OTHER)) + OTHER + made + b"\x04" + word(len(after)) + after
+
+
 def records(lines):
-    """The records of a topic: 1 fresh, 2 start, 3 call, 4 session."""
-    out, lend, tree = b"", 65536, b""
+    """The records of a topic: 1 fresh, 2 start, 3 call, 4 session, 5 make, 6 call in parts of the buffers."""
+    out, lend, tree, sizes = b"", 65536, b"", None
     for line in lines:
         key, *values = line.split()
         if key == "case":
-            out, lend = out + b"\x01", 65536
+            out, lend, sizes = out + b"\x01", 65536, None
         elif key == "start":
             start = expand(values[0])
             out += b"\x02" + word(len(start)) + start
+        elif key == "sizes":
+            sizes = [int(v) for v in values]
+        elif key == "make":
+            out += make(sizes[0], values)
         elif key == "lend":
             lend = int(values[0])
         elif key == "tree":
             tree = expand(values[0])
         elif key == "ok":
             image = expand(values[0])
-            out += b"\x03" + lend.to_bytes(3, "big") + word(len(tree)) + tree + b"\x00" + word(len(image)) + image
+            out += call(sizes, lend, tree, b"\x00" + word(len(image)) + image)
         elif key == "refused":
-            out += b"\x03" + lend.to_bytes(3, "big") + word(len(tree)) + tree + bytes([int(values[0])]) + word(int(values[1]))
+            out += call(sizes, lend, tree, bytes([int(values[0])]) + word(int(values[1])))
         elif key == "session":
             session = expand(values[0])
             out += b"\x04" + word(len(session)) + session

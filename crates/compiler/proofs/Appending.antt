@@ -15,7 +15,8 @@ use Rattle.session.specs.Write.{heading}
 use Rattle.session.proofs.Stores.{sets-append, take-sets}
 use Rattle.session.proofs.Fields.{field-stored}
 use Rattle.session.proofs.Sessions.{written-append}
-use Rattle.symbol_table.specs.Name.{len, content, Stands}
+use Rattle.field.specs.Layout.{len, content}
+use Rattle.symbol_table.specs.Name.{Stands}
 use Rattle.symbol_table.specs.Layout.{back, globalName, GlobalStands}
 use Rattle.compiler.specs.Names.{Appends, HasName, laterNames, laterFields, LaterNames}
 
@@ -210,16 +211,16 @@ module _ {tree : Bytes} {t : List ℕ} {from to at : ℕ} {e : Bytes} where
         let l = ap length (later-first tree (take at e) t k to h) ∙ length-append next (laterFields tree (take at e) t (k + 1) to) in
         rw (a .front) (omega (arith, a .upto, a .same))
 
-    abbrev pub appending-has : k < to → LaterNames tree (take at e) t from to → at + length (laterFields tree (take at e) t from to) ≤ length e → HasName tree b end (getD t (1 + k) 0)
-    appending-has h n r = record { names = at; behind = a .behind; stands = appending-stands h n; room = appending-room h r }
+    abbrev pub appending-has : {v : ℕ} → v ≡ getD t (1 + k) 0 → k < to → LaterNames tree (take at e) t from to → at + length (laterFields tree (take at e) t from to) ≤ length e → HasName tree b end v
+    appending-has p h n r = record { names = at; behind = a .behind; stands = rw p (appending-stands h n); room = rw p (appending-room h r) }
 
     -- one more
-    pub appending-more : {b′ : Bytes} {r : ℕ} → k < to → Appends (nameBytes (globalName tree (take at b) (getD t (1 + k) 0))) end b b′ r → Appending tree t from to at e (k + 1) r b′
-    appending-more {b′} {r} h q =
+    pub appending-more : {b′ : Bytes} {r v : ℕ} → v ≡ getD t (1 + k) 0 → k < to → Appends (nameBytes (globalName tree (take at b) v)) end b b′ r → Appending tree t from to at e (k + 1) r b′
+    appending-more {b′} {r} {v} p h q =
         let others = laterFields tree (take at e) t (k + 1) to in
         let first = later-first tree (take at e) t k to h in
         let l = ap length first ∙ length-append next others in
-        let same : nameBytes (globalName tree (take at b) (getD t (1 + k) 0)) ≡ next = ap (λ names. nameBytes (globalName tree names (getD t (1 + k) 0))) (a .front) in
+        let same : nameBytes (globalName tree (take at b) v) ≡ next = (λ i. nameBytes (globalName tree (a .front i) (p i))) in
         let stored : b′ ≡ sets b end next = q .session ∙ ap (sets b end) same in
         let ends : r ≡ end + length next = q .end ∙ ap (λ xs. end + length xs) same in
         record {

@@ -2,6 +2,8 @@
 use field::content_at;
 use field::length_at;
 use session::write;
+use symbol_table::count_globals;
+use symbol_table::global_name;
 ghost use mathlib.Core.Path.{_≡_};
 ghost use Prim.Native.Nat.{_+_, _≤_};
 ghost use lib.ListN.{length, getD, take, drop};
@@ -51,11 +53,11 @@ pub fn append_names(session: &mut [u8], tree: &[u8], table: &[u32], from: usize,
     requires { ⌜ at + length (laterFields (now tree) (take at (now session)) (now table) from (getD (now table) 0 0)) ≤ length (now session) ⌝ }
     ensures { λ r. ⌜ Appends (laterFields (now (tree .entry)) (take at (now (session .entry))) (now (table .entry)) from (getD (now (table .entry)) 0 0)) at (now (session .entry)) (now (session .exit)) r ⌝ }
 {
-    let count = table[0] as usize;
+    let count = count_globals(table);
     let mut end = at;
     let mut k = from;
     while k < count {
-        end = append_name(session, tree, table[1 + k], end);
+        end = append_name(session, tree, global_name(table, k), end);
         k += 1;
     }
     end

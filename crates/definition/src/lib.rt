@@ -11,11 +11,3 @@ pub enum Answer {
     Length(usize),
     Refused(Refusal),
 }
-
-// A refusal as an answer.
-pub fn refused(number: usize, place: usize) -> Answer {
-    Answer::Refused(Refusal {
-        number: number,
-        place: place,
-    })
-}

@@ -14,6 +14,13 @@ enum Record {
     End,
 }
 
+// The lengths of the session's buffer and of the work areas that are lent.
+struct Sizes {
+    session: usize,
+    code: usize,
+    table: usize,
+}
+
 // One byte of the records, 0 at their end.
 fn read_byte(fd: i32) -> usize
     ensures { λ r. ⌜ r < 256 ⌝ }
@@ -32,6 +39,11 @@ fn read_word(fd: i32) -> usize
     word(b[0], b[1])
 }
 
+// Three bytes as a number.
+fn read_long(fd: i32) -> usize {
+    read_word(fd) * 256 + read_byte(fd)
+}
+
 // So many bytes of the records.
 fn read_part(fd: i32, buffer: &mut [u8], length: usize) {
     if length <= buffer.len() {
@@ -44,11 +56,11 @@ fn same_buffers(a: &[u8; 65536], b: &[u8; 65536]) -> bool {
     same(a, b)
 }
 
-// Whether all numbers are zero.
-fn no_numbers(numbers: &[u32; 16384]) -> bool {
+// Whether all numbers are a value.
+fn all_numbers(numbers: &[u32; 16384], value: u32) -> bool {
     let mut i = 0;
     while i < 16384 {
-        if numbers[i] != 0 {
+        if numbers[i] != value {
             return false;
         }
         i += 1;
@@ -64,9 +76,37 @@ fn as_recorded(answer: Answer, number: usize, value: usize) -> bool {
     }
 }
 
-// Whether the code area is zero.
-fn no_code(code: &[u8; 32768]) -> bool {
-    same(code, &[0u8; 32768])
+// Whether all bytes of the code area are a value.
+fn all_code(code: &[u8; 32768], value: u8) -> bool {
+    same(code, &[value; 32768])
+}
+
+// Compiles a tree in parts of these lengths.
+fn compile_in(
+    session: &mut [u8],
+    tree: &[u8],
+    output: &mut [u8],
+    code: &mut [u8],
+    table: &mut [u32],
+    sizes: Sizes,
+) -> Answer {
+    let s = sizes.session;
+    let c = sizes.code;
+    let t = sizes.table;
+    if s <= session.len() {
+        if c <= code.len() {
+            if t <= table.len() {
+                return compiler::compile(
+                    &mut session[..s],
+                    tree,
+                    output,
+                    &mut code[..c],
+                    &mut table[..t],
+                );
+            }
+        }
+    }
+    Answer::Length(0)
 }
 
 // Compiles the first bytes of a buffer into an output of so many bytes.
@@ -78,18 +118,27 @@ fn compile(
     lend: usize,
     code: &mut [u8],
     table: &mut [u32],
+    sizes: Sizes,
 ) -> Answer {
     if length <= tree.len() {
         if lend <= output.len() {
-            return compiler::compile(session, &tree[..length], &mut output[..lend], code, table);
+            return compile_in(
+                session,
+                &tree[..length],
+                &mut output[..lend],
+                code,
+                table,
+                sizes,
+            );
         }
     }
     Answer::Length(0)
 }
 
-// A call: the output's length in three bytes, the tree, the outcome, the image of an accepted tree.
-fn run_call(fd: i32, session: &mut [u8; 65536]) -> bool {
-    let lend = read_word(fd) * 256 + read_byte(fd);
+// A call: the output's length in three bytes, the tree, the outcome, the image of an accepted tree. Number 1 leaves the work areas as
+// they were; any other outcome has them zeroed.
+fn run_call(fd: i32, session: &mut [u8; 65536], sizes: Sizes) -> bool {
+    let lend = read_long(fd);
     let length = read_word(fd);
     let mut tree = io::large_buffer();
     read_part(fd, &mut tree, length);
@@ -114,10 +163,52 @@ fn run_call(fd: i32, session: &mut [u8; 65536]) -> bool {
         lend,
         &mut code,
         &mut table,
+        sizes,
     );
     let kept = (number == 0) | same_buffers(&before, session);
-    let zeroed = no_code(&code) & no_numbers(&table);
-    as_recorded(answer, number, value) & same_buffers(&output, &expected) & kept & zeroed
+    let areas = if number == 1 {
+        all_code(&code, 0x5A) & all_numbers(&table, 7)
+    } else {
+        all_code(&code, 0) & all_numbers(&table, 0)
+    };
+    as_recorded(answer, number, value) & same_buffers(&output, &expected) & kept & areas
+}
+
+// Buffers of the full lengths.
+fn full_sizes() -> Sizes {
+    Sizes {
+        session: 65536,
+        code: 32768,
+        table: 16384,
+    }
+}
+
+// The lengths of the buffers, in three bytes each.
+fn read_sizes(fd: i32) -> Sizes {
+    let session = read_long(fd);
+    let code = read_long(fd);
+    let table = read_long(fd);
+    Sizes {
+        session: session,
+        code: code,
+        table: table,
+    }
+}
+
+// Makes a session in a part of so many bytes.
+fn make_in(session: &mut [u8], size: usize) -> Answer {
+    if size <= session.len() {
+        return compiler::make_session(&mut session[..size]);
+    }
+    Answer::Length(0)
+}
+
+// Making a session: the length of its buffer, the outcome.
+fn run_make(fd: i32, session: &mut [u8; 65536]) -> bool {
+    let size = read_long(fd);
+    let number = read_byte(fd);
+    let value = read_long(fd);
+    as_recorded(make_in(session, size), number, value)
 }
 
 // The session's first bytes, and zeros after them.
@@ -136,7 +227,8 @@ fn start_session(fd: i32, session: &mut [u8; 65536]) {
     *session = start;
 }
 
-// The next record: 1 a fresh session, 2 a session of its own, 3 a call, 4 the session as it must be.
+// The next record: 1 a fresh session, 2 a session of its own, 3 a call, 4 the session as it must be, 5 a session made in a part of the
+// buffer, 6 a call in parts of the buffers.
 fn run_record(fd: i32, session: &mut [u8; 65536]) -> Record {
     match read_byte(fd) {
         1 => {
@@ -147,8 +239,13 @@ fn run_record(fd: i32, session: &mut [u8; 65536]) -> Record {
             start_session(fd, session);
             Record::Between
         }
-        3 => recorded(run_call(fd, session)),
+        3 => recorded(run_call(fd, session, full_sizes())),
         4 => recorded(check_session(fd, session)),
+        5 => recorded(run_make(fd, session)),
+        6 => {
+            let sizes = read_sizes(fd);
+            recorded(run_call(fd, session, sizes))
+        }
         _ => Record::End,
     }
 }
@@ -218,4 +315,5 @@ fn main() {
     run_topic(b"damaged");
     run_topic(b"session-broken");
     run_topic(b"boundary");
+    run_topic(b"short-buffers");
 }

@@ -10,7 +10,8 @@ use native.Mathlib.Omega.{arith}
 use lib.ListN.{length, getD}
 use Rattle.definition.specs.Basic.{Bytes}
 use Rattle.definition.specs.SymbolTable.{same, find, findGlobal}
-use Rattle.symbol_table.specs.Name.{content, hashOf}
+use Rattle.field.specs.Layout.{content}
+use Rattle.symbol_table.specs.Name.{hashOf}
 use Rattle.symbol_table.specs.Layout.{entriesAt, nameIn, codeIn, tagIn, entryOf, symbolOf, back, GoodEntry, globalName, Latest}
 use Rattle.symbol_table.proofs.Names.{hash-differs}
 

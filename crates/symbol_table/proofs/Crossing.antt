@@ -11,7 +11,7 @@ use Rattle.definition.specs.Basic.{Bytes}
 use Rattle.definition.specs.Basic.{pick}
 use Rattle.definition.specs.Limit.{freeLimit}
 use Rattle.definition.specs.SymbolTable.{Symbol, Table, Resolved, capture, cross}
-use Rattle.symbol_table.specs.Name.{content}
+use Rattle.field.specs.Layout.{content}
 use Rattle.symbol_table.specs.Layout.{originalsAt, symbolOf, Sized, tableOf}
 use Rattle.symbol_table.specs.Store.{freeIn}
 use Rattle.symbol_table.specs.Contract.{Crosses}

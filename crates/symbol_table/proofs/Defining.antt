@@ -8,7 +8,8 @@ use lib.Seq.{take-at, drop-at}
 use borrow.Author.Tests.{le-ltb, le-leb, lt-leb}
 use Rattle.definition.specs.Basic.{Bytes}
 use Rattle.definition.specs.Limit.{globalsLimit, localsLimit}
-use Rattle.symbol_table.specs.Name.{len, content, Stands, buckets, hashOf}
+use Rattle.field.specs.Layout.{len, content}
+use Rattle.symbol_table.specs.Name.{Stands, buckets, hashOf}
 use Rattle.symbol_table.specs.Layout.{globalsSize, partSize, base, tableOf, tablesOf, globalsIn, globalName, Sized, GlobalStands, Good}
 use Rattle.symbol_table.specs.Store.{enteredIn, localIn, globalIn}
 use Rattle.symbol_table.specs.Contract.{IsName, Inside, DefinesGlobal, DefinesLocal, Defines, Params, Opens, Enters}

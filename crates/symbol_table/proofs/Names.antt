@@ -12,7 +12,8 @@ use borrow.Author.Tests.{eq-eqb, ne-eqb, eqb-true}
 use Rattle.definition.specs.Basic.{Bytes, pick, byteAt}
 use Rattle.definition.specs.Field.{bytes}
 use Rattle.definition.specs.SymbolTable.{same}
-use Rattle.symbol_table.specs.Name.{len, after, content, Stands, buckets, hashFrom}
+use Rattle.field.specs.Layout.{len, after, content}
+use Rattle.symbol_table.specs.Name.{Stands, buckets, hashFrom}
 use Rattle.symbol_table.proofs.Slices.{slice-take}
 
 pick-both : (b : Bool) → pick b false false ≡ false

@@ -12,7 +12,7 @@ use Rattle.definition.specs.Limit.{globalsLimit}
 use Rattle.definition.specs.Tag.{tagNames}
 use Rattle.definition.specs.Field.{Head, tagged, nameHead, fits, bytes, head}
 use Rattle.definition.specs.Decode.{Decoded, decoded, malformed, then, items, readHead, readNameField, readNames}
-use Rattle.symbol_table.specs.Name.{len, after, content}
+use Rattle.field.specs.Layout.{len, after, content}
 use Rattle.symbol_table.proofs.Names.{content-bytes}
 
 -- Items up to the end

@@ -1,6 +1,6 @@
 -- How a lookup ends: outside all functions, in the innermost table, or coming back through it.
 use Prim.Native.Nat.{ℕ, suc, _+_}
-use mathlib.Core.Path.{_≡_, refl, sym, _∙_}
+use mathlib.Core.Path.{_≡_, refl, sym, ap, _∙_}
 use mathlib.Core.List.{List, [], _∷_, _++_}
 use mathlib.Core.Option.{Option, none, some}
 use native.Mathlib.Omega.{arith}
@@ -8,9 +8,9 @@ use lib.ListN.{length, take, drop}
 use lib.Seq.{take-all, take-at, drop-at, take-take, drop-drop}
 use Rattle.definition.specs.Basic.{Bytes}
 use Rattle.definition.specs.SymbolTable.{Symbol, find, findGlobal, findBuiltin, Resolved, outermost, resolve}
-use Rattle.symbol_table.specs.Name.{content}
+use Rattle.field.specs.Layout.{content}
 use Rattle.symbol_table.specs.Layout.{globalsSize, partSize, base, part, symbolOf, tableOf, tablesOf, globalsIn, GoodTable, GoodGlobals, Good}
-use Rattle.symbol_table.specs.Contract.{asSymbol, resolvedOf, IsName, Inside, Crosses, Resolves}
+use Rattle.symbol_table.specs.Contract.{asSymbol, resolvedOf, firstOf, outermostOf, IsName, Inside, Crosses, Resolves}
 use Rattle.symbol_table.specs.declared.Lookup.{Lookup}
 use Rattle.symbol_table.specs.declared.Lookup.the-variants.{Found}
 use Rattle.symbol_table.proofs.Levels.{tables-agree, good-agree, base-more}
@@ -36,36 +36,28 @@ part-after a l p size = rw (drop-at p (drop (base l) a) (base l) size)
 
 -- outside all functions
 module _ (bs gs : List Bytes) (n : Bytes) where
-  found-global : (x y : Option ℕ) (c : ℕ) → some (symbolOf c) ≡ asSymbol Symbol.global x → Resolved.found (symbolOf c) [] ≡ outermost x y
-  found-global (some k) y c e = cc
-  found-global none y c e = cc
+  first-is : (x y : Option ℕ) → firstOf (asSymbol Symbol.global x) (asSymbol Symbol.builtin y) ≡ outermost x y
+  first-is (some k) y = refl
+  first-is none (some k) = refl
+  first-is none none = refl
 
-  found-builtin : (x y : Option ℕ) (c : ℕ) → none ≡ asSymbol Symbol.global x → some (symbolOf c) ≡ asSymbol Symbol.builtin y → Resolved.found (symbolOf c) [] ≡ outermost x y
-  found-builtin (some k) y c e f = cc
-  found-builtin none (some k) c e f = cc
-  found-builtin none none c e f = cc
-
-  found-none : (x y : Option ℕ) → none ≡ asSymbol Symbol.global x → none ≡ asSymbol Symbol.builtin y → Resolved.undefined ≡ outermost x y
-  found-none (some k) y e f = cc
-  found-none none (some k) e f = cc
-  found-none none none e f = refl
-
-  pub global-resolved : (c : ℕ) → some (symbolOf c) ≡ asSymbol Symbol.global (findGlobal n gs) → Resolved.found (symbolOf c) [] ≡ resolve bs gs n []
+  outermost-resolved : outermostOf bs gs n ≡ resolve bs gs n []
   unfolding resolve
-  global-resolved c e = found-global (findGlobal n gs) (findBuiltin n bs 0) c e
+  outermost-resolved = first-is (findGlobal n gs) (findBuiltin n bs 0)
 
-  pub builtin-resolved : (c : ℕ) → none ≡ asSymbol Symbol.global (findGlobal n gs) → some (symbolOf c) ≡ asSymbol Symbol.builtin (findBuiltin n bs 0) → Resolved.found (symbolOf c) [] ≡ resolve bs gs n []
-  unfolding resolve
-  builtin-resolved c e f = found-builtin (findGlobal n gs) (findBuiltin n bs 0) c e f
+  pub global-first : (c : ℕ) → some (symbolOf c) ≡ asSymbol Symbol.global (findGlobal n gs) → Resolved.found (symbolOf c) [] ≡ outermostOf bs gs n
+  global-first c e = ap (λ x. firstOf x (asSymbol Symbol.builtin (findBuiltin n bs 0))) e
 
-  pub none-resolved : none ≡ asSymbol Symbol.global (findGlobal n gs) → none ≡ asSymbol Symbol.builtin (findBuiltin n bs 0) → Resolved.undefined ≡ resolve bs gs n []
-  unfolding resolve
-  none-resolved e f = found-none (findGlobal n gs) (findBuiltin n bs 0) e f
+  pub builtin-second : (c : ℕ) → none ≡ asSymbol Symbol.global (findGlobal n gs) → some (symbolOf c) ≡ asSymbol Symbol.builtin (findBuiltin n bs 0) → Resolved.found (symbolOf c) [] ≡ outermostOf bs gs n
+  builtin-second c e f = λ i. firstOf (e i) (f i)
+
+  pub none-there : none ≡ asSymbol Symbol.global (findGlobal n gs) → none ≡ asSymbol Symbol.builtin (findBuiltin n bs 0) → Resolved.undefined ≡ outermostOf bs gs n
+  none-there e f = λ i. firstOf (e i) (f i)
 
 module _ (bs : List Bytes) (tree names : Bytes) (a : List ℕ) (level name : ℕ) (g : Good tree names level a) where
-  pub resolved-outermost : (answer : Lookup) → level ≡ 0 → resolvedOf answer [] ≡ resolve bs (globalsIn tree names a) (content tree name) [] → Resolves bs tree names level name answer a a
+  pub resolved-outermost : (answer : Lookup) → level ≡ 0 → resolvedOf answer [] ≡ outermostOf bs (globalsIn tree names a) (content tree name) → Resolves bs tree names level name answer a a
   unfolding tablesOf
-  resolved-outermost answer e h = record { resolved = rw e h; globals = refl; good = g; above = refl }
+  resolved-outermost answer e h = record { resolved = rw e (h ∙ outermost-resolved bs (globalsIn tree names a) (content tree name)); globals = refl; good = g; above = refl }
 
   module _ (l : ℕ) (e : level ≡ suc l) where
     pub resolved-here : (code : ℕ) → some (symbolOf code) ≡ find (content tree name) (tableOf tree (part l a) .entries) → Resolves bs tree names level name (Found code) a a

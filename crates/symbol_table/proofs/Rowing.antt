@@ -10,7 +10,8 @@ use lib.Dec.{lit≤}
 use Rattle.definition.specs.Basic.{Bytes}
 use Rattle.definition.specs.Limit.{treeLimit, localsLimit}
 use Rattle.definition.specs.SymbolTable.{same, builtins, findBuiltin, withParams}
-use Rattle.symbol_table.specs.Name.{after, content, Stands, fields, Row, rowOf, hashOf}
+use Rattle.field.specs.Layout.{after, content}
+use Rattle.symbol_table.specs.Name.{Stands, fields, Row, rowOf, hashOf}
 use Rattle.symbol_table.specs.Layout.{tableOf, GoodTable}
 use Rattle.symbol_table.specs.Store.{localIn}
 use Rattle.symbol_table.specs.Contract.{Params}

@@ -11,7 +11,8 @@ use borrow.Author.Tests.{lt-ltb}
 use Rattle.definition.specs.Basic.{Bytes, byteAt}
 use Rattle.definition.specs.Limit.{sessionSize, globalsLimit}
 use Rattle.definition.specs.Decode.{decoded, items, readNameField}
-use Rattle.symbol_table.specs.Name.{len, after, content, Stands, buckets, hashOf}
+use Rattle.field.specs.Layout.{len, after, content}
+use Rattle.symbol_table.specs.Name.{Stands, buckets, hashOf}
 use Rattle.symbol_table.specs.Layout.{globalsSize, headsAt, back, GlobalStands, GoodGlobals, globalName, globalsOf, Good}
 use Rattle.symbol_table.specs.Store.{globalIn}
 use Rattle.symbol_table.specs.Contract.{HasNames, StartsGlobals, Starts}

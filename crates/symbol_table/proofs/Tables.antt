@@ -10,7 +10,8 @@ use lib.Seq.{getD-set-same, getD-set-other, lt-length-set, drop-cons}
 use Rattle.definition.specs.Basic.{Bytes}
 use Rattle.definition.specs.Limit.{localsLimit, freeLimit}
 use Rattle.definition.specs.SymbolTable.{Symbol, Entry, Table, withLocal, withFree, named}
-use Rattle.symbol_table.specs.Name.{len, content, Stands, hashOf}
+use Rattle.field.specs.Layout.{len, content}
+use Rattle.symbol_table.specs.Name.{Stands, hashOf}
 use Rattle.symbol_table.specs.Layout.{partSize, entriesAt, originalsAt, symbolOf, packed, nameIn, codeIn, tagIn, entryOf, back, entries, originalsOf, tableOf, Sized, GoodEntry, GoodTable}
 use Rattle.symbol_table.specs.Store.{enteredIn, localIn, freeIn}
 use Rattle.symbol_table.specs.Contract.{IsName}

@@ -7,9 +7,10 @@ use lib.ListN.{length, take, drop}
 use Rattle.definition.specs.Basic.{Bytes, byteAt}
 use Rattle.definition.specs.Number
 use Rattle.definition.specs.Opcode.{instr, opSetGlobal, opSetLocal}
-use Rattle.definition.specs.SymbolTable.{Symbol, Table, Resolved, cross, resolve, Defined, place, named, withParams}
+use Rattle.definition.specs.SymbolTable.{Symbol, Table, findGlobal, findBuiltin, Resolved, cross, resolve, Defined, place, named, withParams}
 use Rattle.definition.specs.Decode.{decoded, readNames}
-use Rattle.symbol_table.specs.Name.{after, content, Stands, fields, hashOf}
+use Rattle.field.specs.Layout.{after, content}
+use Rattle.symbol_table.specs.Name.{Stands, fields, hashOf}
 use Rattle.symbol_table.specs.Layout.{globalsSize, partSize, base, part, symbolOf, tableOf, tablesOf, globalsOf, globalsIn, GoodTable, GoodGlobals, Good}
 use Rattle.symbol_table.specs.declared.Hit.{Hit}
 use Rattle.symbol_table.specs.declared.Hit.the-variants.{At, Nothing}
@@ -33,6 +34,16 @@ abbrev pub resolvedOf : Lookup → List Table → Resolved
 resolvedOf (Found c) ts = Resolved.found (symbolOf c) ts
 resolvedOf Undefined ts = Resolved.undefined
 resolvedOf Full ts = Resolved.full
+
+-- the first of two symbols that is there
+abbrev pub firstOf : Option Symbol → Option Symbol → Resolved
+firstOf (some x) y = Resolved.found x []
+firstOf none (some y) = Resolved.found y []
+firstOf none none = Resolved.undefined
+
+-- outside all functions: the global of a name, or else the builtin
+abbrev pub outermostOf : List Bytes → List Bytes → Bytes → Resolved
+outermostOf bs gs n = firstOf (asSymbol Symbol.global (findGlobal n gs)) (asSymbol Symbol.builtin (findBuiltin n bs 0))
 
 -- a definition's answer, with the names and the tables after it
 abbrev pub definedOf : Definition → List Bytes → List Table → Defined

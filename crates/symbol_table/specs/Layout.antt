@@ -9,7 +9,8 @@ use lib.Dec.{ltb}
 use Rattle.definition.specs.Basic.{Bytes, pick}
 use Rattle.definition.specs.Limit.{globalsLimit, localsLimit, freeLimit}
 use Rattle.definition.specs.SymbolTable.{Symbol, Entry, Table}
-use Rattle.symbol_table.specs.Name.{content, Stands, buckets, hashOf}
+use Rattle.field.specs.Layout.{content}
+use Rattle.symbol_table.specs.Name.{Stands, buckets, hashOf}
 
 -- the numbers of the globals; where the links begin; where the latest of each hash begin
 abbrev pub globalsSize : ℕ

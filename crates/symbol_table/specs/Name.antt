@@ -1,37 +1,26 @@
 -- Names as fields: a name is known by the offset of its field in some bytes.
 use Prim.Native.Nat.{ℕ, zero, suc, _+_, _*_, _%_, _≤_}
 use mathlib.Core.List.{List, [], _∷_, _++_}
-use lib.ListN.{length, take, drop}
-use Rattle.definition.specs.Basic.{Bytes, byteAt}
+use lib.ListN.{length}
+use Rattle.definition.specs.Basic.{Bytes}
 use Rattle.definition.specs.Tag.{tagName}
-use Rattle.definition.specs.Field.{field, head}
+use Rattle.definition.specs.Field.{field}
+use Rattle.field.specs.Layout.{after, content}
+
+-- a whole field stands at an offset
+abbrev pub Stands : Bytes → ℕ → Type 0
+Stands b at = after b at ≤ length b
 
 module _ (b : Bytes) where
-  -- the content length of the field at an offset
-  abbrev pub len : ℕ → ℕ
-  len at = head (byteAt b) at .len
-
-  -- the offset after it
-  abbrev pub after : ℕ → ℕ
-  after at = at + 3 + len at
-
-  -- its content
-  abbrev pub content : ℕ → Bytes
-  content at = take (len at) (drop (at + 3) b)
-
-  -- a whole field stands there
-  abbrev pub Stands : ℕ → Type 0
-  Stands at = after at ≤ length b
-
   -- the contents of so many fields in a row
   unfoldable pub fields : ℕ → ℕ → List Bytes
   fields zero at = []
-  fields (suc n) at = content at ∷ fields n (after at)
+  fields (suc n) at = content b at ∷ fields n (after b at)
 
   -- so many whole fields stand in a row
   unfoldable pub Row : ℕ → ℕ → Type 0
   Row zero at = Unit {0}
-  Row (suc n) at = Stands at × Row n (after at)
+  Row (suc n) at = Stands b at × Row n (after b at)
 
 -- names as fields in a row
 abbrev pub rowOf : List Bytes → Bytes

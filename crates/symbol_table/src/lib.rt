@@ -18,6 +18,7 @@ use layout::ORIGINALS_AT;
 use layout::PART_SIZE;
 use name::hash_at;
 use name::name_at;
+use name::wide32;
 ghost use mathlib.Core.Path.{_≡_};
 ghost use Prim.Native.Nat.{ℕ, _+_, _<_, _≤_};
 ghost use mathlib.Core.List.{List, []};
@@ -25,10 +26,11 @@ ghost use lib.ListN.{length, getD, take};
 ghost use Rattle.definition.specs.Basic.{Bytes};
 ghost use Rattle.definition.specs.Limit.{treeLimit, sessionSize, argumentsLimit, freeLimit};
 ghost use Rattle.definition.specs.Opcode.{instr};
-ghost use Rattle.definition.specs.SymbolTable.{find, builtins, resolve, loadOf};
-ghost use Rattle.symbol_table.specs.Name.{after, content, Stands, fields, Row, buckets};
+ghost use Rattle.definition.specs.SymbolTable.{find, builtins, loadOf};
+ghost use Rattle.field.specs.Layout.{after, content};
+ghost use Rattle.symbol_table.specs.Name.{Stands, fields, Row, buckets};
 ghost use Rattle.symbol_table.specs.Layout.{globalsSize, partSize, originalsAt, base, part, symbolOf, tableOf, globalsIn, Sized, GoodTable, GoodGlobals, Good};
-ghost use Rattle.symbol_table.specs.Contract.{hitOf, resolvedOf, IsName, Inside, Crosses, Resolves, DefinesLocal, Defines, Enters, HasNames, Starts};
+ghost use Rattle.symbol_table.specs.Contract.{hitOf, resolvedOf, outermostOf, IsName, Inside, Crosses, Resolves, DefinesLocal, Defines, Enters, HasNames, Starts};
 
 // The code of a symbol that a table has for a name.
 pub enum Hit {
@@ -97,7 +99,7 @@ fn find_outermost(
     requires { ⌜ GoodGlobals (now tree) (now names) (take globalsSize (now table)) ⌝ }
     requires { ⌜ IsName (now tree) name hash ⌝ }
     requires { ⌜ hash < buckets ⌝ }
-    ensures { λ r. ⌜ resolvedOf r [] ≡ resolve (fields (now (words .entry)) count 0) (globalsIn (now (tree .entry)) (now (names .entry)) (now (table .entry))) (content (now (tree .entry)) name) [] ⌝ }
+    ensures { λ r. ⌜ resolvedOf r [] ≡ outermostOf (fields (now (words .entry)) count 0) (globalsIn (now (tree .entry)) (now (names .entry)) (now (table .entry))) (content (now (tree .entry)) name) ⌝ }
 {
     let it = name_at(tree, name);
     if let Hit::At(code) = find_global(tree, names, &table[..GLOBALS_SIZE], it, hash) {
@@ -221,6 +223,22 @@ pub fn start(session: &[u8], table: &mut [u32]) -> usize
     let end = 3 + field::length_at(session, 0);
     start_in(session, &mut table[..GLOBALS_SIZE], end);
     end
+}
+
+// How many globals there are.
+pub fn count_globals(table: &[u32]) -> usize
+    requires { ⌜ 0 < length (now table) ⌝ }
+    ensures { λ r. ⌜ r ≡ getD (now (table .entry)) 0 0 ⌝ }
+{
+    wide32(table[0])
+}
+
+// The name of a global, as a number: an offset among the session's names, or IN_TREE more than an offset in the tree.
+pub fn global_name(table: &[u32], k: usize) -> u32
+    requires { ⌜ 1 + k < length (now table) ⌝ }
+    ensures { λ r. ⌜ r ≡ getD (now (table .entry)) (1 + k) 0 ⌝ }
+{
+    table[1 + k]
 }
 
 // The instruction that loads a symbol.

@@ -2,7 +2,8 @@
 ghost use mathlib.Core.Path.{_≡_};
 ghost use Prim.Native.Nat.{_<_};
 ghost use Rattle.definition.specs.SymbolTable.{same};
-ghost use Rattle.symbol_table.specs.Name.{content, Stands, buckets, hashOf};
+ghost use Rattle.field.specs.Layout.{content};
+ghost use Rattle.symbol_table.specs.Name.{Stands, buckets, hashOf};
 
 // The content of the field at an offset.
 pub fn name_at(bytes: &[u8], at: usize) -> &[u8]

@@ -5,17 +5,17 @@ use borrow.Author.Needs.{needs}
 use Rattle.replay.proofs.compile.Statement.{statement}
 use Rattle.replay.proofs.compile.Tie as tie
 
-slice-aggregate-compile : tie.Need-slice-aggregate-compile
-slice-aggregate-compile c = simp length-take (omega arith)
+slice-aggregate-compile-in : tie.Need-slice-aggregate-compile-in
+slice-aggregate-compile-in c = simp length-take (omega arith)
 
-slice-relend-prefix-compile : tie.Need-slice-relend-prefix-compile
-slice-relend-prefix-compile c = search needs
+slice-relend-prefix-compile-in : tie.Need-slice-relend-prefix-compile-in
+slice-relend-prefix-compile-in c = search needs
 
-slice-aggregate-compile-2 : tie.Need-slice-aggregate-compile-2
-slice-aggregate-compile-2 c = simp length-take (omega arith)
+slice-aggregate-compile-in-2 : tie.Need-slice-aggregate-compile-in-2
+slice-aggregate-compile-in-2 c = simp length-take (omega arith)
 
-compile-requires : tie.Need-compile-requires
-compile-requires c κs = search needs
+compile-in-requires : tie.Need-compile-in-requires
+compile-in-requires c κs = search needs
 
 same-length : tie.Need-same-length
 same-length c = search needs
@@ -42,10 +42,10 @@ pub compile-spec : {M : Type 1} → statement M
 compile-spec =
     tie.close
     (tie.spec
-    slice-aggregate-compile
-    slice-relend-prefix-compile
-    slice-aggregate-compile-2
-    compile-requires
+    slice-aggregate-compile-in
+    slice-relend-prefix-compile-in
+    slice-aggregate-compile-in-2
+    compile-in-requires
     same-length
     same-length-2
     same-length-3

@@ -1,6 +1,6 @@
 use mathlib.Core.Path.{sym, ap, _∙_}
 use Rattle.symbol_table.specs.Contract.{hitOf}
-use Rattle.symbol_table.proofs.Resolving.{global-resolved, builtin-resolved, none-resolved}
+use Rattle.symbol_table.proofs.Resolving.{global-first, builtin-second, none-there}
 use borrow.Author.Needs.{needs}
 use Rattle.symbol_table.proofs.find_outermost.Statement.{statement}
 use Rattle.symbol_table.proofs.find_outermost.Tie as tie
@@ -9,17 +9,17 @@ find-global-requires : tie.Need-find-global-requires
 find-global-requires c κs = let p = c .before .before .before .before .before .before .pre .1 .1 in (p .1 .0, (p .1 .1 .0 .is ∙ rw (c .before .name-at .ensures), p .1 .1 .1))
 
 returns : tie.Need-returns
-returns c = rw (← c .before .before .before .before .before .name-at .ensures) (global-resolved _ _ _ _ (ap hitOf (sym (c .before .code .given .1)) ∙ c .before .before .before .find-global .ensures))
+returns c = rw (← c .before .before .before .before .before .name-at .ensures) (global-first _ _ _ _ (ap hitOf (sym (c .before .code .given .1)) ∙ c .before .before .before .find-global .ensures))
 
 returns-2 : tie.Need-returns-2
 returns-2 c =
     rw (← c .before .before .before .before .before .before .before .before .name-at .ensures)
-    (builtin-resolved _ _ _ _ (ap hitOf (sym (c .before .before .before .before .enum-told .given .1)) ∙ c .before .before .before .before .before .before .find-global .ensures) (ap hitOf (sym (c .before .code2 .given .1)) ∙ c .before .before .before .find-builtin .ensures))
+    (builtin-second _ _ _ _ (ap hitOf (sym (c .before .before .before .before .enum-told .given .1)) ∙ c .before .before .before .before .before .before .find-global .ensures) (ap hitOf (sym (c .before .code2 .given .1)) ∙ c .before .before .before .find-builtin .ensures))
 
 returns-3 : tie.Need-returns-3
 returns-3 c =
     rw (← c .before .before .before .before .before .before .before .name-at .ensures)
-    (none-resolved _ _ _ (ap hitOf (sym (c .before .before .before .enum-told .given .1)) ∙ c .before .before .before .before .before .find-global .ensures) (ap hitOf (sym (c .enum-told2 .given .1)) ∙ c .before .before .find-builtin .ensures))
+    (none-there _ _ _ (ap hitOf (sym (c .before .before .before .enum-told .given .1)) ∙ c .before .before .before .before .before .find-global .ensures) (ap hitOf (sym (c .enum-told2 .given .1)) ∙ c .before .before .find-builtin .ensures))
 
 pub find-outermost-spec : {M : Type 1} → statement M
 find-outermost-spec =

@@ -1,7 +1,7 @@
 use Prim.Native.Nat.{_+_, _-_}
 use mathlib.Core.Path.{_≡_}
 use native.Mathlib.Omega.{arith}
-use Rattle.symbol_table.specs.Name.{len}
+use Rattle.field.specs.Layout.{len}
 use borrow.Author.Needs.{needs}
 use Rattle.symbol_table.proofs.name.name_at.Statement.{statement}
 use Rattle.symbol_table.proofs.name.name_at.Tie as tie
