@@ -15,8 +15,10 @@ use Rattle.definition.specs.Number.{refusal, outputShort, badInstruction}
 use Rattle.definition.specs.Opcode.{opLast}
 use Rattle.definition.specs.declared.Answer.the-variants.{Length, Refused}
 use Rattle.opcode.specs.Table.{entry, noInstruction}
-use Rattle.opcode.specs.Encoding.{atStart}
-use Rattle.opcode.specs.Words.{ascii, words, joined, startOf, word, wordAnswer, wordInto}
+use Rattle.definition.specs.Output.{over}
+use Rattle.definition.specs.Text.{ascii}
+use Rattle.definition.specs.Listing.{words, word}
+use Rattle.opcode.specs.Words.{joined, startOf, wordAnswer, wordInto}
 use Rattle.opcode.proofs.Widths.{known, unknown}
 use Rattle.opcode.proofs.Encoding.{placing, refusing}
 
@@ -76,11 +78,11 @@ module _ {op start next : ℕ} (out : Bytes) (h : Word op start next) where
   pub word-short : length out < next - start → (Refused (refusal outputShort 0) ≡ wordAnswer op (length out)) × (out ≡ wordInto op out)
   word-short s = let p = refusing (word op) out (next - start) (h .size) s in (p .0 ∙ rw (h .known), p .1 ∙ rw (h .known))
 
-  pub word-written : {r : Bytes} → next - start ≤ length out → r ≡ atStart (take (next - start) (drop start (joined words))) out
+  pub word-written : {r : Bytes} → next - start ≤ length out → r ≡ over (take (next - start) (drop start (joined words))) out
       → (Length (next - start) ≡ wordAnswer op (length out)) × (r ≡ wordInto op out)
   word-written s e =
       let p = placing (word op) out (next - start) (h .size) s in
-      (p .0 ∙ rw (h .known), e ∙ ap (λ (b : Bytes). atStart b out) (h .is) ∙ p .1 ∙ rw (h .known))
+      (p .0 ∙ rw (h .known), e ∙ ap (λ (b : Bytes). over b out) (h .is) ∙ p .1 ∙ rw (h .known))
 
 pub word-unknown : (op : ℕ) {w : ℕ} (out : Bytes) → w ≡ entry op → w ≡ noInstruction
     → (Refused (refusal badInstruction 0) ≡ wordAnswer op (length out)) × (out ≡ wordInto op out)
