@@ -226,7 +226,7 @@ pub fn encode(out: &mut [u8], i: Instruction) -> Answer
 }
 
 // Where the word of an instruction byte starts in `WORDS`.
-fn word_start(o: usize) -> usize
+pub fn word_start(o: usize) -> usize
     requires { ⌜ o < 31 ⌝ }
     ensures { λ r. ⌜ r ≡ startOf words o ⌝ }
 {

@@ -1,0 +1,5 @@
+pub mod Puts
+pub mod Digits
+pub mod Numbers
+pub mod Items
+pub mod Lines
