@@ -27,3 +27,4 @@ pub mod ReadPlaces
 pub mod WalkPlaces
 pub mod Places
 pub mod ImagePlaces
+pub mod ListingLength

@@ -40,7 +40,7 @@ pub data Within (lengths numbers places : ℕ) : Answer → Type 0 where
   refused : {r : Refusal} → Bounded numbers places r → Within lengths numbers places (Refused r)
 
 -- a refusal at no place
-nowhere : {lengths numbers places n : ℕ} → n ≤ numbers → Within lengths numbers places (Refused (refusal n 0))
+pub nowhere : {lengths numbers places n : ℕ} → n ≤ numbers → Within lengths numbers places (Refused (refusal n 0))
 nowhere {n = n} h = Within.refused {r = refusal n 0} (record { number = h; place = omega arith })
 
 -- making a session: its length, or number 1
