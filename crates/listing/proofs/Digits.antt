@@ -7,7 +7,7 @@ use mathlib.Core.List.{[], _∷_, _++_}
 use lib.Dec.{ltb}
 use lib.ListN.{length, replicate, length-append}
 use borrow.Author.Tests.{lt-ltb, le-ltb}
-use Rattle.definition.specs.Basic.{Bytes, pick}
+use Rattle.definition.specs.Basic.{pick}
 use Rattle.definition.specs.Text.{digit, digits, decimal}
 
 few : (m n : ℕ) → n < 10 → digits (suc m) n ≡ digit n ∷ []

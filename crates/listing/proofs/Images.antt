@@ -9,18 +9,17 @@ use lib.Dec.{eqb, leb}
 use lib.ListN.{length}
 use lib.Seq.{sets}
 use borrow.Author.Tests.{eqb-true, leb-true, le-leb, lt-leb}
-use Rattle.definition.specs.Basic.{Bytes, byteAt, pick}
+use Rattle.definition.specs.Basic.{Bytes, byteAt}
 use Rattle.definition.specs.Limit.{poolLimit, constantsLimit, codeSize}
 use Rattle.definition.specs.Number.{refusal, badImage, outputShort}
 use Rattle.definition.specs.Tag.{tagMain, tagPool}
 use Rattle.definition.specs.Field.{Head, head, tagged}
 use Rattle.definition.specs.Text.{ascii, decimal}
 use Rattle.definition.specs.Bytecode.{Code, Const, Image, sizeOf}
-use Rattle.definition.specs.Decode.{Decoded, decoded, malformed, then, ending, mainHead, poolHead, readHead, readInstr, readConst, readCode, readPool, readImageOf, readImage}
+use Rattle.definition.specs.Decode.{Decoded, decoded, malformed, then, ending, mainHead, poolHead, readInstr, readConst, readCode, readPool, readImageOf, readImage}
 use Rattle.definition.specs.Output.{over}
 use Rattle.definition.specs.Listing.{also, newline, codeLines, constantLines, listing, listAnswer, listInto}
 use Rattle.definition.specs.declared.Refusal.{Refusal}
-use Rattle.definition.specs.declared.Answer.{Answer}
 use Rattle.definition.specs.declared.Answer.the-variants.{Length, Refused}
 use Rattle.session.proofs.Stores.{sets-over}
 use Rattle.bytecode.specs.declared.ImageCheck.{ImageCheck}
@@ -30,7 +29,7 @@ use Rattle.bytecode.proofs.Heads.{both-true}
 use Rattle.bytecode.proofs.Items.{ended, unlike}
 use Rattle.bytecode.proofs.Fields.{mainContent, poolContent, head-read, then-read}
 use Rattle.listing.specs.Put.{Puts, roof}
-use Rattle.listing.specs.Reads.{CodeAt, HasCode, PoolAt, HasPool, ImageAt, HasImage, poolText}
+use Rattle.listing.specs.Reads.{CodeAt, PoolAt, ImageAt, HasImage, poolText}
 use Rattle.listing.proofs.Lines.{code-size}
 
 -- nothing follows

@@ -2,16 +2,15 @@
 use Prim.Native.Nat.{ℕ, zero, suc, _+_, _-_, _*_, _≤_, _<_}
 use mathlib.Core.Path.{_≡_, _∙_, ap, sym, refl, subst}
 use mathlib.Core.Bool.{Bool, true, false}
-use mathlib.Core.List.{List, [], _∷_, _++_}
+use mathlib.Core.List.{[], _∷_, _++_}
 use native.Mathlib.Omega.{arith}
 use lib.Dec.{leb}
-use lib.ListN.{length}
 use borrow.Author.Tests.{leb-true}
 use Rattle.definition.specs.Basic.{Bytes, byteAt}
 use Rattle.definition.specs.Text.{decimal}
 use Rattle.definition.specs.Opcode.{Instr, instrAt, size, whole, width, opLast}
 use Rattle.definition.specs.Bytecode.{Code, sizeOf}
-use Rattle.definition.specs.Decode.{Decoded, decoded, malformed, readInstr, readCode}
+use Rattle.definition.specs.Decode.{Decoded, decoded, readInstr, readCode}
 use Rattle.definition.specs.Listing.{also, operandFields, codeLine, codeLines}
 use Rattle.opcode.specs.Decoding.{instruction, instrOf, decodeAnswer}
 use Rattle.opcode.specs.declared.Instruction.{Instruction}

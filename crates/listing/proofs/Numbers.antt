@@ -7,7 +7,7 @@ use lib.ListN.{length, drop, getD}
 use lib.Seq.{drop-cons}
 use native.Mathlib.Numerals.{add-one}
 use borrow.Author.Tests.{lt-ltb, le-ltb}
-use Rattle.definition.specs.Basic.{Bytes, byteAt}
+use Rattle.definition.specs.Basic.{Bytes}
 use Rattle.definition.specs.Field.{bytes}
 use Rattle.definition.specs.Text.{ascii, decimal, number, signed, hexDigit, hex}
 use Rattle.definition.specs.Listing.{hexField}
@@ -61,10 +61,10 @@ module _ (byte : ℕ → ℕ) (from : ℕ) {len : ℕ} where
   no-hex e = sym (ap (λ n. hexField (bytes byte from n)) e)
 
   pub some-hex : (len ≡ 0 → ⊥) → (0x20 ∷ []) ++ hex (bytes byte from (from + len - from)) ≡ hexField (bytes byte from len)
-  some-hex h =
-      let e : len ≡ suc (len - 1) = omega arith in
-      let d : from + len - from ≡ suc (len - 1) = omega arith in
-      ap (λ n. (0x20 ∷ []) ++ hex (bytes byte from n)) d ∙ sym (ap (λ n. hexField (bytes byte from n)) e)
+  some-hex h = filled {n = from + len - from} {m = len} (len - 1) (omega arith) (omega arith)
+    where
+      filled : {n m : ℕ} (k : ℕ) → n ≡ suc k → m ≡ suc k → (0x20 ∷ []) ++ hex (bytes byte from n) ≡ hexField (bytes byte from m)
+      filled k d e = ap (λ n. (0x20 ∷ []) ++ hex (bytes byte from n)) d ∙ sym (ap (λ n. hexField (bytes byte from n)) e)
 
 pub length-hex : (b : Bytes) → length (hex b) ≡ 2 * length b
 length-hex [] = refl

@@ -2,6 +2,7 @@
 use crate::text::put;
 use crate::text::put_bytes;
 use crate::text::put_field;
+use crate::text::put_newline;
 use crate::text::put_padded;
 use field::wide;
 use opcode::Decoded;
@@ -10,7 +11,7 @@ use opcode::decode_at;
 use opcode::operand_length;
 use opcode::table::WORDS;
 use opcode::word_start;
-ghost use Prim.Native.Nat.{_+_, _-_, _*_, _≤_, _<_};
+ghost use Prim.Native.Nat.{_+_, _-_, _*_, _<_};
 ghost use Rattle.definition.specs.Bytecode.{Code};
 ghost use Rattle.definition.specs.Listing.{word, operandFields, codeLine, codeLines};
 ghost use Rattle.opcode.specs.Decoding.{instrOf};
@@ -60,7 +61,7 @@ fn put_line(output: &mut [u8], at: usize, position: usize, i: Instruction) -> us
         i.operand as usize,
         wide(i.captures),
     );
-    put(output, after_operands, b'\n')
+    put_newline(output, after_operands)
 }
 
 // Puts the lines of code that stands from an offset up to another.

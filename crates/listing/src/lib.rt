@@ -10,9 +10,9 @@ use definition::Answer;
 use definition::Refusal;
 use field::length_at;
 use pool::list_pool;
-use text::put;
 use text::put_bytes;
 use text::put_field;
+use text::put_newline;
 ghost use mathlib.Core.Path.{_≡_};
 ghost use lib.ListN.{length};
 ghost use Rattle.definition.specs.Bytecode.{Image};
@@ -30,7 +30,7 @@ fn put_listing(output: &mut [u8], image: &[u8]) -> usize
     let end = 3 + size;
     let after_word = put_bytes(output, 0, b"main");
     let after_size = put_field(output, after_word, size);
-    let next = put(output, after_size, b'\n');
+    let next = put_newline(output, after_size);
     let after_code = list_code(output, next, image, 3, end);
     list_pool(output, after_code, image, end + 3, image.len())
 }

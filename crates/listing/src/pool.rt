@@ -1,10 +1,10 @@
 // The lines of the pool.
 use crate::code::list_code;
-use crate::text::put;
 use crate::text::put_bytes;
 use crate::text::put_decimal;
 use crate::text::put_field;
 use crate::text::put_hex_field;
+use crate::text::put_newline;
 use crate::text::put_signed;
 use bytecode::Checked;
 use bytecode::check_constants;
@@ -16,7 +16,6 @@ ghost use mathlib.Core.List.{List};
 ghost use Prim.Native.Nat.{_+_, _-_, _*_, _≤_};
 ghost use lib.ListN.{length};
 ghost use Rattle.definition.specs.Basic.{byteAt};
-ghost use Rattle.definition.specs.Text.{decimal};
 ghost use Rattle.definition.specs.Field.{bytes, head};
 ghost use Rattle.definition.specs.Bytecode.{Code, Const};
 ghost use Rattle.definition.specs.Listing.{constantFields, constantLines};
@@ -30,7 +29,7 @@ fn list_integer(output: &mut [u8], at: usize, image: &[u8], from: usize) -> usiz
 {
     let after_kind = put_bytes(output, at, b" integer ");
     let next = put_signed(output, after_kind, image, from);
-    put(output, next, b'\n')
+    put_newline(output, next)
 }
 
 // Puts a string constant behind its index.
@@ -41,7 +40,7 @@ fn list_string(output: &mut [u8], at: usize, image: &[u8], from: usize, len: usi
     let after_kind = put_bytes(output, at, b" string");
     let after_length = put_field(output, after_kind, len);
     let next = put_hex_field(output, after_length, image, from, len);
-    put(output, next, b'\n')
+    put_newline(output, next)
 }
 
 // Puts the three numbers of a function constant.
@@ -59,7 +58,7 @@ fn put_function(
     let after_locals = put_field(output, after_kind, locals);
     let after_parameters = put_field(output, after_locals, parameters);
     let next = put_field(output, after_parameters, size);
-    put(output, next, b'\n')
+    put_newline(output, next)
 }
 
 // Puts a function constant, of at least three bytes, behind its index.
@@ -129,6 +128,6 @@ pub fn list_pool(output: &mut [u8], at: usize, image: &[u8], start: usize, end: 
     let count = count_constants(image, start, end);
     let after_word = put_bytes(output, at, b"pool");
     let after_count = put_field(output, after_word, count);
-    let next = put(output, after_count, b'\n');
+    let next = put_newline(output, after_count);
     list_constants(output, next, image, start, end)
 }

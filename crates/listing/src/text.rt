@@ -1,5 +1,4 @@
 // Text put into an output at an offset: stored where there is room, counted always. Each function answers the offset after its text.
-use field::wide;
 use field::word;
 ghost use mathlib.Core.Path.{_≡_};
 ghost use mathlib.Core.List.{[], _∷_};
@@ -8,7 +7,7 @@ ghost use lib.ListN.{length, replicate};
 ghost use Rattle.definition.specs.Basic.{byteAt};
 ghost use Rattle.definition.specs.Field.{bytes};
 ghost use Rattle.definition.specs.Text.{digit as digitOf, digits, decimal, padded, number, signed, hexDigit, hex};
-ghost use Rattle.definition.specs.Listing.{also, hexField};
+ghost use Rattle.definition.specs.Listing.{newline, also, hexField};
 ghost use Rattle.listing.specs.Put.{Room, Puts};
 
 // Puts a byte.
@@ -35,6 +34,14 @@ pub fn put_bytes(output: &mut [u8], at: usize, text: &[u8]) -> usize
         k += 1;
     }
     next
+}
+
+// Puts the end of a line.
+pub fn put_newline(output: &mut [u8], at: usize) -> usize
+    requires { ⌜ Room 1 at ⌝ }
+    ensures { λ r. ⌜ Puts 1 (now (output .entry)) (now (output .exit)) at r newline ⌝ }
+{
+    put(output, at, b'\n')
 }
 
 // A decimal digit.

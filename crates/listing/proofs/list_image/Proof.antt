@@ -1,6 +1,5 @@
 -- `listing::list_image` meets its contract: first the check, then the length, then the text.
 use borrow.Author.Needs.{needs}
-use native.Mathlib.Omega.{arith}
 use denote.Ref.{now}
 use Rattle.listing.proofs.Images.{sound-image, wrong-image, listing-long, listing-written}
 use Rattle.listing.proofs.list_image.Statement.{statement}

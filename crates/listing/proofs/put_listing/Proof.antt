@@ -18,30 +18,30 @@ length-at-requires c κs =
 
 list-code-requires : tie.Need-list-code-requires
 list-code-requires c κs =
-    let put = c .before .before .before .put in
+    let put-newline = c .before .before .before .put-newline in
     let put-field = c .before .before .before .before .before .before .before .put-field in
     let put-bytes = c .before .before .before .before .before .before .before .before .before .before .before .put-bytes in
     let length-at = c .before .before .before .before .before .before .before .before .before .before .before .before .before .before .length-at in
     let start = c .before .before .before .before .before .before .before .before .before .before .before .before .before .before .before .before .before in
     let k = parts (now (start .args .image)) (start .pre .is) (length-at .ensures .0) in
-    (omega (arith, put-bytes .ensures .short, put-field .ensures .short, put .ensures .short, k .code .within, k .small), record { code = start .pre .image .code; is = k .code })
+    (omega (arith, put-bytes .ensures .short, put-field .ensures .short, put-newline .ensures .short, k .code .within, k .small), record { code = start .pre .image .code; is = k .code })
 
 list-pool-requires : tie.Need-list-pool-requires
 list-pool-requires c κs =
     let list-code = c .before .before .before .list-code in
-    let put = c .before .before .before .before .before .before .before .put in
+    let put-newline = c .before .before .before .before .before .before .before .put-newline in
     let put-field = c .before .before .before .before .before .before .before .before .before .before .before .put-field in
     let put-bytes = c .before .before .before .before .before .before .before .before .before .before .before .before .before .before .before .put-bytes in
     let length-at = c .before .before .before .before .before .before .before .before .before .before .before .before .before .before .before .before .before .before .length-at in
     let start = c .before .before .before .before .before .before .before .before .before .before .before .before .before .before .before .before .before .before .before .before .before in
     let k = parts (now (start .args .image)) (start .pre .is) (length-at .ensures .0) in
-    (omega (arith, put-bytes .ensures .short, put-field .ensures .short, put .ensures .short, list-code .ensures _ (k .code) .short, k .code .within, k .small), record { pool = start .pre .image .pool; is = k .pool })
+    (omega (arith, put-bytes .ensures .short, put-field .ensures .short, put-newline .ensures .short, list-code .ensures _ (k .code) .short, k .code .within, k .small), record { pool = start .pre .image .pool; is = k .pool })
 
 returns : tie.Need-returns
 returns c =
     let list-pool = c .before .before .list-pool in
     let list-code = c .before .before .before .before .before .before .list-code in
-    let put = c .before .before .before .before .before .before .before .before .before .before .put in
+    let put-newline = c .before .before .before .before .before .before .before .before .before .before .put-newline in
     let put-field = c .before .before .before .before .before .before .before .before .before .before .before .before .before .before .put-field in
     let put-bytes = c .before .before .before .before .before .before .before .before .before .before .before .before .before .before .before .before .before .before .put-bytes in
     let length-at = c .before .before .before .before .before .before .before .before .before .before .before .before .before .before .before .before .before .before .before .before .before .length-at in
@@ -49,7 +49,7 @@ returns c =
     λ m i.
     let k = parts (now (start .args .image)) i (length-at .ensures .0) in
     let sized = reworded (put-field .ensures) (ap (λ n. also (decimal n)) (sym (k .size))) in
-    let main = both (both (both (put-bytes .ensures) sized) (put .ensures)) (list-code .ensures (m .code) (k .code)) in
+    let main = both (both (both (put-bytes .ensures) sized) (put-newline .ensures)) (list-code .ensures (m .code) (k .code)) in
     wider (reworded (both main (list-pool .ensures (m .pool) (k .pool))) (listing-is m)) (omega (arith, k .code .within, k .small))
 
 pub put-listing-spec : {M : Type 1} → statement M

@@ -8,7 +8,7 @@ use Rattle.listing.proofs.code.put_line.Tie as tie
 
 returns : tie.Need-returns
 returns c =
-    let put2 = c .before .before .put2 in
+    let put-newline = c .before .before .put-newline in
     let put-operands = c .before .before .before .before .before .before .put-operands in
     let wide = c .before .before .before .before .before .before .before .wide in
     let put-word = c .before .before .before .before .before .before .before .before .before .before .before .before .put-word in
@@ -17,7 +17,7 @@ returns c =
     let operand-length = c .before .before .before .before .before .before .before .before .before .before .before .before .before .before .before .before .before .before .before .before .before .before .operand-length in
     let start = c .before .before .before .before .before .before .before .before .before .before .before .before .before .before .before .before .before .before .before .before .before .before .before .before in
     let fields = reworded (put-operands .ensures) (λ j. operandFields (operand-length .ensures j) (start .args .i .operand) (wide .ensures .0 j)) in
-    wider (both (both (both (put-padded .ensures) (both (put .ensures) (put-word .ensures))) fields) (put2 .ensures)) (omega arith)
+    wider (both (both (both (put-padded .ensures) (both (put .ensures) (put-word .ensures))) fields) (put-newline .ensures)) (omega arith)
 
 pub put-line-spec : {M : Type 1} → statement M
 put-line-spec =

@@ -1,5 +1,4 @@
 -- `listing::pool::list_constants` meets its contract: a constant a turn; what is left decides.
-use borrow.Author.Needs.{needs}
 use native.Mathlib.Omega.{arith}
 use Prim.Native.Nat.{_-_}
 use denote.Ref.{now}

@@ -13,13 +13,13 @@ use Rattle.listing.proofs.pool.list_string.Tie as tie
 
 returns : tie.Need-returns
 returns c =
-    let put = c .before .before .put in
+    let put-newline = c .before .before .put-newline in
     let put-hex-field = c .before .before .before .before .before .before .put-hex-field in
     let put-field = c .before .before .before .before .before .before .before .before .before .before .put-field in
     let put-bytes = c .before .before .before .before .before .before .before .before .before .before .before .before .before .before .put-bytes in
     let start = c .before .before .before .before .before .before .before .before .before .before .before .before .before .before .before .before .before .before .before in
     let counted = reworded (put-field .ensures) (ap (λ n. also (decimal n)) (sym (length-bytes (byteAt (now (start .args .image))) (start .args .from) (start .args .len)))) in
-    wider (both (both (both (put-bytes .ensures) counted) (put-hex-field .ensures)) (put .ensures)) (omega arith)
+    wider (both (both (both (put-bytes .ensures) counted) (put-hex-field .ensures)) (put-newline .ensures)) (omega arith)
 
 pub list-string-spec : {M : Type 1} → statement M
 list-string-spec =

@@ -2,7 +2,6 @@
 use Prim.Native.Nat.{_-_}
 use native.Mathlib.Omega.{arith}
 use native.Mathlib.Nat.{le-refl}
-use mathlib.Core.Path.{refl}
 use lib.ListN.{length, drop, length-drop}
 use lib.Seq.{drop-length}
 use Rattle.listing.proofs.Puts.{Putting, begins, again, ends}

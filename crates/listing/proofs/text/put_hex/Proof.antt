@@ -1,8 +1,6 @@
 -- `listing::text::put_hex` meets its contract: a byte a turn; what is left decides.
 use Prim.Native.Nat.{_-_}
 use native.Mathlib.Omega.{arith}
-use native.Mathlib.Nat.{le-refl}
-use mathlib.Core.Path.{refl}
 use Rattle.definition.specs.Basic.{byteAt}
 use Rattle.definition.specs.Field.{bytes}
 use Rattle.definition.specs.Text.{hex}

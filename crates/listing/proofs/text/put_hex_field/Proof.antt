@@ -1,7 +1,6 @@
 -- `listing::text::put_hex_field` meets its contract: nothing, or a space and the bytes.
 use borrow.Author.Needs.{needs}
 use native.Mathlib.Omega.{arith}
-use mathlib.Core.Path.{sym}
 use denote.Ref.{now}
 use Rattle.definition.specs.Basic.{byteAt}
 use Rattle.listing.proofs.Puts.{none, both, reworded, wider}
