@@ -3,10 +3,18 @@ use std::path::{Path, PathBuf};
 use std::process::Command;
 use std::{env, fs};
 
-fn variable(name: &str, meaning: &str) -> PathBuf {
-    println!("cargo:rerun-if-env-changed={name}");
-    let value = env::var(name).unwrap_or_else(|_| panic!("{name} is not set: {meaning}"));
-    PathBuf::from(value)
+/// The published Rust's folder src.
+fn sources() -> PathBuf {
+    println!("cargo:rerun-if-env-changed=MONKEY_SRC");
+    let folder = env::var("MONKEY_SRC").expect("MONKEY_SRC: the folder src of ktanaka101/monkey.rs at commit 34f87fde49");
+    PathBuf::from(folder)
+}
+
+/// The folder of libcapi.a: that of `rt staticlib capi`, or another.
+fn library() -> PathBuf {
+    println!("cargo:rerun-if-env-changed=CAPI_DIR");
+    let folder = env::var("CAPI_DIR").unwrap_or("../target/staticlib".into());
+    fs::canonicalize(folder).expect("libcapi.a's folder: run `rt staticlib capi`")
 }
 
 fn files_below(folder: &Path, found: &mut Vec<PathBuf>) {
@@ -41,8 +49,7 @@ fn take_sources(source: &Path, root: &Path) {
 }
 
 fn main() {
-    let source = variable("MONKEY_SRC", "the folder src of ktanaka101/monkey.rs at commit 34f87fde49");
-    let library = variable("CAPI_DIR", "the folder of libcapi.a, which `rt staticlib capi` writes");
+    let (source, library) = (sources(), library());
     let root = Path::new(&env::var("OUT_DIR").unwrap()).join("monkey");
     let _ = fs::remove_dir_all(&root);
     take_sources(&source, &root);

@@ -5,6 +5,7 @@ use crate::random::Random;
 use crate::read::{self, Reading};
 use crate::reference::{self, Accepted, Outcome, State};
 use crate::series::{padded, Call, Lent};
+use crate::walk;
 
 /// How often each outcome was compared.
 #[derive(Default, Clone)]
@@ -101,10 +102,25 @@ impl Both {
         Ok(())
     }
 
-    /// One call on both sides.
-    pub fn call(&mut self, call: &Call) -> Compared {
+    /// The output that is lent.
+    pub fn output(&self) -> &[u8] {
+        &self.lent.output
+    }
+
+    /// The session that the Rust's state makes.
+    pub fn reference_session(&self) -> Vec<u8> {
+        self.state.session()
+    }
+
+    /// One call on both sides; the answer that both give.
+    pub fn call(&mut self, call: &Call) -> Result<Answer, String> {
         let answer = self.lent.call(&call.tree, &call.lending)?;
         self.counts.trees += 1;
+        self.judge(call, answer)?;
+        Ok(answer)
+    }
+
+    fn judge(&mut self, call: &Call, answer: Answer) -> Compared {
         if call.lending.short() {
             self.limit(answer, 1, 0)?;
             return self.unchanged();
@@ -124,12 +140,31 @@ impl Both {
                 self.limit(answer, number, place)?;
                 self.unchanged()
             }
-            (None, Outcome::Accepted(accepted)) => self.accepted(call, &reading, answer, accepted),
-            (None, Outcome::Refused { message, definitions, constants }) => {
-                let added = Added::new(definitions, &constants);
-                self.refused(call, &reading, answer, &message, &added)
+            (None, outcome) => {
+                self.placed(call, answer)?;
+                self.walked(call, &reading, answer, outcome)
             }
-            (None, Outcome::BadTree) => unreachable!("it has a place"),
+        }
+    }
+
+    /// A tree that reads well, against the Rust.
+    fn walked(&mut self, call: &Call, reading: &Reading, answer: Answer, outcome: Outcome) -> Compared {
+        match outcome {
+            Outcome::Accepted(accepted) => self.accepted(call, reading, answer, accepted),
+            Outcome::Refused { message, definitions, constants } => {
+                let added = Added::new(definitions, &constants);
+                self.refused(call, reading, answer, &message, &added)
+            }
+            Outcome::BadTree => unreachable!("reading refuses it"),
+        }
+    }
+
+    /// Number and place of the walk's refusal, against the reading in walk.rs.
+    fn placed(&self, call: &Call, answer: Answer) -> Compared {
+        match (walk::refusal(&self.state, &call.tree), answer) {
+            (Some((number, place)), _) => self.expect(answer, Answer::Refused(number, place)),
+            (None, Answer::Length(_) | Answer::Refused(15, 0)) => Ok(()),
+            (None, _) => Err(format!("{answer:?}, but no refusal of the walk is due")),
         }
     }
 

@@ -8,16 +8,19 @@ pub struct Edge {
     pub name: String,
     pub trees: Vec<Vec<u8>>,
     pub number: Option<usize>,
+    /// Just inside or just outside.
+    pub sharp: bool,
 }
 
 fn edge(name: String, trees: Vec<Node>, number: Option<usize>) -> Edge {
-    Edge { name, trees: trees.iter().map(Node::bytes).collect(), number }
+    Edge { name, trees: trees.iter().map(Node::bytes).collect(), number, sharp: true }
 }
 
 /// One tree, refused with the number where `count` passes `most`.
 fn counted(name: &str, count: usize, most: usize, number: usize, statements: Vec<Node>) -> Edge {
     let refused = (count > most).then_some(number);
-    edge(format!("{name} {count}"), vec![node::program(statements)], refused)
+    let sharp = count == most || count == most + 1;
+    Edge { sharp, ..edge(format!("{name} {count}"), vec![node::program(statements)], refused) }
 }
 
 /// Names of two letters.
@@ -122,11 +125,10 @@ fn constants() -> Vec<Edge> {
     let mut all = Vec::new();
     for count in [4095, 4096, 4097] {
         all.push(counted("empty strings", count, 4096, 12, strings(count)));
-        let trees = vec![node::program(strings(4000)), node::program(strings(count - 4000)), node::program(strings(0))];
-        let mut series = edge(format!("empty strings over a series {count}"), trees, None);
-        all.push(Edge { trees: series.trees[..2].to_vec(), number: (count > 4096).then_some(12), ..edge(series.name.clone(), Vec::new(), None) });
-        series.name.push_str(", then none");
-        all.push(series);
+        let series = [4000, count - 4000].map(|n| node::program(strings(n))).to_vec();
+        all.push(edge(format!("empty strings over a series {count}"), series.clone(), (count > 4096).then_some(12)));
+        let then_none = [series, vec![node::program(strings(0))]].concat();
+        all.push(edge(format!("empty strings over a series, then none {count}"), then_none, None));
     }
     for bytes in [28_671, 28_672, 28_673] {
         let content = vec![0xAA; bytes - 3];

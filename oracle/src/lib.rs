@@ -19,3 +19,4 @@ pub mod reduce;
 pub mod reference;
 pub mod series;
 pub mod tree;
+pub mod walk;
