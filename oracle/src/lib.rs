@@ -10,6 +10,7 @@ pub mod enumerate;
 pub mod generate;
 pub mod hex;
 pub mod image;
+pub mod inputs;
 pub mod node;
 pub mod pairs;
 pub mod port;

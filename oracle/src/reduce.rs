@@ -1,9 +1,15 @@
 //! A smaller series that still differs.
+use std::time::{Duration, Instant};
+
 use crate::node::{Body, Node};
 use crate::series::Call;
 
-/// Drops calls, then fields of the last tree, as long as `differs` holds.
+/// How long fields are dropped.
+const PATIENCE: Duration = Duration::from_secs(5);
+
+/// Drops calls, then fields of the trees, as long as `differs` holds.
 pub fn reduce(calls: &[Call], differs: &mut dyn FnMut(&[Call]) -> bool) -> Vec<Call> {
+    let end = Instant::now() + PATIENCE;
     let mut best = calls.to_vec();
     let mut at = 0;
     while at + 1 < best.len() {
@@ -15,8 +21,8 @@ pub fn reduce(calls: &[Call], differs: &mut dyn FnMut(&[Call]) -> bool) -> Vec<C
             at += 1;
         }
     }
-    for last in 0..best.len() {
-        shrink(&mut best, last, differs);
+    for at in (0..best.len()).rev() {
+        shrink(&mut best, at, end, differs);
     }
     best
 }
@@ -40,18 +46,16 @@ fn children(node: Option<&mut Node>) -> usize {
     }
 }
 
-fn shrink(best: &mut Vec<Call>, at: usize, differs: &mut dyn FnMut(&[Call]) -> bool) {
-    let mut tries = 5000;
+fn shrink(best: &mut Vec<Call>, at: usize, end: Instant, differs: &mut dyn FnMut(&[Call]) -> bool) {
     'again: while let Some(tree) = Node::parse(&best[at].tree) {
         for candidate in smaller(&tree) {
-            tries -= 1;
             let mut fewer = best.clone();
             fewer[at].tree = candidate.bytes();
             if differs(&fewer) {
                 *best = fewer;
                 continue 'again;
             }
-            if tries <= 0 {
+            if Instant::now() > end {
                 return;
             }
         }

@@ -54,6 +54,9 @@ impl Run {
 
     fn edges(&mut self) {
         for edge in edges::all() {
+            if self.over() {
+                return;
+            }
             let calls: Vec<_> = edge.trees.into_iter().map(Call::full).collect();
             let before = self.both.counts.clone();
             self.series(&edge.name, &calls);
