@@ -1,0 +1,181 @@
+//! Runs the Rust and the proved compiler on the same series and compares them. See README.md.
+use std::collections::HashMap;
+use std::process::ExitCode;
+use std::time::{Duration, Instant};
+
+use oracle::check::Both;
+use oracle::hex::hex;
+use oracle::pairs::{twin, Pair};
+use oracle::series::Call;
+use oracle::{cases, draw, edges, enumerate, reduce, reference};
+
+/// Differences after which a run ends.
+const ENOUGH: u64 = 10;
+
+const USAGE: &str = "compare [cases] [seed=N] [trees=N] [pairs=N] [short=N] [fields=N] [seconds=N] [bytes=N]";
+
+/// A run: what it has compared so far.
+struct Run {
+    both: Both,
+    pair: Pair,
+    pairs: u64,
+    differ: u64,
+    until: Instant,
+}
+
+impl Run {
+    fn new(seconds: u64) -> Run {
+        let until = Instant::now() + Duration::from_secs(seconds);
+        Run { both: Both::default(), pair: Pair::default(), pairs: 0, differ: 0, until }
+    }
+
+    fn over(&self) -> bool {
+        self.differ >= ENOUGH || Instant::now() >= self.until
+    }
+
+    fn report(&mut self, what: &str, text: &str, calls: &[Call]) {
+        self.differ += 1;
+        println!("differ: {what}: {text}");
+        for call in calls {
+            println!("  {} {:?}", hex(&call.tree), call.lending);
+        }
+    }
+
+    /// One series on both sides.
+    fn series(&mut self, what: &str, calls: &[Call]) {
+        let Err((at, text)) = self.both.series(calls) else { return };
+        let mut both = Both::default();
+        let small = reduce::reduce(&calls[..=at], &mut |calls| both.series(calls).is_err());
+        self.report(what, &text, &small);
+        if let Err((_, text)) = both.series(&small) {
+            println!("  {text}");
+        }
+    }
+
+    fn edges(&mut self) {
+        for edge in edges::all() {
+            if self.over() {
+                return;
+            }
+            let calls: Vec<_> = edge.trees.into_iter().map(Call::full).collect();
+            let before = self.both.counts.clone();
+            self.series(&edge.name, &calls);
+            let after = &self.both.counts;
+            let kept = match edge.number {
+                None => after.accepted > before.accepted,
+                Some(n) => after.refused[n] + after.limits[n] > before.refused[n] + before.limits[n],
+            };
+            if !kept {
+                self.report(&edge.name, &format!("due is {:?}", edge.number), &calls);
+            }
+        }
+    }
+
+    fn short(&mut self, most: usize, fields: usize) {
+        if most > 0 {
+            let all = enumerate::strings(1).count();
+            let mut calls = enumerate::strings(all.div_ceil(most)).map(Call::full);
+            loop {
+                let group: Vec<_> = calls.by_ref().take(100).collect();
+                if group.is_empty() || self.over() {
+                    break;
+                }
+                self.series("short strings", &group);
+            }
+        }
+        for tree in enumerate::trees(fields) {
+            if self.over() {
+                return;
+            }
+            self.series("few fields", &[Call::full(tree)]);
+        }
+    }
+
+    /// Random series until so many trees are compared.
+    fn random(&mut self, seed: u64, trees: u64) {
+        let mut number = 0;
+        let end = self.both.counts.trees + trees;
+        while self.both.counts.trees < end && !self.over() {
+            let calls = draw::series(&mut draw::numbered(seed, number));
+            self.series(&format!("seed {seed}, series {number}"), &calls);
+            number += 1;
+        }
+    }
+
+    /// Pairs of alike series until so many pairs of trees are compared; the second of each with the Rust too.
+    fn alike(&mut self, seed: u64, pairs: u64) {
+        let mut number = 0;
+        while self.pairs < pairs && !self.over() {
+            let mut random = draw::numbered(!seed, number);
+            let first = draw::series(&mut random);
+            let second = twin(&first, &mut random);
+            let what = format!("seed {seed}, pair {number}");
+            if let Err((at, text)) = self.pair.series(&first, &second) {
+                self.report(&what, &text, &first[..=at]);
+                self.report(&what, "its twin", &second[..=at]);
+            }
+            self.series(&what, &second);
+            self.pairs += first.len() as u64;
+            number += 1;
+        }
+    }
+
+    fn summary(&self) {
+        let counts = &self.both.counts;
+        let listed = |numbers: &[u64]| {
+            let some = numbers.iter().enumerate().filter(|(_, n)| **n > 0);
+            some.map(|(number, n)| format!("{number} {n}")).collect::<Vec<_>>().join(", ")
+        };
+        println!(
+            "compared {} trees: accepted {}, refused {}; own limits {}; damaged images {}; pairs {}; differ {}",
+            counts.trees,
+            counts.accepted,
+            listed(&counts.refused),
+            listed(&counts.limits),
+            counts.images,
+            self.pairs,
+            self.differ
+        );
+    }
+}
+
+fn run(words: &[String]) -> bool {
+    let mut options = HashMap::from([
+        ("seed", 1),
+        ("trees", 100_000),
+        ("pairs", 20_000),
+        ("short", 50_000),
+        ("fields", 3),
+        ("seconds", 600),
+        ("bytes", 150_000),
+    ]);
+    let writes_cases = words.first().is_some_and(|w| w == "cases");
+    for word in &words[usize::from(writes_cases)..] {
+        let pair = word.split_once('=').and_then(|(key, n)| Some((options.get_mut(key)?, n.parse().ok()?)));
+        let Some((option, value)) = pair else {
+            eprintln!("{USAGE}");
+            return false;
+        };
+        *option = value;
+    }
+    if writes_cases {
+        return cases::write(options["seed"], options["bytes"] as usize);
+    }
+    let mut run = Run::new(options["seconds"]);
+    run.edges();
+    run.short(options["short"] as usize, options["fields"] as usize);
+    run.random(options["seed"], options["trees"]);
+    run.alike(options["seed"], options["pairs"]);
+    run.summary();
+    run.differ == 0
+}
+
+fn main() -> ExitCode {
+    reference::record_panics();
+    let words: Vec<_> = std::env::args().skip(1).collect();
+    let thread = std::thread::Builder::new().stack_size(4 << 30).spawn(move || run(&words));
+    match thread.expect("a thread").join() {
+        Ok(true) => ExitCode::SUCCESS,
+        _ => ExitCode::FAILURE,
+    }
+}

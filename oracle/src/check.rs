@@ -1,0 +1,287 @@
+//! The comparison of one series: the Rust and the proved compiler, call by call.
+use crate::image;
+use crate::port::{self, Answer};
+use crate::random::Random;
+use crate::read::{self, Reading};
+use crate::reference::{self, Accepted, Outcome, State};
+use crate::series::{padded, Call, Lent};
+use crate::walk;
+
+/// How often each outcome was compared.
+#[derive(Default, Clone)]
+pub struct Counts {
+    pub trees: u64,
+    pub accepted: u64,
+    /// By number, where the Rust or reading decides.
+    pub refused: [u64; 18],
+    /// By number, where a limit of the port decides.
+    pub limits: [u64; 18],
+    pub images: u64,
+}
+
+/// Both sides in the middle of a series.
+pub struct Both {
+    lent: Lent,
+    state: State,
+    session: Vec<u8>,
+    pub counts: Counts,
+    damage: Random,
+}
+
+type Compared = Result<(), String>;
+
+/// What the Rust has added by its end, against the session's limits.
+struct Added {
+    definitions: usize,
+    constants: usize,
+    pool: usize,
+}
+
+impl Added {
+    fn new(definitions: usize, list: &[crate::evaluator::objects::Object]) -> Self {
+        Added { definitions, constants: list.len(), pool: reference::constants(list).len() }
+    }
+
+    fn too_many_globals(&self) -> bool {
+        self.definitions > 1024
+    }
+
+    fn pool_passed(&self) -> bool {
+        self.constants > 4096 || self.pool > 28_672
+    }
+}
+
+/// The tags of the fields at which a number's place may lie.
+fn place_tags(number: usize) -> &'static [u8] {
+    match number {
+        5 | 10 => &[0x20],
+        6 => &[0x21, 0x22],
+        7 => &[0x2C],
+        8 => &[0x24, 0x25],
+        9 | 11 => &[0x13],
+        12 => &[0x24, 0x26, 0x28],
+        14 => &[0x24],
+        _ => &[0x11, 0x13, 0x14, 0x20, 0x21, 0x22, 0x23, 0x24, 0x25, 0x26, 0x27, 0x28, 0x29, 0x2A, 0x2B],
+    }
+}
+
+/// Whether the field at the place is one that the number names, and the one that the Rust's message names.
+fn place_fits(tree: &[u8], number: usize, place: usize, message: &str) -> bool {
+    if !tree.get(place).is_some_and(|tag| place_tags(number).contains(tag)) {
+        return false;
+    }
+    let length = usize::from(u16::from_be_bytes([tree[place + 1], tree[place + 2]]));
+    let content = &tree[place + 3..place + 3 + length];
+    match (number, message.strip_prefix("err undefined variable ")) {
+        (5, Some(name)) => crate::tree::to_string(content) == name.to_string(),
+        _ => true,
+    }
+}
+
+impl Default for Both {
+    fn default() -> Self {
+        let (lent, state) = (Lent::default(), State::fresh());
+        Both { lent, state, session: Vec::new(), counts: Counts::default(), damage: Random::new(17) }
+    }
+}
+
+impl Both {
+    /// Both sides afresh.
+    pub fn begin(&mut self) -> Compared {
+        self.state = State::fresh();
+        self.session = padded(&self.state.session());
+        self.lent.make()
+    }
+
+    /// A whole series; at a difference the number of the call and what differs.
+    pub fn series(&mut self, calls: &[Call]) -> Result<(), (usize, String)> {
+        self.begin().map_err(|text| (0, text))?;
+        for (i, call) in calls.iter().enumerate() {
+            self.call(call).map_err(|text| (i, text))?;
+        }
+        Ok(())
+    }
+
+    /// The output that is lent.
+    pub fn output(&self) -> &[u8] {
+        &self.lent.output
+    }
+
+    /// The session that the Rust's state makes.
+    pub fn reference_session(&self) -> Vec<u8> {
+        self.state.session()
+    }
+
+    /// One call on both sides; the answer that both give.
+    pub fn call(&mut self, call: &Call) -> Result<Answer, String> {
+        let answer = self.lent.call(&call.tree, &call.lending)?;
+        self.counts.trees += 1;
+        self.judge(call, answer)?;
+        Ok(answer)
+    }
+
+    fn judge(&mut self, call: &Call, answer: Answer) -> Compared {
+        if call.lending.short() {
+            self.limit(answer, 1, 0)?;
+            return self.unchanged();
+        }
+        let reading = read::tree(&call.tree);
+        let outcome = reference::compile(&self.state, &call.tree);
+        if matches!(outcome, Outcome::BadTree) != reading.bad.is_some() {
+            return Err("the two readings of the tree differ".into());
+        }
+        match (reading.refused(), outcome) {
+            (Some((3, place)), _) => {
+                self.expect(answer, Answer::Refused(3, place))?;
+                self.counts.refused[3] += 1;
+                self.unchanged()
+            }
+            (Some((number, place)), _) => {
+                self.limit(answer, number, place)?;
+                self.unchanged()
+            }
+            (None, outcome) => {
+                self.placed(call, answer)?;
+                self.walked(call, &reading, answer, outcome)
+            }
+        }
+    }
+
+    /// A tree that reads well, against the Rust.
+    fn walked(&mut self, call: &Call, reading: &Reading, answer: Answer, outcome: Outcome) -> Compared {
+        match outcome {
+            Outcome::Accepted(accepted) => self.accepted(call, reading, answer, accepted),
+            Outcome::Refused { message, definitions, constants } => {
+                let added = Added::new(definitions, &constants);
+                self.refused(call, reading, answer, &message, &added)
+            }
+            Outcome::BadTree => unreachable!("reading refuses it"),
+        }
+    }
+
+    /// Number and place of the walk's refusal, against the reading in walk.rs.
+    fn placed(&self, call: &Call, answer: Answer) -> Compared {
+        match (walk::refusal(&self.state, &call.tree), answer) {
+            (Some((number, place)), _) => self.expect(answer, Answer::Refused(number, place)),
+            (None, Answer::Length(_) | Answer::Refused(15, 0)) => Ok(()),
+            (None, _) => Err(format!("{answer:?}, but no refusal of the walk is due")),
+        }
+    }
+
+    fn expect(&self, answer: Answer, expected: Answer) -> Compared {
+        if answer == expected { Ok(()) } else { Err(format!("{answer:?}, but {expected:?} is due")) }
+    }
+
+    /// A refusal by the port's own limit, whose place is known.
+    fn limit(&mut self, answer: Answer, number: usize, place: usize) -> Compared {
+        self.expect(answer, Answer::Refused(number, place))?;
+        self.counts.limits[number] += 1;
+        Ok(())
+    }
+
+    /// After a refusal: the session as before (output and work areas were seen to by `Lent::call`).
+    fn unchanged(&self) -> Compared {
+        if self.lent.session_bytes() == self.session { Ok(()) } else { Err("a refusal changed the session".into()) }
+    }
+
+    /// Whether one of the walk's limits (11 to 14) decided; then that it may.
+    fn walk_limit(&mut self, call: &Call, reading: &Reading, answer: Answer, added: &Added) -> Result<bool, String> {
+        let passed = added.too_many_globals() || added.pool_passed();
+        let (number, place) = match answer {
+            Answer::Refused(number @ 11..=14, place) => (number, place),
+            _ if passed => return Err(format!("{answer:?}, but globals or pool pass a limit")),
+            _ => return Ok(false),
+        };
+        let may = match number {
+            11 => added.too_many_globals(),
+            12 => added.pool_passed(),
+            13 => reading.emission > 32_768,
+            _ => reading.nesting > 16,
+        };
+        if !may || !place_fits(&call.tree, number, place, "") {
+            return Err(format!("{answer:?}, but that limit is not passed or its place is another field"));
+        }
+        self.counts.limits[number] += 1;
+        self.unchanged()?;
+        Ok(true)
+    }
+
+    fn refused(&mut self, call: &Call, reading: &Reading, answer: Answer, message: &str, added: &Added) -> Compared {
+        if self.walk_limit(call, reading, answer, added)? {
+            return Ok(());
+        }
+        let due = reference::number(message);
+        match answer {
+            Answer::Refused(number, place) if number == due && place_fits(&call.tree, number, place, message) => {
+                self.counts.refused[number] += 1;
+                self.unchanged()
+            }
+            _ => Err(format!("{answer:?}, but the Rust says: {message} (number {due})")),
+        }
+    }
+
+    fn accepted(&mut self, call: &Call, reading: &Reading, answer: Answer, accepted: Accepted) -> Compared {
+        let added = Added::new(accepted.state.names.len(), &accepted.state.constants);
+        if self.walk_limit(call, reading, answer, &added)? {
+            return Ok(());
+        }
+        if reading.nesting > 16 || accepted.code.len() > 32_768 {
+            return Err(format!("{answer:?}, but nesting or code passes a limit"));
+        }
+        let image = accepted.image();
+        if image.len() > call.lending.output {
+            self.limit(answer, 15, 0)?;
+            return self.unchanged();
+        }
+        self.expect(answer, Answer::Length(image.len()))?;
+        if self.lent.output[..image.len()] != image {
+            return Err(format!("the images differ; the Rust's is {}", crate::hex::hex(&image)));
+        }
+        self.names(&accepted)?;
+        self.state = accepted.state;
+        self.session = padded(&self.state.session());
+        if self.lent.session_bytes() != self.session {
+            return Err(format!("the sessions differ; the Rust's is {}", crate::hex::hex(&self.state.session())));
+        }
+        self.counts.accepted += 1;
+        self.image(image)
+    }
+
+    /// The names of this tree stand in the Rust's own table where the session has them.
+    fn names(&self, accepted: &Accepted) -> Compared {
+        let names = &accepted.state.names;
+        let mut table = accepted.state.table.clone();
+        if names.len() != usize::from(table.num_definitions) {
+            return Err("the Rust has another number of definitions".into());
+        }
+        for name in &names[self.state.names.len()..] {
+            let latest = names.iter().rposition(|n| n == name);
+            if reference::global_index(&mut table, name) != latest {
+                return Err(format!("the Rust has another index for {name:?}"));
+            }
+        }
+        Ok(())
+    }
+
+    /// The image check on the image, and on a damaged copy of it.
+    fn image(&mut self, mut image: Vec<u8>) -> Compared {
+        self.expect(port::check_image(&image), Answer::Length(0))?;
+        if image.len() > 600 {
+            return Ok(());
+        }
+        let at = self.damage.below(image.len());
+        match self.damage.below(4) {
+            0 => image.truncate(at),
+            1 => image.insert(at, self.damage.next() as u8),
+            2 => image[at] = self.damage.below(0x20) as u8,
+            _ => image[at] = self.damage.next() as u8,
+        }
+        let due = match image::check(&image) {
+            Ok(_) => Answer::Length(0),
+            Err(image::Wrong(place)) => Answer::Refused(17, place),
+        };
+        self.counts.images += 1;
+        let text = |e| format!("image check of {}: {e}", crate::hex::hex(&image));
+        self.expect(port::check_image(&image), due).map_err(text)
+    }
+}

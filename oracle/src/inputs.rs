@@ -1,0 +1,146 @@
+//! The benchmark's inputs: a tree, and the trees that filled its session before.
+use crate::node::{self, Node};
+
+pub struct Input {
+    pub name: String,
+    pub before: Vec<Vec<u8>>,
+    pub tree: Vec<u8>,
+}
+
+fn input(name: String, before: Vec<Vec<u8>>, statements: Vec<Node>) -> Input {
+    Input { name, before, tree: node::program(statements).bytes() }
+}
+
+fn id(name: &str) -> Node {
+    node::identifier(name.as_bytes())
+}
+
+fn infix(left: Node, operator: u8, right: Node) -> Node {
+    node::infix(left, operator, right)
+}
+
+fn names(list: &[&str]) -> Vec<Vec<u8>> {
+    list.iter().map(|n| n.as_bytes().to_vec()).collect()
+}
+
+/// A profile as makers write them: a dead zone, a gain, a limit, and their use.
+fn profile() -> Vec<Node> {
+    let (plus, minus, times, over, less, more) = (1, 2, 4, 5, 8, 9);
+    let limit = node::if_expr(
+        infix(id("v"), more, id("m")),
+        vec![node::expr_stmt(id("m"))],
+        Some(vec![node::expr_stmt(id("v"))]),
+    );
+    let scaled = infix(infix(infix(id("x"), minus, id("dead")), times, id("gain")), over, node::integer(100));
+    let speed = node::if_expr(
+        infix(id("x"), less, id("dead")),
+        vec![node::expr_stmt(node::integer(0))],
+        Some(vec![node::expr_stmt(node::call(id("limit"), vec![scaled, node::integer(60)]))]),
+    );
+    vec![
+        node::let_stmt(b"dead", node::integer(5)),
+        node::let_stmt(b"gain", node::integer(80)),
+        node::let_stmt(b"limit", node::function(b"limit", &names(&["v", "m"]), vec![node::expr_stmt(limit)])),
+        node::let_stmt(b"speed", node::function(b"speed", &names(&["x"]), vec![node::expr_stmt(speed)])),
+        node::expr_stmt(infix(node::call(id("speed"), vec![node::integer(40)]), plus, node::integer(1))),
+    ]
+}
+
+/// Four functions in one another; the innermost adds a name of each.
+fn closure(number: usize) -> Node {
+    let sum = ["b", "c", "d"].iter().fold(id("a"), |left, name| infix(left, 1, id(name)));
+    let inner = ["d", "c", "b"].iter().fold(node::expr_stmt(sum), |body, name| {
+        node::expr_stmt(node::function(b"", &names(&[name]), vec![body]))
+    });
+    let name = format!("f{}", number % 100);
+    node::let_stmt(name.as_bytes(), node::function(name.as_bytes(), &names(&["a"]), vec![inner]))
+}
+
+/// An array of 32 integers and some booleans.
+fn numbers(number: usize) -> Node {
+    let integers = (0..32).map(|n| node::integer((number * 32 + n) as i64));
+    node::expr_stmt(node::array(integers.chain((0..12).map(|n| node::boolean(n % 2 == 0))).collect()))
+}
+
+/// A global whose value adds two globals.
+fn global(number: usize) -> Node {
+    let (a, b) = (number / 2, number / 3);
+    node::let_stmt(format!("v{number}").as_bytes(), infix(id(&format!("v{a}")), 1, id(&format!("v{b}"))))
+}
+
+fn long_string(number: usize) -> Node {
+    node::expr_stmt(node::string(&vec![b'a' + (number % 26) as u8; 1000]))
+}
+
+fn decision(number: usize) -> Node {
+    let then = vec![node::expr_stmt(node::boolean(true))];
+    let other = node::if_expr(node::boolean(false), then.clone(), None);
+    let value = node::if_expr(node::prefix(3, node::boolean(number % 2 == 0)), then, Some(vec![node::expr_stmt(other)]));
+    node::expr_stmt(value)
+}
+
+/// As many of these statements as the tree has room for, and of strings the pool.
+fn filled(bytes: usize, statement: fn(usize) -> Node) -> Vec<Node> {
+    let mut length = 3;
+    let fits = |s: &Node| {
+        length += s.bytes().len();
+        length <= bytes
+    };
+    (0..).map(statement).take_while(fits).collect()
+}
+
+fn global_names(count: usize) -> Vec<Vec<u8>> {
+    (0..count).map(|n| format!("global_{n}").into_bytes()).collect()
+}
+
+fn defining(names: &[Vec<u8>]) -> Vec<u8> {
+    node::program(names.iter().map(|n| node::let_stmt(n, node::array(Vec::new()))).collect()).bytes()
+}
+
+/// Sessions that are full: names, and a pool of 28,672 bytes.
+fn full_session() -> Vec<Input> {
+    let strings = (0..28).map(|_| node::expr_stmt(node::string(&[0x61; 1021]))).collect();
+    let before = vec![defining(&global_names(1000)), node::program(strings).bytes()];
+    let uses = |step: usize| (0..1000).step_by(step).map(|n| node::expr_stmt(id(&format!("global_{n}")))).collect();
+    vec![
+        input("full session, 20 identifiers".into(), before.clone(), uses(50)),
+        input("full session, empty tree".into(), before, Vec::new()),
+    ]
+}
+
+/// Lookups of 1,024 globals, from main and below 16 functions of 255 parameters each.
+fn lookups() -> Vec<Input> {
+    let globals = global_names(1024);
+    let all = |count: usize| node::expr_stmt(node::array((0..count).map(|n| node::identifier(&globals[n * 7 % 1024])).collect()));
+    let params: Vec<_> = (0..255u8).map(|n| vec![b'p', n]).collect();
+    let nested = |inner, _| vec![node::expr_stmt(node::function(b"", &params, inner))];
+    vec![
+        input("1,024 globals, 2,100 identifiers".into(), vec![defining(&globals)], vec![all(2100)]),
+        input(
+            "1,024 globals, 16 functions of 255 parameters open, 700 identifiers".into(),
+            vec![defining(&globals)],
+            (0..16).fold(vec![all(700)], nested),
+        ),
+    ]
+}
+
+/// All inputs.
+pub fn all() -> Vec<Input> {
+    let flavours: [(&str, fn(usize) -> Node); 5] = [
+        ("closures", closure),
+        ("arrays", numbers),
+        ("globals and identifiers", global),
+        ("strings", long_string),
+        ("branches", decision),
+    ];
+    let mut list = vec![input("empty tree".into(), Vec::new(), Vec::new()), input("typical profile".into(), Vec::new(), profile())];
+    for (size, bytes) in [("4 KB", 4_096), ("30 KB", 30_000)] {
+        for (name, statement) in flavours {
+            let bytes = if name == "strings" { bytes.min(28_300) } else { bytes };
+            list.push(input(format!("{size} of {name}"), Vec::new(), filled(bytes, statement)));
+        }
+    }
+    list.extend(full_session());
+    list.extend(lookups());
+    list
+}

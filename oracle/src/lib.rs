@@ -1,0 +1,23 @@
+//! The published Rust compiler, unchanged, beside the proved one. See README.md.
+include!(concat!(env!("OUT_DIR"), "/monkey/lib.rs"));
+
+pub mod cases;
+pub mod check;
+pub mod damage;
+pub mod draw;
+pub mod edges;
+pub mod enumerate;
+pub mod generate;
+pub mod hex;
+pub mod image;
+pub mod inputs;
+pub mod node;
+pub mod pairs;
+pub mod port;
+pub mod random;
+pub mod read;
+pub mod reduce;
+pub mod reference;
+pub mod series;
+pub mod tree;
+pub mod walk;

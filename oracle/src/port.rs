@@ -1,0 +1,59 @@
+//! The proved compiler, through the functions that it exports.
+
+pub const SESSION_SIZE: usize = 65_536;
+pub const CODE_SIZE: usize = 32_768;
+pub const TABLE_SIZE: usize = 16_384;
+
+extern "C" {
+    fn monkey_make_session(session: *mut u8, session_length: usize) -> u64;
+    fn monkey_compile(
+        session: *mut u8,
+        session_length: usize,
+        tree: *const u8,
+        tree_length: usize,
+        output: *mut u8,
+        output_length: usize,
+        code: *mut u8,
+        code_length: usize,
+        table: *mut u32,
+        table_length: usize,
+    ) -> u64;
+    fn monkey_check_image(image: *const u8, image_length: usize) -> u64;
+}
+
+/// What a call answers.
+#[derive(Clone, Copy, Debug, PartialEq, Eq)]
+pub enum Answer {
+    Length(usize),
+    Refused(usize, usize),
+}
+
+fn unpack(answer: u64) -> Answer {
+    let (high, low) = ((answer >> 32) as usize, (answer & 0xffff_ffff) as usize);
+    if high == 0 { Answer::Length(low) } else { Answer::Refused(high, low) }
+}
+
+pub fn make_session(session: &mut [u8]) -> Answer {
+    unpack(unsafe { monkey_make_session(session.as_mut_ptr(), session.len()) })
+}
+
+pub fn compile(session: &mut [u8], tree: &[u8], output: &mut [u8], code: &mut [u8], table: &mut [u32]) -> Answer {
+    unpack(unsafe {
+        monkey_compile(
+            session.as_mut_ptr(),
+            session.len(),
+            tree.as_ptr(),
+            tree.len(),
+            output.as_mut_ptr(),
+            output.len(),
+            code.as_mut_ptr(),
+            code.len(),
+            table.as_mut_ptr(),
+            table.len(),
+        )
+    })
+}
+
+pub fn check_image(image: &[u8]) -> Answer {
+    unpack(unsafe { monkey_check_image(image.as_ptr(), image.len()) })
+}
