@@ -1,7 +1,7 @@
 // The listing of an image as text.
-pub mod code;
-pub mod pool;
-pub mod text;
+mod code;
+mod pool;
+mod text;
 
 use bytecode::ImageCheck;
 use bytecode::check_image;
