@@ -1,4 +1,4 @@
-/* Compiles two profiles in one session, checks their images, and shows refusals. examples/run compares what it prints. */
+/* Compiles two profiles in one session, checks and lists their images, and shows refusals. examples/run compares what it prints. */
 #include <stdio.h>
 #include <string.h>
 
@@ -49,6 +49,7 @@ static uint8_t session[MONKEY_SESSION_SIZE];
 static uint8_t output[MONKEY_IMAGE_LIMIT];
 static uint8_t code[MONKEY_CODE_SIZE];
 static uint32_t table[MONKEY_TABLE_SIZE];
+static uint8_t text[65536];
 
 /* Prints an answer: a length, or a refusal with its place. */
 static void print_answer(const char *what, uint64_t answer) {
@@ -59,9 +60,12 @@ static void print_answer(const char *what, uint64_t answer) {
     }
 }
 
-static void print_bytes(const uint8_t *bytes, size_t length) {
-    for (size_t i = 0; i < length; i++) {
-        printf("%02x%c", bytes[i], i % 16 == 15 || i + 1 == length ? '\n' : ' ');
+/* Lists an image. */
+static void list(const uint8_t *image, size_t length) {
+    uint64_t answer = monkey_list_image(image, length, text, sizeof text);
+    print_answer("listing", answer);
+    if (monkey_number(answer) == 0) {
+        fwrite(text, 1, monkey_value(answer), stdout);
     }
 }
 
@@ -69,13 +73,13 @@ static uint64_t compile(const uint8_t *tree, size_t length) {
     return monkey_compile(session, sizeof session, tree, length, output, sizeof output, code, sizeof code, table, MONKEY_TABLE_SIZE);
 }
 
-/* Compiles a tree, and checks and prints its image. */
+/* Compiles a tree, and checks and lists its image. */
 static void show(const char *what, const uint8_t *tree, size_t length) {
     uint64_t answer = compile(tree, length);
     print_answer(what, answer);
     if (monkey_number(answer) == 0) {
         print_answer("image", monkey_check_image(output, monkey_value(answer)));
-        print_bytes(output, monkey_value(answer));
+        list(output, monkey_value(answer));
     }
 }
 
@@ -92,7 +96,9 @@ int main(void) {
     show("cut", limit, sizeof limit - 1);
     printf("session as it was: %s\n", memcmp(before, session, sizeof session) == 0 ? "yes" : "no");
 
+    print_answer("listing too long", monkey_list_image(output, 68, text, 10));
     output[7] = 0xff; /* where limit's image has its second instruction */
     print_answer("damaged image", monkey_check_image(output, 68));
+    list(output, 68);
     return 0;
 }

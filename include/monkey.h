@@ -6,11 +6,12 @@
  *   No pointer is null, also where the length is 0; a table area is aligned as a uint32_t.
  *   No two buffers of one call overlap, and nothing else reads or writes them while it runs.
  *   The functions keep nothing of their own between calls and use no heap, so that threads may call them on buffers of their own.
+ *   A call takes up to 100,000 bytes of stack (measured on trees of 64 levels).
  *
  * Answers
  *   Each function answers one 64-bit number. Where the high half is 0, the low half is a length, of what was written. Otherwise the
  *   call was refused: the high half is the number of the refusal, 1 to 17, the low half its place, an offset.
- *   monkey_number and monkey_value take the halves. No answer is left out, whatever the bytes in the buffers.
+ *   monkey_number and monkey_value take the halves. Every call ends with an answer, whatever bytes the buffers hold.
  */
 #ifndef MONKEY_H
 #define MONKEY_H
@@ -28,7 +29,8 @@ enum {
     MONKEY_CODE_SIZE = 32768,    /* bytes of the code area */
     MONKEY_TABLE_SIZE = 16384,   /* 32-bit numbers of the table area */
     MONKEY_TREE_LIMIT = 32768,   /* bytes of the longest tree */
-    MONKEY_IMAGE_LIMIT = 61446   /* bytes of the longest image: 6, and 32,768 of main code, and 28,672 of pool */
+    MONKEY_IMAGE_LIMIT = 61446,  /* bytes of the longest image: 6, and 32,768 of main code, and 28,672 of pool */
+    MONKEY_LISTING_LIMIT = 6144100 /* no listing has more bytes; most have far fewer */
 };
 
 /* The numbers of refusals. The place is an offset in the tree, 0 where none is named here. */
@@ -82,6 +84,13 @@ uint64_t monkey_compile(uint8_t *session, size_t session_length,
  * Checks an image: 0 where it is sound, or 17 and the place. The length is the image's own: bytes that follow it are refused.
  */
 uint64_t monkey_check_image(const uint8_t *image, size_t image_length);
+
+/*
+ * Lists an image as text: the answer is the listing's length, and the text stands at the front of the output, each line ended by 0A and no
+ * 0 behind the last. The other bytes of the output stay as they were.
+ *   Refused, and the output is as it was: 17 as by monkey_check_image; then 15, where the listing is longer than the output.
+ */
+uint64_t monkey_list_image(const uint8_t *image, size_t image_length, uint8_t *output, size_t output_length);
 
 #ifdef __cplusplus
 }

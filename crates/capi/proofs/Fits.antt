@@ -8,12 +8,14 @@ use Rattle.definition.specs.Limit.{sessionSize, imageLimit}
 use Rattle.definition.specs.Bytecode.{Image}
 use Rattle.definition.specs.Decode.{Decoded, decoded, malformed, readImage}
 use Rattle.definition.specs.Call.{Lent, call, made}
+use Rattle.definition.specs.Listing.{listAnswer}
 use Rattle.definition.specs.Valid.{AreBytes}
 use Rattle.definition.specs.declared.Refusal.{Refusal}
 use Rattle.definition.specs.declared.Answer.{Answer}
 use Rattle.definition.specs.declared.Answer.the-variants.{Length, Refused}
 use Rattle.definition.proofs.Places.{Within, made-within, call-within-limit}
 use Rattle.definition.proofs.ImagePlaces.{image-place}
+use Rattle.definition.proofs.ListingLength.{list-within}
 use Rattle.bytecode.specs.Checked.{imageAnswer}
 use Rattle.capi.specs.Packed.{halfBound, packed, Fits, Packs, checkAnswer}
 
@@ -56,3 +58,6 @@ image-fits b = go (readImage b) (image-place b)
     go : (d : Decoded Image) → ((p : ℕ) → d ≡ malformed p → p ≤ imageLimit) → Fits (checkAnswer (imageAnswer d))
     go (decoded m n) h = record { number = omega arith; value = omega arith }
     go (malformed p) h = record { number = omega arith; value = omega (arith, h p refl) }
+
+pub list-fits : (b : Bytes) → AreBytes b → (room : ℕ) → Fits (listAnswer (readImage b) room)
+list-fits b a room = within-fits (omega arith) (omega arith) (omega arith) (list-within b a room)

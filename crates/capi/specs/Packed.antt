@@ -1,9 +1,11 @@
 -- Answers as one 64-bit number, and what the exported functions promise.
 use Prim.Native.Nat.{ℕ, _+_, _*_, _/_, _%_, _<_}
 use mathlib.Core.Path.{_≡_}
+use lib.ListN.{length}
 use Rattle.definition.specs.Basic.{Bytes}
 use Rattle.definition.specs.Decode.{readImage}
 use Rattle.definition.specs.Call.{Lent, call, made}
+use Rattle.definition.specs.Listing.{listAnswer, listInto}
 use Rattle.definition.specs.declared.Answer.{Answer}
 use Rattle.definition.specs.declared.Answer.the-variants.{Length, Refused}
 use Rattle.bytecode.specs.Checked.{imageAnswer}
@@ -57,3 +59,8 @@ pub record CompilesPacked (tree : Bytes) (l : Lent) (r : ℕ) (l′ : Lent) : Ty
 -- checking an image: the answer is the definition's
 pub record ChecksPacked (image : Bytes) (r : ℕ) : Type 0 where
   pub answer : Packs (checkAnswer (imageAnswer (readImage image))) r
+
+-- listing an image: answer and output are the definition's
+pub record ListsPacked (image o : Bytes) (r : ℕ) (o′ : Bytes) : Type 0 where
+  pub answer : Packs (listAnswer (readImage image) (length o)) r
+  pub output : o′ ≡ listInto (readImage image) o
