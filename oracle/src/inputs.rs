@@ -1,5 +1,9 @@
 //! The benchmark's inputs: a tree, and the trees that filled its session before.
-use crate::node::{self, Node};
+use crate::node::{self, Body, Node};
+use crate::tree::to_string;
+
+/// The input whose identifiers are all globals, looked up from main.
+pub const GLOBALS: &str = "1,024 globals, 2,100 identifiers";
 
 pub struct Input {
     pub name: String,
@@ -115,13 +119,27 @@ fn lookups() -> Vec<Input> {
     let params: Vec<_> = (0..255u8).map(|n| vec![b'p', n]).collect();
     let nested = |inner, _| vec![node::expr_stmt(node::function(b"", &params, inner))];
     vec![
-        input("1,024 globals, 2,100 identifiers".into(), vec![defining(&globals)], vec![all(2100)]),
+        input(GLOBALS.into(), vec![defining(&globals)], vec![all(2100)]),
         input(
             "1,024 globals, 16 functions of 255 parameters open, 700 identifiers".into(),
             vec![defining(&globals)],
             (0..16).fold(vec![all(700)], nested),
         ),
     ]
+}
+
+/// The names of a tree's identifiers, in the order of the bytes.
+pub fn identifiers(tree: &[u8]) -> Vec<String> {
+    fn add(node: &Node, names: &mut Vec<String>) {
+        match &node.body {
+            Body::Bytes(bytes) if node.tag == 0x20 => names.push(to_string(bytes)),
+            Body::Bytes(_) => {}
+            Body::Children(children) => children.iter().for_each(|c| add(c, names)),
+        }
+    }
+    let mut names = Vec::new();
+    Node::parse(tree).iter().for_each(|node| add(node, &mut names));
+    names
 }
 
 /// All inputs.
