@@ -53,9 +53,9 @@ fn profile() -> Vec<Node> {
 /// Four functions in one another; the innermost adds a name of each.
 fn closure(number: usize) -> Node {
     let sum = ["b", "c", "d"].iter().fold(id("a"), |left, name| infix(left, 1, id(name)));
-    let inner = ["d", "c", "b"].iter().fold(node::expr_stmt(sum), |body, name| {
-        node::expr_stmt(node::function(b"", &names(&[name]), vec![body]))
-    });
+    let inner = ["d", "c", "b"]
+        .iter()
+        .fold(node::expr_stmt(sum), |body, name| node::expr_stmt(node::function(b"", &names(&[name]), vec![body])));
     let name = format!("f{}", number % 100);
     node::let_stmt(name.as_bytes(), node::function(name.as_bytes(), &names(&["a"]), vec![inner]))
 }
@@ -79,7 +79,8 @@ fn long_string(number: usize) -> Node {
 fn decision(number: usize) -> Node {
     let then = vec![node::expr_stmt(node::boolean(true))];
     let other = node::if_expr(node::boolean(false), then.clone(), None);
-    let value = node::if_expr(node::prefix(3, node::boolean(number % 2 == 0)), then, Some(vec![node::expr_stmt(other)]));
+    let value =
+        node::if_expr(node::prefix(3, node::boolean(number % 2 == 0)), then, Some(vec![node::expr_stmt(other)]));
     node::expr_stmt(value)
 }
 
@@ -115,7 +116,9 @@ fn full_session() -> Vec<Input> {
 /// Lookups of 1,024 globals, from main and below 16 functions of 255 parameters each.
 fn lookups() -> Vec<Input> {
     let globals = global_names(1024);
-    let all = |count: usize| node::expr_stmt(node::array((0..count).map(|n| node::identifier(&globals[n * 7 % 1024])).collect()));
+    let all = |count: usize| {
+        node::expr_stmt(node::array((0..count).map(|n| node::identifier(&globals[n * 7 % 1024])).collect()))
+    };
     let params: Vec<_> = (0..255u8).map(|n| vec![b'p', n]).collect();
     let nested = |inner, _| vec![node::expr_stmt(node::function(b"", &params, inner))];
     vec![
@@ -151,7 +154,10 @@ pub fn all() -> Vec<Input> {
         ("strings", long_string),
         ("branches", decision),
     ];
-    let mut list = vec![input("empty tree".into(), Vec::new(), Vec::new()), input("typical profile".into(), Vec::new(), profile())];
+    let mut list = vec![
+        input("empty tree".into(), Vec::new(), Vec::new()),
+        input("typical profile".into(), Vec::new(), profile()),
+    ];
     for (size, bytes) in [("4 KB", 4_096), ("30 KB", 30_000)] {
         for (name, statement) in flavours {
             let bytes = if name == "strings" { bytes.min(28_300) } else { bytes };

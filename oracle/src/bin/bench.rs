@@ -35,20 +35,17 @@ struct Subject {
 /// Building the syntax tree: the harness.
 #[no_mangle]
 #[inline(never)]
-fn measured_build(bytes: &[u8]) -> Box<Program> {
-    match tree::program(bytes) {
-        Ok(program) => Box::new(program),
-        Err(_) => panic!("a sound tree"),
-    }
+fn measured_build(bytes: &[u8]) -> Program {
+    tree::program(bytes).unwrap_or_else(|_| panic!("a sound tree"))
 }
 
 /// The Rust's compile, after the tree is built.
 #[no_mangle]
 #[inline(never)]
-fn measured_rust(program: Box<Program>, table: Rc<RefCell<SymbolTable>>, state: &mut State) -> Box<Bytecode> {
+fn measured_rust(program: Program, table: Rc<RefCell<SymbolTable>>, state: &mut State) -> Bytecode {
     let mut compiler = Compiler::new_with_state(table, &mut state.constants);
-    compiler.compile((*program).into()).expect("a tree that the Rust accepts");
-    Box::new(Bytecode::from(compiler))
+    compiler.compile(program.into()).expect("a tree that the Rust accepts");
+    Bytecode::from(compiler)
 }
 
 /// The least that a call has to do: clear the work areas, read the session.
