@@ -6,7 +6,8 @@ use std::{env, fs};
 /// The published Rust's folder src.
 fn sources() -> PathBuf {
     println!("cargo:rerun-if-env-changed=MONKEY_SRC");
-    let folder = env::var("MONKEY_SRC").expect("MONKEY_SRC: the folder src of ktanaka101/monkey.rs at commit 34f87fde49");
+    let folder =
+        env::var("MONKEY_SRC").expect("MONKEY_SRC: the folder src of ktanaka101/monkey.rs at commit 34f87fde49");
     PathBuf::from(folder)
 }
 

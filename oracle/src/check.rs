@@ -73,7 +73,7 @@ fn place_fits(tree: &[u8], number: usize, place: usize, message: &str) -> bool {
     let length = usize::from(u16::from_be_bytes([tree[place + 1], tree[place + 2]]));
     let content = &tree[place + 3..place + 3 + length];
     match (number, message.strip_prefix("err undefined variable ")) {
-        (5, Some(name)) => crate::tree::to_string(content) == name.to_string(),
+        (5, Some(name)) => crate::tree::to_string(content) == name,
         _ => true,
     }
 }
@@ -169,7 +169,11 @@ impl Both {
     }
 
     fn expect(&self, answer: Answer, expected: Answer) -> Compared {
-        if answer == expected { Ok(()) } else { Err(format!("{answer:?}, but {expected:?} is due")) }
+        if answer == expected {
+            Ok(())
+        } else {
+            Err(format!("{answer:?}, but {expected:?} is due"))
+        }
     }
 
     /// A refusal by the port's own limit, whose place is known.
@@ -181,7 +185,11 @@ impl Both {
 
     /// After a refusal: the session as before (output and work areas were seen to by `Lent::call`).
     fn unchanged(&self) -> Compared {
-        if self.lent.session_bytes() == self.session { Ok(()) } else { Err("a refusal changed the session".into()) }
+        if self.lent.session_bytes() == self.session {
+            Ok(())
+        } else {
+            Err("a refusal changed the session".into())
+        }
     }
 
     /// Whether one of the walk's limits (11 to 14) decided; then that it may.

@@ -44,7 +44,8 @@ fn expressions(size: usize) -> Vec<Node> {
     }
     if size == 1 {
         let leaves = [node::identifier(b"a"), node::identifier(b"b"), node::boolean(true), node::integer(1)];
-        let empty = [node::array(Vec::new()), node::function(b"", &[], Vec::new()), node::function(b"a", &[], Vec::new())];
+        let empty =
+            [node::array(Vec::new()), node::function(b"", &[], Vec::new()), node::function(b"a", &[], Vec::new())];
         return leaves.into_iter().chain(empty).collect();
     }
     let mut all = Vec::new();
@@ -61,7 +62,9 @@ fn expressions(size: usize) -> Vec<Node> {
         all.push(node::if_expr(node::boolean(false), Vec::new(), Some(body)));
     }
     for left in 1..size - 1 {
-        for (a, b) in expressions(left).iter().flat_map(|a| expressions(size - 1 - left).into_iter().map(move |b| (a, b))) {
+        for (a, b) in
+            expressions(left).iter().flat_map(|a| expressions(size - 1 - left).into_iter().map(move |b| (a, b)))
+        {
             all.push(node::infix(a.clone(), 1, b.clone()));
             all.push(node::infix(a.clone(), 8, b.clone()));
             all.push(node::call(a.clone(), vec![b]));

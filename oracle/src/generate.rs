@@ -183,7 +183,11 @@ impl<'a> Grammar<'a> {
     }
 
     fn operator(&mut self, good: &[u8]) -> u8 {
-        if self.random.often(self.style.operators) { self.random.below(10) as u8 } else { *self.random.pick(good) }
+        if self.random.often(self.style.operators) {
+            self.random.below(10) as u8
+        } else {
+            *self.random.pick(good)
+        }
     }
 
     fn kind(&mut self) -> u8 {

@@ -21,7 +21,11 @@ impl Reader<'_> {
         let [tag, high, low, ..] = self.bytes[self.at..end] else { return Err(Wrong(self.at)) };
         let length = usize::from(u16::from_be_bytes([high, low]));
         let stop = self.at + 3 + length;
-        if tags.contains(&tag) && length <= limit && stop <= end { Ok(stop) } else { Err(Wrong(self.at)) }
+        if tags.contains(&tag) && length <= limit && stop <= end {
+            Ok(stop)
+        } else {
+            Err(Wrong(self.at))
+        }
     }
 
     fn code(&mut self, start: usize, end: usize) -> Result<(), Wrong> {
@@ -70,7 +74,11 @@ pub fn check(image: &[u8]) -> Result<Vec<usize>, Wrong> {
     reader.code(3, end)?;
     reader.at = end;
     reader.pool()?;
-    if reader.at < image.len() { Err(Wrong(reader.at)) } else { Ok(reader.literals) }
+    if reader.at < image.len() {
+        Err(Wrong(reader.at))
+    } else {
+        Ok(reader.literals)
+    }
 }
 
 /// The offsets of the literal bytes in a session that is sound.

@@ -1,5 +1,9 @@
 //! The benchmark's inputs: a tree, and the trees that filled its session before.
-use crate::node::{self, Node};
+use crate::node::{self, Body, Node};
+use crate::tree::to_string;
+
+/// The input whose identifiers are all globals, looked up from main.
+pub const GLOBALS: &str = "1,024 globals, 2,100 identifiers";
 
 pub struct Input {
     pub name: String,
@@ -49,9 +53,9 @@ fn profile() -> Vec<Node> {
 /// Four functions in one another; the innermost adds a name of each.
 fn closure(number: usize) -> Node {
     let sum = ["b", "c", "d"].iter().fold(id("a"), |left, name| infix(left, 1, id(name)));
-    let inner = ["d", "c", "b"].iter().fold(node::expr_stmt(sum), |body, name| {
-        node::expr_stmt(node::function(b"", &names(&[name]), vec![body]))
-    });
+    let inner = ["d", "c", "b"]
+        .iter()
+        .fold(node::expr_stmt(sum), |body, name| node::expr_stmt(node::function(b"", &names(&[name]), vec![body])));
     let name = format!("f{}", number % 100);
     node::let_stmt(name.as_bytes(), node::function(name.as_bytes(), &names(&["a"]), vec![inner]))
 }
@@ -75,7 +79,8 @@ fn long_string(number: usize) -> Node {
 fn decision(number: usize) -> Node {
     let then = vec![node::expr_stmt(node::boolean(true))];
     let other = node::if_expr(node::boolean(false), then.clone(), None);
-    let value = node::if_expr(node::prefix(3, node::boolean(number % 2 == 0)), then, Some(vec![node::expr_stmt(other)]));
+    let value =
+        node::if_expr(node::prefix(3, node::boolean(number % 2 == 0)), then, Some(vec![node::expr_stmt(other)]));
     node::expr_stmt(value)
 }
 
@@ -111,17 +116,33 @@ fn full_session() -> Vec<Input> {
 /// Lookups of 1,024 globals, from main and below 16 functions of 255 parameters each.
 fn lookups() -> Vec<Input> {
     let globals = global_names(1024);
-    let all = |count: usize| node::expr_stmt(node::array((0..count).map(|n| node::identifier(&globals[n * 7 % 1024])).collect()));
+    let all = |count: usize| {
+        node::expr_stmt(node::array((0..count).map(|n| node::identifier(&globals[n * 7 % 1024])).collect()))
+    };
     let params: Vec<_> = (0..255u8).map(|n| vec![b'p', n]).collect();
     let nested = |inner, _| vec![node::expr_stmt(node::function(b"", &params, inner))];
     vec![
-        input("1,024 globals, 2,100 identifiers".into(), vec![defining(&globals)], vec![all(2100)]),
+        input(GLOBALS.into(), vec![defining(&globals)], vec![all(2100)]),
         input(
             "1,024 globals, 16 functions of 255 parameters open, 700 identifiers".into(),
             vec![defining(&globals)],
             (0..16).fold(vec![all(700)], nested),
         ),
     ]
+}
+
+/// The names of a tree's identifiers, in the order of the bytes.
+pub fn identifiers(tree: &[u8]) -> Vec<String> {
+    fn add(node: &Node, names: &mut Vec<String>) {
+        match &node.body {
+            Body::Bytes(bytes) if node.tag == 0x20 => names.push(to_string(bytes)),
+            Body::Bytes(_) => {}
+            Body::Children(children) => children.iter().for_each(|c| add(c, names)),
+        }
+    }
+    let mut names = Vec::new();
+    Node::parse(tree).iter().for_each(|node| add(node, &mut names));
+    names
 }
 
 /// All inputs.
@@ -133,7 +154,10 @@ pub fn all() -> Vec<Input> {
         ("strings", long_string),
         ("branches", decision),
     ];
-    let mut list = vec![input("empty tree".into(), Vec::new(), Vec::new()), input("typical profile".into(), Vec::new(), profile())];
+    let mut list = vec![
+        input("empty tree".into(), Vec::new(), Vec::new()),
+        input("typical profile".into(), Vec::new(), profile()),
+    ];
     for (size, bytes) in [("4 KB", 4_096), ("30 KB", 30_000)] {
         for (name, statement) in flavours {
             let bytes = if name == "strings" { bytes.min(28_300) } else { bytes };

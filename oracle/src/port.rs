@@ -30,7 +30,11 @@ pub enum Answer {
 
 fn unpack(answer: u64) -> Answer {
     let (high, low) = ((answer >> 32) as usize, (answer & 0xffff_ffff) as usize);
-    if high == 0 { Answer::Length(low) } else { Answer::Refused(high, low) }
+    if high == 0 {
+        Answer::Length(low)
+    } else {
+        Answer::Refused(high, low)
+    }
 }
 
 pub fn make_session(session: &mut [u8]) -> Answer {

@@ -94,7 +94,11 @@ impl Reader<'_> {
     }
 
     fn end(&self, c: &Content) -> Result<(), Bad> {
-        if c.at < c.end { Err(Bad(c.at)) } else { Ok(()) }
+        if c.at < c.end {
+            Err(Bad(c.at))
+        } else {
+            Ok(())
+        }
     }
 
     fn child(&mut self, c: &mut Content, kind: Kind) -> Result<(), Bad> {
@@ -153,7 +157,11 @@ impl Reader<'_> {
             0x2B => {
                 let parent = c.parent;
                 let count = self.list(c, Expression)?;
-                if count % 2 == 0 { Ok(()) } else { Err(Bad(parent)) }
+                if count % 2 == 0 {
+                    Ok(())
+                } else {
+                    Err(Bad(parent))
+                }
             }
             0x2C => self.fixed(c, &[Tag(0x31), Tag(0x12)]),
             0x31 => self.list(c, Name).map(|_| ()),

@@ -3,10 +3,10 @@ use std::cell::RefCell;
 use std::panic::{catch_unwind, AssertUnwindSafe};
 use std::rc::Rc;
 
-use crate::tree;
 use crate::compiler::{Compiler, SymbolTable};
 use crate::evaluator::objects::Object;
 use crate::parser::ast;
+use crate::tree;
 use crate::vm::bytecode::Bytecode;
 
 /// Symbol table and constants between two trees, and the names defined so far by global index.

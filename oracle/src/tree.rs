@@ -47,7 +47,11 @@ impl<'a> Fields<'a> {
     }
 
     fn end(&self) -> Read<()> {
-        if self.ended() { Ok(()) } else { Err(Bad) }
+        if self.ended() {
+            Ok(())
+        } else {
+            Err(Bad)
+        }
     }
 
     fn expr(&mut self) -> Read<ast::Expr> {
@@ -91,7 +95,11 @@ impl<'a> Fields<'a> {
 }
 
 fn name(content: &[u8]) -> Read<String> {
-    if (1..=32).contains(&content.len()) { Ok(to_string(content)) } else { Err(Bad) }
+    if (1..=32).contains(&content.len()) {
+        Ok(to_string(content))
+    } else {
+        Err(Bad)
+    }
 }
 
 fn stmts(content: &[u8]) -> Read<Vec<ast::Stmt>> {

@@ -79,7 +79,11 @@ impl Walk<'_> {
 
     fn add_constant(&mut self, bytes: usize, place: usize) -> Walked {
         (self.constants, self.pool) = (self.constants + 1, self.pool + bytes);
-        if self.constants > 4096 || self.pool > 28_672 { Err((12, place)) } else { Ok(()) }
+        if self.constants > 4096 || self.pool > 28_672 {
+            Err((12, place))
+        } else {
+            Ok(())
+        }
     }
 
     fn all(&mut self, list: &[usize]) -> Walked {
@@ -117,13 +121,21 @@ impl Walk<'_> {
         let [left, operator, right] = children(self.tree, at)[..] else { unreachable!("a sound tree") };
         let operator = self.content(operator)[0];
         self.all(&if operator == 8 { [right, left] } else { [left, right] })?;
-        if matches!(operator, 0 | 3) { Err((6, at)) } else { self.emit(1, Last::Other, at) }
+        if matches!(operator, 0 | 3) {
+            Err((6, at))
+        } else {
+            self.emit(1, Last::Other, at)
+        }
     }
 
     fn prefix(&mut self, at: usize) -> Walked {
         let [operator, right] = children(self.tree, at)[..] else { unreachable!("a sound tree") };
         self.field(right)?;
-        if matches!(self.content(operator)[0], 2 | 3) { self.emit(1, Last::Other, at) } else { Err((6, at)) }
+        if matches!(self.content(operator)[0], 2 | 3) {
+            self.emit(1, Last::Other, at)
+        } else {
+            Err((6, at))
+        }
     }
 
     fn branches(&mut self, at: usize) -> Walked {

@@ -35,20 +35,17 @@ struct Subject {
 /// Building the syntax tree: the harness.
 #[no_mangle]
 #[inline(never)]
-fn measured_build(bytes: &[u8]) -> Box<Program> {
-    match tree::program(bytes) {
-        Ok(program) => Box::new(program),
-        Err(_) => panic!("a sound tree"),
-    }
+fn measured_build(bytes: &[u8]) -> Program {
+    tree::program(bytes).unwrap_or_else(|_| panic!("a sound tree"))
 }
 
 /// The Rust's compile, after the tree is built.
 #[no_mangle]
 #[inline(never)]
-fn measured_rust(program: Box<Program>, table: Rc<RefCell<SymbolTable>>, state: &mut State) -> Box<Bytecode> {
+fn measured_rust(program: Program, table: Rc<RefCell<SymbolTable>>, state: &mut State) -> Bytecode {
     let mut compiler = Compiler::new_with_state(table, &mut state.constants);
-    compiler.compile((*program).into()).expect("a tree that the Rust accepts");
-    Box::new(Bytecode::from(compiler))
+    compiler.compile(program.into()).expect("a tree that the Rust accepts");
+    Bytecode::from(compiler)
 }
 
 /// The least that a call has to do: clear the work areas, read the session.
@@ -160,19 +157,35 @@ fn once(words: &[String]) {
     let [number, side, count] = words else { panic!("once NUMBER port|rust|floor COUNT") };
     let all = inputs::all();
     let mut subject = Subject::new(&all[number.parse::<usize>().expect("a number")]);
-    // The check in `new` is one call on each side; it is one of those counted.
-    for _ in 1..count.parse::<u32>().expect("a count") {
-        match side.as_str() {
-            "port" => drop(subject.port()),
-            "rust" => drop(subject.rust()),
-            _ => drop(subject.floor()),
-        }
+    let count = count.parse::<u32>().expect("a count");
+    // One call of the port was the check that both sides agree.
+    for _ in u32::from(side == "port")..count {
+        let _ = match side.as_str() {
+            "port" => subject.port(),
+            "rust" => subject.rust().1,
+            _ => subject.floor(),
+        };
     }
 }
 
+const HEAD: &str = "\
+| Input | Tree bytes | Ours, µs | Rust with tree, µs | Rust's compile, µs | Rust with tree / ours | Rust's compile / ours | Ours, MB/s | Floor, µs | Ours / floor | Instructions: ours | Rust with tree |
+|---|---|---|---|---|---|---|---|---|---|---|---|";
+
+/// The Rust's lookups alone: each name of the tree's identifiers in its own table, in microseconds.
+fn lookups(input: &Input) -> f64 {
+    let subject = Subject::new(input);
+    let mut table = subject.state.table.clone();
+    let names = inputs::identifiers(&input.tree);
+    median(|| {
+        let start = Instant::now();
+        names.iter().for_each(|name| drop(std::hint::black_box(table.resolve(name))));
+        start.elapsed()
+    })
+}
+
 fn table(counting: bool) {
-    println!("| Input | Tree bytes | Ours, µs | Rust with tree, µs | Rust's compile, µs | Rust with tree / ours | Rust's compile / ours | Ours, MB/s | Floor, µs | Ours / floor | Instructions: ours | Rust with tree |");
-    println!("|---|---|---|---|---|---|---|---|---|---|---|---|");
+    println!("{HEAD}");
     for (number, input) in inputs::all().iter().enumerate() {
         let mut subject = Subject::new(input);
         let port = median(|| subject.port());
@@ -193,6 +206,9 @@ fn table(counting: bool) {
             port / floor,
         );
     }
+    let all = inputs::all();
+    let input = all.iter().find(|i| i.name == inputs::GLOBALS).expect("the input with globals alone");
+    println!("\nThe Rust's lookups alone of \"{}\": {:.1} µs.", input.name, lookups(input));
 }
 
 fn main() {
