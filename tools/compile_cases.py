@@ -67,10 +67,18 @@ def records(lines):
     return out
 
 
+def second(lines):
+    """The second series of each pair: its trees, images and sessions, each after the first one's; none where there are no pairs."""
+    if not any(line.startswith("twin ") for line in lines):
+        return []
+    return [line.removeprefix("twin") if line.startswith(("twinok", "twinsession")) else line.replace("twin ", "tree ")
+            for line in lines if line.split()[0] not in ("tree", "ok", "session")]
+
+
 def main(cases, data, topics):
     for topic in topics:
         lines = [l for l in Path(cases, topic + ".txt").read_text().splitlines() if l and not l.startswith("#")]
-        Path(data, topic).write_bytes(records(lines))
+        Path(data, topic).write_bytes(records(lines) + records(second(lines)))
 
 
 main(sys.argv[1], sys.argv[2], sys.argv[3:])

@@ -316,4 +316,6 @@ fn main() {
     run_topic(b"session-broken");
     run_topic(b"boundary");
     run_topic(b"short-buffers");
+    run_topic(b"alike");
+    run_topic(b"compared");
 }
