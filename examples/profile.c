@@ -1,4 +1,7 @@
-/* Compiles two profiles in one session, checks and lists their images, and shows refusals. examples/run compares what it prints. */
+/*
+ * Compiles profiles in one session, checks and lists their images, and shows refusals: two profiles and damaged ones of its own, or the
+ * trees in the files that it is given. examples/run compares what it prints.
+ */
 #include <stdio.h>
 #include <string.h>
 
@@ -83,11 +86,10 @@ static void show(const char *what, const uint8_t *tree, size_t length) {
     }
 }
 
-int main(void) {
+/* The profiles of this file, and what is refused. */
+static void show_own(void) {
     static uint8_t before[MONKEY_SESSION_SIZE];
 
-    print_answer("session too short", monkey_make_session(session, 100));
-    print_answer("session", monkey_make_session(session, sizeof session));
     show("top", top, sizeof top);
     show("limit", limit, sizeof limit);
 
@@ -100,5 +102,31 @@ int main(void) {
     output[7] = 0xff; /* where limit's image has its second instruction */
     print_answer("damaged image", monkey_check_image(output, 68));
     list(output, 68);
+}
+
+/* The tree in a file. One byte more than the longest tree is enough to have a longer one refused. */
+static int show_file(const char *name) {
+    static uint8_t tree[MONKEY_TREE_LIMIT + 1];
+    FILE *file = fopen(name, "rb");
+    if (file == NULL) {
+        perror(name);
+        return 1;
+    }
+    size_t length = fread(tree, 1, sizeof tree, file);
+    fclose(file);
+    show(name, tree, length);
     return 0;
+}
+
+int main(int argc, char **argv) {
+    int failed = 0;
+    print_answer("session too short", monkey_make_session(session, 100));
+    print_answer("session", monkey_make_session(session, sizeof session));
+    if (argc < 2) {
+        show_own();
+    }
+    for (int i = 1; i < argc; i++) {
+        failed |= show_file(argv[i]);
+    }
+    return failed;
 }
