@@ -27,10 +27,7 @@ returns c =
     absurd (code-not-refused (now (start .args .image)) (start .args .start) (start .args .end) (loop .inv) (start .pre .1) (loop-test .taken) (decode-at .ensures) (enum-told .given .1))
 
 sub-put-line : tie.Need-sub-put-line Inv-loop μ-loop
-sub-put-line c =
-    let loop = c .before .before .before .before .before .before .loop in
-    let start = c .before .before .before .before .before .before .before .before .before in
-    omega (arith, loop .inv .size-is)
+sub-put-line c = omega (arith, c .before .before .before .before .before .before .loop .inv .size-is)
 
 put-line-requires : tie.Need-put-line-requires Inv-loop μ-loop
 put-line-requires c κs =
