@@ -1,3 +1,4 @@
+-- `symbol_table::find_at` meets its contract.
 use mathlib.Core.Path.{_∙_}
 use Rattle.symbol_table.specs.Layout.{base}
 use Rattle.symbol_table.proofs.Levels.{width}

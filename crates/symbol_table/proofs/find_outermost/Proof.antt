@@ -1,3 +1,4 @@
+-- `symbol_table::find_outermost` meets its contract.
 use mathlib.Core.Path.{sym, ap, _∙_}
 use Rattle.symbol_table.specs.Contract.{hitOf}
 use Rattle.symbol_table.proofs.Resolving.{global-first, builtin-second, none-there}

@@ -1,3 +1,4 @@
+-- `symbol_table::load_of` meets its contract.
 use native.Mathlib.Omega.{arith}
 use borrow.Author.Tests.{lt-ltb, le-ltb}
 use Rattle.symbol_table.specs.Layout.{symbolOf}

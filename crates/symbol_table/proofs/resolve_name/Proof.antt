@@ -1,3 +1,4 @@
+-- `symbol_table::resolve_name` meets its contract.
 use native.Mathlib.Omega.{arith}
 use Rattle.symbol_table.proofs.Rowing.{builtins-stand, builtins-are}
 use borrow.Author.Needs.{needs}

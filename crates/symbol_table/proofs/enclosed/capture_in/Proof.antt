@@ -1,3 +1,4 @@
+-- `symbol_table::enclosed::capture_in` meets its contract.
 use mathlib.Core.Path.{refl}
 use native.Mathlib.Omega.{arith}
 use lib.ListN.{length-set}

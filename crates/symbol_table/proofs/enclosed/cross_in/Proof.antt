@@ -1,3 +1,4 @@
+-- `symbol_table::enclosed::cross_in` meets its contract.
 use native.Mathlib.Omega.{arith}
 use Rattle.symbol_table.proofs.Crossing.{crosses-undefined, crosses-full, crosses-function, crosses-far, crosses-none, crosses-free}
 use borrow.Author.Needs.{needs}

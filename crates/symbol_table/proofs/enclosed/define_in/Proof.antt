@@ -1,3 +1,4 @@
+-- `symbol_table::enclosed::define_in` meets its contract.
 use mathlib.Core.Path.{refl}
 use Rattle.symbol_table.specs.Store.{localIn}
 use borrow.Author.Needs.{needs}

@@ -1,3 +1,4 @@
+-- `symbol_table::enclosed::enter_in` meets its contract.
 use Rattle.symbol_table.specs.Store.{enteredIn}
 use borrow.Author.Needs.{needs}
 use Rattle.symbol_table.proofs.enclosed.enter_in.Statement.{statement}

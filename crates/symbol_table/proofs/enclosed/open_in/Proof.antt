@@ -1,3 +1,4 @@
+-- `symbol_table::enclosed::open_in` meets its contract.
 use native.Mathlib.Omega.{arith}
 use Rattle.symbol_table.proofs.Tables.{entered-good, entered-none}
 use Rattle.symbol_table.proofs.Defining.{opened}

@@ -1,3 +1,4 @@
+-- `symbol_table::enclosed::place_in` meets its contract.
 use native.Mathlib.Omega.{arith}
 use Rattle.symbol_table.proofs.Defining.{locals-full, local-defined}
 use borrow.Author.Needs.{needs}

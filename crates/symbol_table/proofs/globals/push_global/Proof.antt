@@ -1,3 +1,4 @@
+-- `symbol_table::globals::push_global` meets its contract.
 use native.Mathlib.Omega.{arith}
 use lib.ListN.{length-set}
 use Rattle.symbol_table.specs.Store.{globalIn}

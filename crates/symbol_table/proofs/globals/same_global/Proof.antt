@@ -1,3 +1,4 @@
+-- `symbol_table::globals::same_global` meets its contract.
 use mathlib.Core.Path.{_∙_}
 use native.Mathlib.Omega.{arith}
 use borrow.Author.Tests.{lt-ltb, le-ltb}

@@ -1,3 +1,4 @@
+-- `symbol_table::name::hash_at` meets its contract.
 use mathlib.Core.Path.{_∙_, ap}
 use Rattle.symbol_table.specs.Name.{hashOf}
 use borrow.Author.Needs.{needs}

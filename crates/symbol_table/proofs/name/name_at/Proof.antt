@@ -1,3 +1,4 @@
+-- `symbol_table::name::name_at` meets its contract.
 use Prim.Native.Nat.{_+_, _-_}
 use mathlib.Core.Path.{_≡_}
 use native.Mathlib.Omega.{arith}
