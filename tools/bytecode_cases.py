@@ -3,22 +3,28 @@
 
 usage: bytecode_cases.py VECTORS    (run from the repository's root)
 
-VECTORS is the folder of image17.txt, instruction16.txt and session-broken.txt. Each question goes to data/cases as it stands there, and
-its answer to stdout; of a session only whether its layout is sound.
+VECTORS is the folder of image17.txt, instruction16.txt, listing.txt and session-broken.txt. Each question goes to data/cases as it stands
+there, but that the length of a listing's output stands in three bytes before its image. Its answer goes to stdout: of a session only whether
+its layout is sound, and a listing as text behind its answer.
 """
 import sys
 
 folder, crate = sys.argv[1], "crates/replay_bytecode/"
 questions, answers = [], []
-for topic, word in ("instruction16", "decode"), ("image17", "image"), ("session-broken", "start"):
+for topic, word in ("instruction16", "decode"), ("image17", "image"), ("listing", "list"), ("session-broken", "start"):
     asked = False
     for line in open(f"{folder}/{topic}.txt"):
         first = line.split(" ")[0].strip()
         if first == word:
+            if word == "list":
+                _, room, image = line.split(" ")
+                line = f"list {int(room):06x}{image}"
             questions.append(line)
             asked = True
         elif asked and first in ("ok", "refused"):
             broken = line.startswith("refused 2 ")
+            if word == "list" and first == "ok":
+                line = "ok\n" + bytes.fromhex(line.split(" ")[1]).decode()
             answers.append(line if word != "start" or broken else "ok\n")
             asked = False
 open(crate + "data/cases", "w").writelines(questions)

@@ -86,10 +86,13 @@ module _ (byte : ℕ → ℕ) (at end : ℕ) where
       go false false j = function-end j
 
   -- an item ends after its beginning, and within its part
+  pub const-end : {x : Const} {n : ℕ} → readConst byte at end ≡ decoded x n → n ≡ at + 3 + head byte at .len
+  const-end e = content-end (head byte at) (at + 3) (head-read (constHead byte) (readContent byte) e .1)
+
   pub const-ends : (x : Const) (n : ℕ) → readConst byte at end ≡ decoded x n → (at < n) × (n ≤ end)
   const-ends x n e =
       let p = head-read (constHead byte) (readContent byte) e in
-      let m = content-end (head byte at) (at + 3) (p .1) in
+      let m = const-end e in
       omega (arith, p .0 .within)
 
   pub name-ends : (x : Bytes) (n : ℕ) → readNameField byte at end ≡ decoded x n → (at < n) × (n ≤ end)

@@ -18,18 +18,18 @@ unlike e = let z : _≡_ {A = ℕ} 0 1 = cc in omega arith
 
 module _ {A : Type 0} (f : ℕ → ℕ → Decoded A) (end : ℕ) where
   -- reading at the end stops, with what was read
-  at-end : (rest : ℕ) (xs : List A) (at : ℕ) → at ≡ end → items f rest xs at end ≡ decoded xs at
+  pub at-end : (rest : ℕ) (xs : List A) (at : ℕ) → at ≡ end → items f rest xs at end ≡ decoded xs at
   unfolding items
   at-end zero xs at e = rw (eq-eqb at end e)
   at-end (suc rest) xs at e = rw (eq-eqb at end e)
 
   -- before the end, where no item may follow, what follows is wrong
-  too-many : (xs : List A) (at : ℕ) → (at ≡ end → ⊥) → items f 0 xs at end ≡ malformed at
+  pub too-many : (xs : List A) (at : ℕ) → (at ≡ end → ⊥) → items f 0 xs at end ≡ malformed at
   unfolding items
   too-many xs at n = rw (ne-eqb at end n)
 
   -- before the end the next item decides
-  one-more : (rest : ℕ) (xs : List A) (at : ℕ) → (at ≡ end → ⊥)
+  pub one-more : (rest : ℕ) (xs : List A) (at : ℕ) → (at ≡ end → ⊥)
       → items f (suc rest) xs at end ≡ then (f at end) (λ x at₁. items f rest (x ∷ xs) at₁ end)
   unfolding items
   one-more rest xs at n = rw (ne-eqb at end n)

@@ -119,7 +119,7 @@ fn check_constant(bytes: &[u8], at: usize, end: usize) -> Item
 }
 
 // Check that constants, at most 4,096, fill the part from `start` up to `end`.
-fn check_constants(bytes: &[u8], start: usize, end: usize) -> Checked
+pub fn check_constants(bytes: &[u8], start: usize, end: usize) -> Checked
     requires { ⌜ Part (now bytes) start end ⌝ }
     ensures { λ r. ⌜ r ≡ checked (constants (byteAt (now (bytes .entry))) start end) ⌝ }
 {

@@ -2,27 +2,20 @@
 use bytecode::ImageCheck;
 use definition::Answer;
 ghost use mathlib.Core.Path.{_≡_};
-ghost use Prim.Native.Nat.{_%_};
 ghost use Rattle.compiler.specs.Stage.{lentOf};
-ghost use Rattle.capi.specs.Packed.{halfBound, packed, checkAnswer, MakesPacked, CompilesPacked, ChecksPacked};
+ghost use Rattle.capi.specs.Packed.{Fits, Packs, checkAnswer, MakesPacked, CompilesPacked, ChecksPacked, ListsPacked};
 
 // What the numbers of a half are below: 2 to the 32nd.
-const HALF_BOUND: usize = 4294967296;
+const HALF_BOUND: u64 = 4294967296;
 
-// A number's low half.
-fn low(n: usize) -> u64
-    ensures { λ r. ⌜ r ≡ n % halfBound ⌝ }
-{
-    (n % HALF_BOUND) as u64
-}
-
-// An answer as one number: a length in the low half; a refusal's number in the high half and its place in the low one.
+// An answer as one number: a length; or a refusal's number in the high half and its place in the low one.
 fn pack(answer: Answer) -> u64
-    ensures { λ r. ⌜ r ≡ packed answer ⌝ }
+    requires { ⌜ Fits answer ⌝ }
+    ensures { λ r. ⌜ Packs answer r ⌝ }
 {
     match answer {
-        Answer::Length(n) => low(n),
-        Answer::Refused(r) => low(r.number) * 4294967296 + low(r.place),
+        Answer::Length(n) => n as u64,
+        Answer::Refused(r) => r.number as u64 * HALF_BOUND + r.place as u64,
     }
 }
 
@@ -31,7 +24,8 @@ fn pack(answer: Answer) -> u64
 pub extern "C" fn monkey_make_session(session: &mut [u8]) -> u64
     ensures { λ r. ⌜ MakesPacked (now (session .entry)) r (now (session .exit)) ⌝ }
 {
-    pack(compiler::make_session(session))
+    let answer = compiler::make_session(session);
+    pack(answer)
 }
 
 // Compiles a tree in a session, and leaves image, session and zeroed work areas; or refuses it.
@@ -45,7 +39,8 @@ pub extern "C" fn monkey_compile(
 ) -> u64
     ensures { λ r. ⌜ CompilesPacked (now (tree .entry)) (lentOf (now (session .entry)) (now (output .entry)) (now (code .entry)) (now (table .entry))) r (lentOf (now (session .exit)) (now (output .exit)) (now (code .exit)) (now (table .exit))) ⌝ }
 {
-    pack(compiler::compile(session, tree, output, code, table))
+    let answer = compiler::compile(session, tree, output, code, table);
+    pack(answer)
 }
 
 // What the check of an image answers.
@@ -63,5 +58,15 @@ fn check_answer(check: ImageCheck) -> Answer
 pub extern "C" fn monkey_check_image(image: &[u8]) -> u64
     ensures { λ r. ⌜ ChecksPacked (now (image .entry)) r ⌝ }
 {
-    pack(check_answer(bytecode::check_image(image)))
+    let answer = check_answer(bytecode::check_image(image));
+    pack(answer)
+}
+
+// Lists an image as text: the listing's length; or 17 and the place, or 15 where the output is too short, and the output stays.
+#[no_mangle]
+pub extern "C" fn monkey_list_image(image: &[u8], output: &mut [u8]) -> u64
+    ensures { λ r. ⌜ ListsPacked (now (image .entry)) (now (output .entry)) r (now (output .exit)) ⌝ }
+{
+    let answer = listing::list_image(image, output);
+    pack(answer)
 }

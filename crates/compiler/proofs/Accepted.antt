@@ -15,7 +15,7 @@ use Rattle.definition.specs.Field.{field}
 use Rattle.definition.specs.Bytecode.{poolBytes, poolSize, encode, imageBytes}
 use Rattle.definition.specs.Session.{Session, namesBytes, sessionFields, sessionBytes}
 use Rattle.definition.specs.Valid.{ValidSession}
-use Rattle.definition.specs.Call.{over}
+use Rattle.definition.specs.Output.{over}
 use Rattle.definition.specs.Compile.{imageOf, sessionOf}
 use Rattle.definition.specs.declared.Answer.the-variants.{Length, Refused}
 use Rattle.definition.proofs.Basic.{pick-true, pick-false}

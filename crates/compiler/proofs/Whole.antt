@@ -16,7 +16,8 @@ use Rattle.definition.specs.Tree.{readTree}
 use Rattle.definition.specs.Session.{Session, sessionBytes}
 use Rattle.definition.specs.Decode.{Decoded, decoded, malformed, readSession}
 use Rattle.definition.specs.Compile.{Outcome, Step, turnedDown, translate, enough, compile}
-use Rattle.definition.specs.Call.{Lent, over, ended, answered, inSession, request, call}
+use Rattle.definition.specs.Call.{Lent, ended, answered, inSession, request, call}
+use Rattle.definition.specs.Output.{over}
 use Rattle.definition.specs.Valid.{AreBytes, ValidSession}
 use Rattle.definition.specs.declared.Answer.the-variants.{Refused}
 use Rattle.definition.proofs.Basic.{both-right, pick-true, pick-false}

@@ -10,7 +10,8 @@ use Rattle.definition.specs.Number
 use Rattle.definition.specs.Bytecode.{Image, imageBytes}
 use Rattle.definition.specs.Session.{Session, sessionBytes}
 use Rattle.definition.specs.Compile.{Outcome, compile}
-use Rattle.definition.specs.Call.{Lent, Called, call, made, cleared, over, request}
+use Rattle.definition.specs.Call.{Lent, Called, call, made, cleared, request}
+use Rattle.definition.specs.Output.{over}
 use Rattle.definition.specs.Series.{Call, lent}
 use Rattle.definition.specs.declared.Refusal.{Refusal}
 use Rattle.definition.specs.declared.Answer.{Answer}

@@ -10,7 +10,8 @@ use Rattle.definition.specs.Tree.{readTree}
 use Rattle.definition.specs.Session.{Session, sessionBytes}
 use Rattle.definition.specs.Decode.{Decoded, decoded, malformed, readSession}
 use Rattle.definition.specs.Compile.{Outcome, Step, translate}
-use Rattle.definition.specs.Call.{Lent, Called, over, ended}
+use Rattle.definition.specs.Call.{Lent, Called, ended}
+use Rattle.definition.specs.Output.{over}
 use Rattle.definition.specs.declared.Refusal.{Refusal}
 use Rattle.definition.specs.declared.Answer.{Answer}
 use Rattle.definition.specs.declared.Answer.the-variants.{Length, Refused}

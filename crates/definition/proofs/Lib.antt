@@ -22,3 +22,9 @@ pub mod Series
 pub mod Jumps
 pub mod ValidSymbols
 pub mod Limits
+pub mod Placed
+pub mod ReadPlaces
+pub mod WalkPlaces
+pub mod Places
+pub mod ImagePlaces
+pub mod ListingLength

@@ -17,7 +17,8 @@ use Rattle.definition.specs.Bytecode.{Image, imageBytes}
 use Rattle.definition.specs.Session.{Session, fresh, sessionBytes, sessionFields}
 use Rattle.definition.specs.Decode.{decoded, readSession}
 use Rattle.definition.specs.Compile.{Outcome, Step, Request, steps, turnedDown, translate, enough, compile}
-use Rattle.definition.specs.Call.{Called, Made, over, answered, inSession, request, call, made}
+use Rattle.definition.specs.Call.{Called, Made, answered, inSession, request, call, made}
+use Rattle.definition.specs.Output.{over}
 use Rattle.definition.specs.Literal.{imageMask, sessionMask}
 use Rattle.definition.specs.Valid.{All, ValidSession}
 use Rattle.definition.specs.Series.{Call, lent, calls, Alike as AlikeCalls, AllAlike, shaped, shapes, Agree, Answers, Same, Indistinguishable, ReadsBack}

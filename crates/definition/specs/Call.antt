@@ -8,6 +8,7 @@ use Rattle.definition.specs.Limit.{sessionSize, codeSize, tableSize}
 use Rattle.definition.specs.Number
 use Rattle.definition.specs.Number.{refusal}
 use Rattle.definition.specs.Bytecode.{imageBytes}
+use Rattle.definition.specs.Output.{over}
 use Rattle.definition.specs.Session.{Session, fresh, sessionBytes}
 use Rattle.definition.specs.Decode.{Decoded, decoded, malformed, readSession}
 use Rattle.definition.specs.Compile.{Outcome, Step, Request, enough, compile}
@@ -26,10 +27,6 @@ pub record Lent : Type 0 where
 pub record Called : Type 0 where
   pub answer : Answer
   pub lent : Lent
-
--- bytes at the front, the rest as it was
-abbrev pub over : Bytes → Bytes → Bytes
-over new b = new ++ drop (length new) b
 
 -- zeros at the front, the rest as it was
 abbrev pub cleared : ℕ → List ℕ → List ℕ

@@ -15,7 +15,11 @@ pub mod Session
 pub mod Decode
 pub mod Valid
 pub mod Compile
+pub mod Output
 pub mod Call
+pub mod Text
+pub mod Listing
+pub mod Listings
 pub mod Literal
 pub mod Series
 pub mod Values

@@ -1,5 +1,5 @@
 -- Document 01's sizes and limits.
-use Prim.Native.Nat.{ℕ}
+use Prim.Native.Nat.{ℕ, _+_}
 
 -- the session: names, pool, zeros
 abbrev pub sessionSize : ℕ
@@ -36,6 +36,10 @@ constantsLimit = 4096
 -- a pool's content
 abbrev pub poolLimit : ℕ
 poolLimit = 28672
+
+-- an image: two heads, main code, a pool's content
+abbrev pub imageLimit : ℕ
+imageLimit = 6 + codeSize + poolLimit
 
 -- the definitions of a function, its parameters among them
 abbrev pub localsLimit : ℕ

@@ -8,7 +8,7 @@ use native.Mathlib.Omega.{arith}
 use lib.ListN.{length, getD, take, drop, set, length-set, length-drop}
 use lib.Seq.{paste, paste-zero, paste-suc, take-all, length-take-le, getD-take, getD-drop}
 use Rattle.definition.specs.Basic.{Bytes}
-use Rattle.opcode.specs.Encoding.{atStart}
+use Rattle.definition.specs.Output.{over}
 
 module _ (b : Bytes) (start size : ℕ) where
   -- the part to copy
@@ -45,7 +45,7 @@ module _ (b : Bytes) (start size : ℕ) where
               ∙ ap (paste out₀ 0 copied) (sym (add-one k));
         }
 
-    pub ends : {out₀ out : Bytes} {k : ℕ} → size ≤ k → Copying out₀ out k → out ≡ atStart copied out₀
+    pub ends : {out₀ out : Bytes} {k : ℕ} → size ≤ k → Copying out₀ out k → out ≡ over copied out₀
     ends {out₀} {out} {k} h c =
         let e : k ≡ length copied = omega (arith, length-copied) in
         c .is

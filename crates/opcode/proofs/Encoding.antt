@@ -17,7 +17,8 @@ use Rattle.definition.specs.Number.{refusal, outputShort, badInstruction}
 use Rattle.definition.specs.declared.Answer.{Answer}
 use Rattle.definition.specs.declared.Answer.the-variants.{Length, Refused}
 use Rattle.opcode.specs.Table.{entry, noInstruction}
-use Rattle.opcode.specs.Encoding.{atStart, Ready, valid, placed, placedIn, encodeAnswer, encodeInto}
+use Rattle.definition.specs.Output.{over, outputAnswer, outputAfter}
+use Rattle.opcode.specs.Encoding.{Ready, valid, encodeAnswer, encodeInto}
 use Rattle.opcode.proofs.Widths.{width-small, known, unknown}
 use Rattle.opcode.proofs.Decoding.{both-left}
 
@@ -30,7 +31,7 @@ length-operands (suc (suc (suc zero))) a b h = refl
 length-operands (suc (suc (suc (suc n)))) a b h = absurd (omega arith)
 
 -- bytes stored from the start on
-stored : (b out : Bytes) → length b ≤ length out → sets out 0 b ≡ atStart b out
+stored : (b out : Bytes) → length b ≤ length out → sets out 0 b ≡ over b out
 stored b out h = sets-eq b out 0 (omega arith) ∙ ap (λ (n : ℕ). b ++ drop n out) (zero-add (length b))
 
 -- an instruction's bytes, by its width
@@ -38,37 +39,37 @@ module _ (i : Instr) (w : ℕ) (e : width (i .op) ≡ w) (s : w ≤ 3) where
   length-bytes : length (bytesOf i) ≡ 1 + w
   length-bytes = rw (e, length-operands w (i .a) (i .b) s) (sym (one-add w))
 
-  put-done : (out : Bytes) → 1 + w ≤ length out → sets out 0 (i .op ∷ operands w (i .a) (i .b)) ≡ atStart (bytesOf i) out
+  put-done : (out : Bytes) → 1 + w ≤ length out → sets out 0 (i .op ∷ operands w (i .a) (i .b)) ≡ over (bytesOf i) out
   put-done out h =
       stored (i .op ∷ operands w (i .a) (i .b)) out (omega (arith, length-operands w (i .a) (i .b) s))
-      ∙ ap (λ (v : ℕ). atStart (i .op ∷ operands v (i .a) (i .b)) out) (sym e)
+      ∙ ap (λ (v : ℕ). over (i .op ∷ operands v (i .a) (i .b)) out) (sym e)
 
 -- the stores of each width
 pub puts : {i : Instr} {w : ℕ} {out : Bytes} → Ready i w out → (v : ℕ) → w ≡ v
-    → sets out 0 (i .op ∷ operands v (i .a) (i .b)) ≡ atStart (bytesOf i) out
+    → sets out 0 (i .op ∷ operands v (i .a) (i .b)) ≡ over (bytesOf i) out
 puts {i} {w} {out} r v e = rw (← e) (put-done i w (r .is) (r .small) out (r .room))
 
 -- captures are a byte already
 pub puts-captures : {i : Instr} {w : ℕ} {out : Bytes} → Ready i w out → w ≡ 3 → i .b < 256
-    → sets out 0 (i .op ∷ i .a / 256 % 256 ∷ i .a % 256 ∷ i .b ∷ []) ≡ atStart (bytesOf i) out
+    → sets out 0 (i .op ∷ i .a / 256 % 256 ∷ i .a % 256 ∷ i .b ∷ []) ≡ over (bytesOf i) out
 puts-captures {i} {w} {out} r e h =
     let m : i .b % 256 ≡ i .b = omega arith in
     ap (λ (b : ℕ). sets out 0 (i .op ∷ i .a / 256 % 256 ∷ i .a % 256 ∷ b ∷ [])) (sym m) ∙ puts r 3 e
 
 -- bytes of a known length: what is answered and what is written where there is room, and where there is not
 module _ (b out : Bytes) (n : ℕ) (e : length b ≡ n) where
-  pub placing : n ≤ length out → (Length n ≡ placed b (length out)) × (atStart b out ≡ placedIn b out)
+  pub placing : n ≤ length out → (Length n ≡ outputAnswer b (length out)) × (over b out ≡ outputAfter b out)
   placing h =
       let t : leb (length b) (length out) ≡ true = le-leb (length b) (length out) (rw e h) in
       (rw (t, e), rw t)
 
-  pub refusing : length out < n → (Refused (refusal outputShort 0) ≡ placed b (length out)) × (out ≡ placedIn b out)
+  pub refusing : length out < n → (Refused (refusal outputShort 0) ≡ outputAnswer b (length out)) × (out ≡ outputAfter b out)
   refusing h =
       let t : leb (length b) (length out) ≡ false = lt-leb (length b) (length out) (rw e h) in
       (rw t, rw t)
 
 -- encoding places the bytes of a valid instruction
-through : (i : Instr) (out r : Bytes) (x : Answer) → valid i ≡ true → (x ≡ placed (bytesOf i) (length out)) × (r ≡ placedIn (bytesOf i) out)
+through : (i : Instr) (out r : Bytes) (x : Answer) → valid i ≡ true → (x ≡ outputAnswer (bytesOf i) (length out)) × (r ≡ outputAfter (bytesOf i) out)
     → (x ≡ encodeAnswer i (length out)) × (r ≡ encodeInto i out)
 through i out r x v p = (p .0 ∙ rw v, p .1 ∙ rw v)
 
@@ -86,7 +87,7 @@ module _ (i : Instr) (w : ℕ) (out : Bytes) (v : valid i ≡ true) (e : w ≡ e
   pub ready : w < length out → Ready i w out
   ready h = record { is = width-is; small = small; room = omega arith }
 
-  pub encodes : w < length out → (Length (1 + w) ≡ encodeAnswer i (length out)) × (atStart (bytesOf i) out ≡ encodeInto i out)
+  pub encodes : w < length out → (Length (1 + w) ≡ encodeAnswer i (length out)) × (over (bytesOf i) out ≡ encodeInto i out)
   encodes h = through i out _ _ v (placing (bytesOf i) out (1 + w) (length-bytes i w width-is small) (omega arith))
 
   pub encodes-short : length out ≤ w → (Refused (refusal outputShort 0) ≡ encodeAnswer i (length out)) × (out ≡ encodeInto i out)

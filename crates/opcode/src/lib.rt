@@ -15,11 +15,13 @@ ghost use lib.ListN.{length, take, drop};
 ghost use Rattle.definition.specs.Basic.{byteAt};
 ghost use Rattle.definition.specs.Opcode.{instrAt, bytesOf, width as operandLength};
 ghost use Rattle.definition.specs.Decode.{readInstr};
+ghost use Rattle.definition.specs.Output.{over};
+ghost use Rattle.definition.specs.Listing.{words};
 ghost use Rattle.definition.specs.Valid.{operandBound, capturesBound};
 ghost use Rattle.opcode.specs.Table.{entry};
 ghost use Rattle.opcode.specs.Decoding.{sizeAt, instruction, instrOf, decodeAnswer};
-ghost use Rattle.opcode.specs.Words.{words, joined, startOf, wordAnswer, wordInto};
-ghost use Rattle.opcode.specs.Encoding.{valid, encodeAnswer, encodeInto, Ready, atStart};
+ghost use Rattle.opcode.specs.Words.{joined, startOf, wordAnswer, wordInto};
+ghost use Rattle.opcode.specs.Encoding.{valid, encodeAnswer, encodeInto, Ready};
 
 // An instruction: its byte, its operand, and the captures of a Closure.
 pub struct Instruction {
@@ -182,7 +184,7 @@ pub fn is_valid(i: Instruction) -> bool
 // Write an instruction of `w` operand bytes at the start of `out`, which has room for it.
 fn put(out: &mut [u8], i: Instruction, w: usize)
     requires { ⌜ Ready (instrOf i) w (now out) ⌝ }
-    ensures { λ r. ⌜ now (out .exit) ≡ atStart (bytesOf (instrOf i)) (now (out .entry)) ⌝ }
+    ensures { λ r. ⌜ now (out .exit) ≡ over (bytesOf (instrOf i)) (now (out .entry)) ⌝ }
 {
     let a = i.operand;
     out[0] = i.op;
@@ -224,7 +226,7 @@ pub fn encode(out: &mut [u8], i: Instruction) -> Answer
 }
 
 // Where the word of an instruction byte starts in `WORDS`.
-fn word_start(o: usize) -> usize
+pub fn word_start(o: usize) -> usize
     requires { ⌜ o < 31 ⌝ }
     ensures { λ r. ⌜ r ≡ startOf words o ⌝ }
 {
@@ -234,7 +236,7 @@ fn word_start(o: usize) -> usize
 // Copy a part of the words to the start of `out`, which has room for it.
 fn put_word(out: &mut [u8], start: usize, size: usize)
     requires { ⌜ (size ≤ length (now out)) × (start + size ≤ 193) ⌝ }
-    ensures { λ r. ⌜ now (out .exit) ≡ atStart (take size (drop start (joined words))) (now (out .entry)) ⌝ }
+    ensures { λ r. ⌜ now (out .exit) ≡ over (take size (drop start (joined words))) (now (out .entry)) ⌝ }
 {
     let mut k = 0;
     while k < size {

@@ -1,8 +1,10 @@
-// Runs recorded cases of instructions, images and sessions, and writes the answer to each on a line.
-// The file `cases` has a question on each line: a word (image, decode or start), a space, and bytes in hexadecimal, where `{6100}3.`
-// stands for the bytes between the braces three times over. A session's bytes (start) are followed by zeros up to 65,536.
+// Runs recorded cases of instructions, images, listings and sessions, and writes the answer to each on a line.
+// The file `cases` has a question on each line: a word (image, list, decode or start), a space, and bytes in hexadecimal, where `{6100}3.`
+// stands for the bytes between the braces three times over. A session's bytes (start) are followed by zeros up to 65,536. A listing's image
+// (list) stands behind the length of its output in three bytes; the listing follows its answer.
 use bytecode::ImageCheck;
 use bytecode::Layout;
+use definition::Answer;
 use libc::STDOUT_FILENO;
 use opcode::Decoded;
 use opcode::Instruction;
@@ -73,6 +75,35 @@ fn answer_image(image: &[u8]) {
     }
 }
 
+// Write a listing behind its answer's line.
+fn write_listing(output: &[u8], length: usize) {
+    if length <= output.len() {
+        io::write_all(STDOUT_FILENO, b"ok\n");
+        io::write_all(STDOUT_FILENO, &output[..length]);
+    }
+}
+
+// List an image into an output.
+fn list_into(image: &[u8], output: &mut [u8]) {
+    match listing::list_image(image, output) {
+        Answer::Length(n) => write_listing(output, n),
+        Answer::Refused(r) => write_refusal(r.number, r.place),
+    }
+}
+
+// Answer a question on a listing: the length of its output in three bytes, then the image.
+fn answer_list(bytes: &[u8]) {
+    if bytes.len() < 3 {
+        return;
+    }
+    let room = field::wide(bytes[0]) * 65536 + field::word(bytes[1], bytes[2]);
+    if room > 65536 {
+        return;
+    }
+    let mut output = io::large_buffer();
+    list_into(&bytes[3..], &mut output[..room]);
+}
+
 // Answer a question on decoding.
 fn answer_decode(code: &[u8]) {
     match opcode::decode(code) {
@@ -107,6 +138,10 @@ fn answer(bytes: &[u8], kind: u8, length: usize) {
     }
     if kind == b'i' {
         answer_image(&bytes[..length]);
+        return;
+    }
+    if kind == b'l' {
+        answer_list(&bytes[..length]);
         return;
     }
     if kind == b'd' {

@@ -6,7 +6,7 @@ use mathlib.Core.Path.{_≡_, refl, sym, ap, _∙_}
 use lib.ListN.{length, set, take, drop, length-append}
 use lib.Seq.{sets, take-at, drop-at}
 use Rattle.definition.specs.Basic.{Bytes}
-use Rattle.definition.specs.Call.{over}
+use Rattle.definition.specs.Output.{over}
 use Rattle.definition.specs.Field.{field}
 use Rattle.session.specs.Write.{heading}
 use Rattle.session.proofs.Stores.{sets-append, sets-over}

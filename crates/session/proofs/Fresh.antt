@@ -6,7 +6,8 @@ use lib.ListN.{length, replicate, length-replicate}
 use lib.Seq.{sets}
 use borrow.Author.Tests.{le-leb, lt-leb}
 use Rattle.definition.specs.Basic.{Bytes}
-use Rattle.definition.specs.Call.{over, made}
+use Rattle.definition.specs.Call.{made}
+use Rattle.definition.specs.Output.{over}
 use Rattle.definition.specs.Limit.{sessionSize}
 use Rattle.definition.specs.Number
 use Rattle.definition.specs.Number.{refusal}

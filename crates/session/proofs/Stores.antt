@@ -7,7 +7,7 @@ use mathlib.Core.Path.{_≡_, refl, sym, ap, _∙_}
 use lib.ListN.{length, set, take, drop, replicate, length-replicate}
 use lib.Seq.{sets, sets-eq, set-set, set-comm, take-set-le, drop-set-lt, take-nil, drop-nil}
 use Rattle.definition.specs.Basic.{Bytes}
-use Rattle.definition.specs.Call.{over}
+use Rattle.definition.specs.Output.{over}
 
 -- more bytes behind
 pub sets-append : (l : Bytes) (i : ℕ) {j : ℕ} (xs ys : Bytes) → i + length xs ≡ j → sets (sets l i xs) j ys ≡ sets l i (xs ++ ys)

@@ -4,7 +4,7 @@ ghost use mathlib.Core.Path.{_≡_};
 ghost use mathlib.Core.List.{_++_};
 ghost use Prim.Native.Nat.{_+_, _≤_};
 ghost use lib.ListN.{length};
-ghost use Rattle.definition.specs.Call.{over};
+ghost use Rattle.definition.specs.Output.{over};
 ghost use Rattle.definition.specs.Field.{field};
 ghost use Rattle.definition.specs.Tag.{tagMain, tagPool};
 

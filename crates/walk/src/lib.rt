@@ -44,7 +44,7 @@ const ARGUMENTS_LIMIT: usize = 255;
 const LESS_THAN: u8 = 8;
 
 // Compiles the statement at `at`.
-fn compile_statement(
+fn walk_statement(
     tree: &[u8],
     session: &mut [u8],
     code: &mut [u8],
@@ -58,23 +58,23 @@ fn compile_statement(
 {
     match tree[at] as usize {
         tag::EXPR_STMT => {
-            let v = compile_expression(tree, session, code, table, at + 3, w);
+            let v = walk_expression(tree, session, code, table, at + 3, w);
             emit(code, v, at, opcodes::POP)
         }
         tag::BLOCK => {
             let end = after_at(tree, at);
-            compile_block(tree, session, code, table, at + 3, end, w)
+            walk_block(tree, session, code, table, at + 3, end, w)
         }
-        tag::LET => compile_let(tree, session, code, table, at, w),
+        tag::LET => walk_let(tree, session, code, table, at, w),
         _ => {
-            let v = compile_expression(tree, session, code, table, at + 3, w);
+            let v = walk_expression(tree, session, code, table, at + 3, w);
             emit(code, v, at, opcodes::RETURN_VALUE)
         }
     }
 }
 
 // Compiles a let: the name is defined before its value.
-fn compile_let(
+fn walk_let(
     tree: &[u8],
     session: &mut [u8],
     code: &mut [u8],
@@ -89,12 +89,12 @@ fn compile_let(
     let value = after_at(tree, at + 3);
     let defined = define(tree, table, w, at);
     let d = defined.walked;
-    let v = compile_expression(tree, session, code, table, value, d);
+    let v = walk_expression(tree, session, code, table, value, d);
     emit_any(code, v, at, defined.op, defined.operand)
 }
 
 // Compiles the statements from an offset up to an end.
-fn compile_block(
+fn walk_block(
     tree: &[u8],
     session: &mut [u8],
     code: &mut [u8],
@@ -110,14 +110,14 @@ fn compile_block(
     let mut at = from;
     let mut v = w;
     while at < end {
-        v = compile_statement(tree, session, code, table, at, v);
+        v = walk_statement(tree, session, code, table, at, v);
         at = after_at(tree, at);
     }
     v
 }
 
 // Compiles the expression at `at`.
-fn compile_expression(
+fn walk_expression(
     tree: &[u8],
     session: &mut [u8],
     code: &mut [u8],
@@ -131,23 +131,23 @@ fn compile_expression(
 {
     match tree[at] as usize {
         tag::IDENTIFIER => load(tree, session, code, table, w, at),
-        tag::PREFIX => compile_prefix(tree, session, code, table, at, w),
-        tag::INFIX => compile_infix(tree, session, code, table, at, w),
-        tag::IF => compile_if(tree, session, code, table, at, w),
-        tag::FUNCTION => compile_function(tree, session, code, table, at, w),
-        tag::CALL => compile_call(tree, session, code, table, at, w),
+        tag::PREFIX => walk_prefix(tree, session, code, table, at, w),
+        tag::INFIX => walk_infix(tree, session, code, table, at, w),
+        tag::IF => walk_if(tree, session, code, table, at, w),
+        tag::FUNCTION => walk_function(tree, session, code, table, at, w),
+        tag::CALL => walk_call(tree, session, code, table, at, w),
         tag::INTEGER => literal(tree, session, code, w, at, INTEGER_CONSTANT),
         tag::BOOLEAN => boolean(code, w, at, tree[at + 3]),
         tag::STRING => literal(tree, session, code, w, at, STRING_CONSTANT),
-        tag::ARRAY => compile_list(tree, session, code, table, at, opcodes::ARRAY, w),
-        tag::INDEX => compile_index(tree, session, code, table, at, w),
-        tag::HASH => compile_list(tree, session, code, table, at, opcodes::HASH, w),
+        tag::ARRAY => walk_list(tree, session, code, table, at, opcodes::ARRAY, w),
+        tag::INDEX => walk_index(tree, session, code, table, at, w),
+        tag::HASH => walk_list(tree, session, code, table, at, opcodes::HASH, w),
         _ => refuse(w, numbers::MACRO, at),
     }
 }
 
 // Compiles a prefix: its operand, then its operator.
-fn compile_prefix(
+fn walk_prefix(
     tree: &[u8],
     session: &mut [u8],
     code: &mut [u8],
@@ -159,12 +159,12 @@ fn compile_prefix(
     requires { ⌜ Standing (now tree) (now code) (rest (now session) (now table)) w ⌝ }
     ensures { λ r. ⌜ Walks (now (tree .entry)) (PrefixAt (now (tree .entry)) (ReadsExpr (now (tree .entry))) at) (walkExpr machine) (now (code .entry)) (now (code .exit)) (rest (now (session .entry)) (now (table .entry))) (rest (now (session .exit)) (now (table .exit))) w r ⌝ }
 {
-    let v = compile_expression(tree, session, code, table, at + 7, w);
+    let v = walk_expression(tree, session, code, table, at + 7, w);
     prefix_operator(code, v, at, tree[at + 6])
 }
 
 // Compiles an infix: its operands, the right one first for `<`, then its operator.
-fn compile_infix(
+fn walk_infix(
     tree: &[u8],
     session: &mut [u8],
     code: &mut [u8],
@@ -181,18 +181,18 @@ fn compile_infix(
     let right = op + 4;
     let o = tree[op + 3];
     if o == LESS_THAN {
-        let v = compile_expression(tree, session, code, table, right, w);
-        let u = compile_expression(tree, session, code, table, left, v);
+        let v = walk_expression(tree, session, code, table, right, w);
+        let u = walk_expression(tree, session, code, table, left, v);
         infix_operator(code, u, at, o)
     } else {
-        let v = compile_expression(tree, session, code, table, left, w);
-        let u = compile_expression(tree, session, code, table, right, v);
+        let v = walk_expression(tree, session, code, table, left, w);
+        let u = walk_expression(tree, session, code, table, right, v);
         infix_operator(code, u, at, o)
     }
 }
 
 // Compiles an if: its test, a jump over its first branch, its branches.
-fn compile_if(
+fn walk_if(
     tree: &[u8],
     session: &mut [u8],
     code: &mut [u8],
@@ -205,14 +205,14 @@ fn compile_if(
     requires { ⌜ Standing (now tree) (now code) (rest (now session) (now table)) w ⌝ }
     ensures { λ r. ⌜ Walks (now (tree .entry)) (IfAt (now (tree .entry)) (ReadsBlock (now (tree .entry))) (ReadsExpr (now (tree .entry))) at) (walkExpr machine) (now (code .entry)) (now (code .exit)) (rest (now (session .entry)) (now (table .entry))) (rest (now (session .exit)) (now (table .exit))) w r ⌝ }
 {
-    let v = compile_expression(tree, session, code, table, at + 3, w);
+    let v = walk_expression(tree, session, code, table, at + 3, w);
     let skip = jump(code, v, at, opcodes::JUMP_NOT_TRUTHY);
     let j = skip.walked;
-    compile_branches(tree, session, code, table, at, skip.at, j)
+    walk_branches(tree, session, code, table, at, skip.at, j)
 }
 
 // Compiles the branches of the if at `at`, whose first jump stands at `skip`.
-fn compile_branches(
+fn walk_branches(
     tree: &[u8],
     session: &mut [u8],
     code: &mut [u8],
@@ -227,15 +227,15 @@ fn compile_branches(
     ensures { λ r. ⌜ Walks (now (tree .entry)) (ReadsBranches (now (tree .entry)) at) (walkBranches at skip) (now (code .entry)) (now (code .exit)) (rest (now (session .entry)) (now (table .entry))) (rest (now (session .exit)) (now (table .exit))) w r ⌝ }
 {
     let branch = after_at(tree, at + 3);
-    let v = compile_branch(tree, session, code, table, at, branch, w);
+    let v = walk_branch(tree, session, code, table, at, branch, w);
     let away = jump_and_patch(code, v, at, skip);
     let k = away.walked;
-    let u = compile_else(tree, session, code, table, at, k);
+    let u = walk_else(tree, session, code, table, at, k);
     patch(code, u, away.at)
 }
 
 // Compiles the block at `at` as a branch of the if at `place`: without its last Pop.
-fn compile_branch(
+fn walk_branch(
     tree: &[u8],
     session: &mut [u8],
     code: &mut [u8],
@@ -249,12 +249,12 @@ fn compile_branch(
     ensures { λ r. ⌜ Walks (now (tree .entry)) (ReadsBlock (now (tree .entry)) at) (walkBranch place) (now (code .entry)) (now (code .exit)) (rest (now (session .entry)) (now (table .entry))) (rest (now (session .exit)) (now (table .exit))) w r ⌝ }
 {
     let end = after_at(tree, at);
-    let v = compile_block(tree, session, code, table, at + 3, end, w);
+    let v = walk_block(tree, session, code, table, at + 3, end, w);
     drop_pop(code, v, place)
 }
 
 // Compiles the other branch of the if at `place`, or Null where there is none.
-fn compile_else(
+fn walk_else(
     tree: &[u8],
     session: &mut [u8],
     code: &mut [u8],
@@ -271,14 +271,14 @@ fn compile_else(
     let branch = after_at(tree, place + 3);
     let at = after_at(tree, branch);
     if at < end {
-        compile_branch(tree, session, code, table, place, at, w)
+        walk_branch(tree, session, code, table, place, at, w)
     } else {
         emit(code, w, place, opcodes::NULL)
     }
 }
 
 // Compiles an index: what is indexed, then by what.
-fn compile_index(
+fn walk_index(
     tree: &[u8],
     session: &mut [u8],
     code: &mut [u8],
@@ -291,13 +291,13 @@ fn compile_index(
     ensures { λ r. ⌜ Walks (now (tree .entry)) (IndexAt (now (tree .entry)) (ReadsExpr (now (tree .entry))) at) (walkExpr machine) (now (code .entry)) (now (code .exit)) (rest (now (session .entry)) (now (table .entry))) (rest (now (session .exit)) (now (table .exit))) w r ⌝ }
 {
     let right = after_at(tree, at + 3);
-    let v = compile_expression(tree, session, code, table, at + 3, w);
-    let u = compile_expression(tree, session, code, table, right, v);
+    let v = walk_expression(tree, session, code, table, at + 3, w);
+    let u = walk_expression(tree, session, code, table, right, v);
     emit(code, u, at, opcodes::INDEX)
 }
 
 // Compiles a call: its callee, its arguments unless there are too many, Call.
-fn compile_call(
+fn walk_call(
     tree: &[u8],
     session: &mut [u8],
     code: &mut [u8],
@@ -313,17 +313,17 @@ fn compile_call(
     let end = after_at(tree, at);
     let args = after_at(tree, at + 3);
     let n = count_fields(tree, args, end);
-    let v = compile_expression(tree, session, code, table, at + 3, w);
+    let v = walk_expression(tree, session, code, table, at + 3, w);
     if ARGUMENTS_LIMIT < n {
         refuse(v, numbers::TOO_MANY, at)
     } else {
-        let u = compile_expressions(tree, session, code, table, args, end, v);
+        let u = walk_expressions(tree, session, code, table, args, end, v);
         emit_any(code, u, at, opcodes::CALL, n)
     }
 }
 
 // Compiles the items of an array or a hash, then its instruction with their number.
-fn compile_list(
+fn walk_list(
     tree: &[u8],
     session: &mut [u8],
     code: &mut [u8],
@@ -339,12 +339,12 @@ fn compile_list(
 {
     let end = after_at(tree, at);
     let n = count_fields(tree, at + 3, end);
-    let u = compile_expressions(tree, session, code, table, at + 3, end, w);
+    let u = walk_expressions(tree, session, code, table, at + 3, end, w);
     emit_any(code, u, at, op, n)
 }
 
 // Compiles the expressions from an offset up to an end.
-fn compile_expressions(
+fn walk_expressions(
     tree: &[u8],
     session: &mut [u8],
     code: &mut [u8],
@@ -360,14 +360,14 @@ fn compile_expressions(
     let mut at = from;
     let mut v = w;
     while at < end {
-        v = compile_expression(tree, session, code, table, at, v);
+        v = walk_expression(tree, session, code, table, at, v);
         at = after_at(tree, at);
     }
     v
 }
 
 // Compiles a function: its body in a chunk of its own, then its closure.
-fn compile_function(
+fn walk_function(
     tree: &[u8],
     session: &mut [u8],
     code: &mut [u8],
@@ -384,7 +384,7 @@ fn compile_function(
     let end = after_at(tree, body);
     let n = count_fields(tree, params + 3, body);
     let inner = enter(tree, table, w, at, n);
-    let v = compile_block(tree, session, code, table, body + 3, end, inner);
+    let v = walk_block(tree, session, code, table, body + 3, end, inner);
     leave(session, code, table, w, v, at, n)
 }
 
@@ -402,5 +402,5 @@ pub fn compile_tree(
     ensures { λ r. ⌜ Walks (now (tree .entry)) (ReadsTree (now (tree .entry))) (walkStmts machine) (now (code .entry)) (now (code .exit)) (rest (now (session .entry)) (now (table .entry))) (rest (now (session .exit)) (now (table .exit))) (On state) r ⌝ }
 {
     let w = Walked::On(state);
-    compile_block(tree, session, code, table, 3, tree.len(), w)
+    walk_block(tree, session, code, table, 3, tree.len(), w)
 }

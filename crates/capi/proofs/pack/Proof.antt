@@ -1,36 +1,35 @@
 -- `capi::pack` meets its contract: by the answer's case.
-use mathlib.Core.Path.{_≡_, sym, ap, _∙_}
-use Prim.Native.Nat.{ℕ, _+_, _*_}
+use native.Mathlib.Omega.{arith}
 use borrow.Author.Needs.{needs}
-use Rattle.capi.specs.Packed.{halfBound, packed}
+use Rattle.capi.proofs.Fits.{packs-length, packs-refused, refused-fits}
 use Rattle.capi.proofs.pack.Statement.{statement}
 use Rattle.capi.proofs.pack.Tie as tie
-use Rattle.capi.proofs.pack.Reads as reads
-use Rattle.capi.proofs.pack.Lts as lts
+
+mul-result : tie.Need-mul-result
+mul-result c =
+    let start = c .before .before .before in
+    let answer = c .before .answer2 in
+    let fits = refused-fits (start .pre) (answer .given .1) in
+    record { fits = omega (arith, fits .number) }
+
+add-result : tie.Need-add-result
+add-result c =
+    let start = c .before .before .before in
+    let answer = c .before .answer2 in
+    let fits = refused-fits (start .pre) (answer .given .1) in
+    record { fits = omega (arith, fits .number, fits .value) }
 
 returns : tie.Need-returns
 returns c =
-    let low = c .low in
-    let answer = c .before .before .answer in
-    low .ensures ∙ sym (ap packed (answer .given .1))
+    let start = c .before .before .before in
+    let answer = c .before .answer in
+    packs-length (start .pre) (answer .given .1)
 
 returns-2 : tie.Need-returns-2
 returns-2 c =
-    let number = c .before .low2 in
-    let place = c .low3 in
-    let answer = c .before .before .before .answer2 in
-    (λ i. number .ensures i * halfBound + place .ensures i) ∙ sym (ap packed (answer .given .1))
+    let start = c .before .before .before in
+    let answer = c .before .answer2 in
+    packs-refused (start .pre) (answer .given .1)
 
 pub pack-spec : {M : Type 1} → statement M
-pack-spec =
-    tie.close
-    (tie.spec
-    (λ c. search needs)
-    (λ c κs. search needs)
-    (λ c. search needs)
-    (λ c κs. search needs)
-    (λ c. search needs)
-    (λ c κs. search needs)
-    (λ c. search needs)
-    returns
-    returns-2)
+pack-spec = tie.close (tie.spec (λ c. search needs) (λ c. search needs) mul-result add-result returns returns-2)

@@ -2,7 +2,8 @@
 use Prim.Native.Nat.{_-_}
 use native.Mathlib.Omega.{arith}
 use borrow.Author.Needs.{needs}
-use Rattle.opcode.specs.Words.{words, joined}
+use Rattle.definition.specs.Listing.{words}
+use Rattle.opcode.specs.Words.{joined}
 use Rattle.opcode.proofs.Copy.{Copying, holds, again, ends}
 use Rattle.opcode.proofs.put_word.Statement.{statement}
 use Rattle.opcode.proofs.put_word.Tie as tie

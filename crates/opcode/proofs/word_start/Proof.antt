@@ -1,7 +1,8 @@
 -- `opcode::word_start` meets its contract: the table is the rule tabulated.
 use mathlib.Core.Path.{_∙_}
 use borrow.Author.Needs.{needs}
-use Rattle.opcode.specs.Words.{words, startOf}
+use Rattle.definition.specs.Listing.{words}
+use Rattle.opcode.specs.Words.{startOf}
 use Rattle.opcode.proofs.Tables.{tabulated}
 use Rattle.opcode.proofs.word_start.Statement.{statement}
 use Rattle.opcode.proofs.word_start.Tie as tie

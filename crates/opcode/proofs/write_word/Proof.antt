@@ -1,4 +1,4 @@
--- `opcode::write_word` meets its contract: its part of all words is placed at the start of the output, where it fits.
+-- `opcode::write_word` meets its contract: its part of all words is outputAnswer at the start of the output, where it fits.
 use native.Mathlib.Omega.{arith}
 use denote.Ref.{now}
 use borrow.Author.Needs.{needs}

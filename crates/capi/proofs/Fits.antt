@@ -1,0 +1,63 @@
+-- Every answer fits its two halves, and its number has them.
+use Prim.Native.Nat.{ℕ, _+_, _*_, _≤_, _<_}
+use native.Mathlib.Omega.{arith}
+use mathlib.Core.Path.{_≡_, refl, sym, ap, subst}
+use lib.ListN.{take}
+use Rattle.definition.specs.Basic.{Bytes}
+use Rattle.definition.specs.Limit.{sessionSize, imageLimit}
+use Rattle.definition.specs.Bytecode.{Image}
+use Rattle.definition.specs.Decode.{Decoded, decoded, malformed, readImage}
+use Rattle.definition.specs.Call.{Lent, call, made}
+use Rattle.definition.specs.Listing.{listAnswer}
+use Rattle.definition.specs.Valid.{AreBytes}
+use Rattle.definition.specs.declared.Refusal.{Refusal}
+use Rattle.definition.specs.declared.Answer.{Answer}
+use Rattle.definition.specs.declared.Answer.the-variants.{Length, Refused}
+use Rattle.definition.proofs.Places.{Within, made-within, call-within-limit}
+use Rattle.definition.proofs.ImagePlaces.{image-place}
+use Rattle.definition.proofs.ListingLength.{list-within}
+use Rattle.bytecode.specs.Checked.{imageAnswer}
+use Rattle.capi.specs.Packed.{halfBound, packed, Fits, Packs, checkAnswer}
+
+-- the halves of a number whose halves fit
+pub packs : {a : Answer} {r : ℕ} → Fits a → r ≡ packed a → Packs a r
+packs h e = record { whole = e; number = omega (arith, h .value); value = omega (arith, h .value) }
+
+-- a length
+pub packs-length : {a : Answer} {n : ℕ} → Fits a → a ≡ Length n → Packs a n
+packs-length h e = packs h (omega (arith, ap packed e))
+
+-- a refusal, whose parts fit
+pub packs-refused : {a : Answer} {r : Refusal} → Fits a → a ≡ Refused r → Packs a (r .number * halfBound + r .place)
+packs-refused h e = packs h (sym (ap packed e))
+
+pub refused-fits : {a : Answer} {r : Refusal} → Fits a → a ≡ Refused r → Fits (Refused r)
+refused-fits h e = subst Fits e h
+
+-- an answer that equals another
+pub fits-as : {a b : Answer} → a ≡ b → Fits b → Fits a
+fits-as e h = subst Fits (sym e) h
+
+pub packs-as : {a b : Answer} {r : ℕ} → a ≡ b → Packs a r → Packs b r
+packs-as {r = r} e h = subst (λ a. Packs a r) e h
+
+-- an answer within bounds that fit
+within-fits : {lengths numbers places : ℕ} {a : Answer} → lengths < halfBound → numbers < halfBound → places < halfBound → Within lengths numbers places a → Fits a
+within-fits l n p (Within.wrote h) = record { number = omega arith; value = omega arith }
+within-fits l n p (Within.refused b) = record { number = omega (arith, b .number); value = omega (arith, b .place) }
+
+pub made-fits : (s : Bytes) → Fits (made s .answer)
+made-fits s = within-fits (omega arith) (omega arith) (omega arith) (made-within s)
+
+pub call-fits : (tree : Bytes) (l : Lent) → AreBytes (take sessionSize (l .session)) → Fits (call tree l .answer)
+call-fits tree l a = within-fits (omega arith) (omega arith) (omega arith) (call-within-limit tree l a)
+
+pub image-fits : (b : Bytes) → Fits (checkAnswer (imageAnswer (readImage b)))
+image-fits b = go (readImage b) (image-place b)
+  where
+    go : (d : Decoded Image) → ((p : ℕ) → d ≡ malformed p → p ≤ imageLimit) → Fits (checkAnswer (imageAnswer d))
+    go (decoded m n) h = record { number = omega arith; value = omega arith }
+    go (malformed p) h = record { number = omega arith; value = omega (arith, h p refl) }
+
+pub list-fits : (b : Bytes) → AreBytes b → (room : ℕ) → Fits (listAnswer (readImage b) room)
+list-fits b a room = within-fits (omega arith) (omega arith) (omega arith) (list-within b a room)

@@ -1,0 +1,58 @@
+// The listing of an image as text.
+pub mod code;
+pub mod pool;
+pub mod text;
+
+use bytecode::ImageCheck;
+use bytecode::check_image;
+use code::list_code;
+use definition::Answer;
+use definition::Refusal;
+use field::length_at;
+use pool::list_pool;
+use text::put;
+use text::put_bytes;
+use text::put_field;
+ghost use mathlib.Core.Path.{_≡_};
+ghost use lib.ListN.{length};
+ghost use Rattle.definition.specs.Bytecode.{Image};
+ghost use Rattle.definition.specs.Decode.{readImage};
+ghost use Rattle.definition.specs.Listing.{listing, listAnswer, listInto};
+ghost use Rattle.listing.specs.Put.{roof, Puts};
+ghost use Rattle.listing.specs.Reads.{ImageAt, HasImage};
+
+// Puts the listing of a sound image at the start of the output.
+fn put_listing(output: &mut [u8], image: &[u8]) -> usize
+    requires { ⌜ HasImage (now image) ⌝ }
+    ensures { λ r. ⌜ ((m : Image) → ImageAt (now (image .entry)) m → Puts roof (now (output .entry)) (now (output .exit)) 0 r (listing m)) ⌝ }
+{
+    let size = length_at(image, 0);
+    let end = 3 + size;
+    let after_word = put_bytes(output, 0, b"main");
+    let after_size = put_field(output, after_word, size);
+    let next = put(output, after_size, b'\n');
+    let after_code = list_code(output, next, image, 3, end);
+    list_pool(output, after_code, image, end + 3, image.len())
+}
+
+// Lists an image: the length of its listing, which stands at the start of the output then; or 17 where the image is wrong; or 15 where the
+// listing is longer than the output.
+pub fn list_image(image: &[u8], output: &mut [u8]) -> Answer
+    ensures answers { λ r. ⌜ r ≡ listAnswer (readImage (now (image .entry))) (length (now (output .entry))) ⌝ }
+    ensures writes { λ r. ⌜ now (output .exit) ≡ listInto (readImage (now (image .entry))) (now (output .entry)) ⌝ }
+{
+    match check_image(image) {
+        ImageCheck::Refused(r) => Answer::Refused(r),
+        ImageCheck::Sound => {
+            let size = put_listing(&mut output[..0], image);
+            if output.len() < size {
+                return Answer::Refused(Refusal {
+                    number: 15,
+                    place: 0,
+                });
+            }
+            put_listing(output, image);
+            Answer::Length(size)
+        }
+    }
+}

@@ -1,0 +1,132 @@
+/*
+ * Compiles profiles in one session, checks and lists their images, and shows refusals: two profiles and damaged ones of its own, or the
+ * trees in the files that it is given. examples/run compares what it prints.
+ */
+#include <stdio.h>
+#include <string.h>
+
+#include "monkey.h"
+
+/* let top = 40; */
+static const uint8_t top[] = {
+    0x10, 0, 20,                                 /* Program */
+      0x13, 0, 17,                               /*   Let */
+        0x30, 0, 3, 't', 'o', 'p',               /*     name */
+        0x26, 0, 8, 0, 0, 0, 0, 0, 0, 0, 40,     /*     Integer */
+};
+
+/* let limit = fn(speed) { if (speed > top) { top } else { speed } }; limit(55); */
+static const uint8_t limit[] = {
+    0x10, 0, 114,                                /* Program */
+      0x13, 0, 86,                               /*   Let */
+        0x30, 0, 5, 'l', 'i', 'm', 'i', 't',     /*     name */
+        0x24, 0, 75,                             /*     Function */
+          0x30, 0, 5, 'l', 'i', 'm', 'i', 't',   /*       name */
+          0x31, 0, 8,                            /*       parameters */
+            0x30, 0, 5, 's', 'p', 'e', 'e', 'd', /*         name */
+          0x12, 0, 53,                           /*       Block */
+            0x11, 0, 50,                         /*         ExprStmt */
+              0x23, 0, 47,                       /*           If */
+                0x22, 0, 18,                     /*             Infix */
+                  0x20, 0, 5, 's', 'p', 'e', 'e', 'd',
+                  0x32, 0, 1, 9,                 /*               operator > */
+                  0x20, 0, 3, 't', 'o', 'p',
+                0x12, 0, 9,                      /*             Block */
+                  0x11, 0, 6, 0x20, 0, 3, 't', 'o', 'p',
+                0x12, 0, 11,                     /*             Block */
+                  0x11, 0, 8, 0x20, 0, 5, 's', 'p', 'e', 'e', 'd',
+      0x11, 0, 22,                               /*   ExprStmt */
+        0x25, 0, 19,                             /*     Call */
+          0x20, 0, 5, 'l', 'i', 'm', 'i', 't',   /*       Identifier */
+          0x26, 0, 8, 0, 0, 0, 0, 0, 0, 0, 55,   /*       Integer */
+};
+
+/* x, which nothing defines */
+static const uint8_t unknown[] = {
+    0x10, 0, 7,              /* Program */
+      0x11, 0, 4,            /*   ExprStmt */
+        0x20, 0, 1, 'x',     /*     Identifier */
+};
+
+static uint8_t session[MONKEY_SESSION_SIZE];
+static uint8_t output[MONKEY_IMAGE_LIMIT];
+static uint8_t code[MONKEY_CODE_SIZE];
+static uint32_t table[MONKEY_TABLE_SIZE];
+static uint8_t text[65536];
+
+/* Prints an answer: a length, or a refusal with its place. */
+static void print_answer(const char *what, uint64_t answer) {
+    if (monkey_number(answer) == 0) {
+        printf("%s: %u\n", what, (unsigned)monkey_value(answer));
+    } else {
+        printf("%s: refused %u at %u\n", what, (unsigned)monkey_number(answer), (unsigned)monkey_value(answer));
+    }
+}
+
+/* Lists an image. */
+static void list(const uint8_t *image, size_t length) {
+    uint64_t answer = monkey_list_image(image, length, text, sizeof text);
+    print_answer("listing", answer);
+    if (monkey_number(answer) == 0) {
+        fwrite(text, 1, monkey_value(answer), stdout);
+    }
+}
+
+static uint64_t compile(const uint8_t *tree, size_t length) {
+    return monkey_compile(session, sizeof session, tree, length, output, sizeof output, code, sizeof code, table, MONKEY_TABLE_SIZE);
+}
+
+/* Compiles a tree, and checks and lists its image. */
+static void show(const char *what, const uint8_t *tree, size_t length) {
+    uint64_t answer = compile(tree, length);
+    print_answer(what, answer);
+    if (monkey_number(answer) == 0) {
+        print_answer("image", monkey_check_image(output, monkey_value(answer)));
+        list(output, monkey_value(answer));
+    }
+}
+
+/* The profiles of this file, and what is refused. */
+static void show_own(void) {
+    static uint8_t before[MONKEY_SESSION_SIZE];
+
+    show("top", top, sizeof top);
+    show("limit", limit, sizeof limit);
+
+    memcpy(before, session, sizeof session);
+    show("unknown", unknown, sizeof unknown);
+    show("cut", limit, sizeof limit - 1);
+    printf("session as it was: %s\n", memcmp(before, session, sizeof session) == 0 ? "yes" : "no");
+
+    print_answer("listing too long", monkey_list_image(output, 68, text, 10));
+    output[7] = 0xff; /* where limit's image has its second instruction */
+    print_answer("damaged image", monkey_check_image(output, 68));
+    list(output, 68);
+}
+
+/* The tree in a file. One byte more than the longest tree is enough to have a longer one refused. */
+static int show_file(const char *name) {
+    static uint8_t tree[MONKEY_TREE_LIMIT + 1];
+    FILE *file = fopen(name, "rb");
+    if (file == NULL) {
+        perror(name);
+        return 1;
+    }
+    size_t length = fread(tree, 1, sizeof tree, file);
+    fclose(file);
+    show(name, tree, length);
+    return 0;
+}
+
+int main(int argc, char **argv) {
+    int failed = 0;
+    print_answer("session too short", monkey_make_session(session, 100));
+    print_answer("session", monkey_make_session(session, sizeof session));
+    if (argc < 2) {
+        show_own();
+    }
+    for (int i = 1; i < argc; i++) {
+        failed |= show_file(argv[i]);
+    }
+    return failed;
+}

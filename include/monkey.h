@@ -1,0 +1,99 @@
+/*
+ * The profile compiler for C: link target/staticlib/libcapi.a (rt staticlib capi; x86-64).
+ *
+ * Buffers
+ *   Each is a pointer and a length. A length counts elements: bytes, and for the table area 32-bit numbers.
+ *   No pointer is null, also where the length is 0; a table area is aligned as a uint32_t.
+ *   No two buffers of one call overlap, and nothing else reads or writes them while it runs.
+ *   The functions keep nothing of their own between calls and use no heap, so that threads may call them on buffers of their own.
+ *   A call takes up to 100,000 bytes of stack (measured on trees of 64 levels).
+ *
+ * Answers
+ *   Each function answers one 64-bit number. Where the high half is 0, the low half is a length, of what was written. Otherwise the
+ *   call was refused: the high half is the number of the refusal, 1 to 17, the low half its place, an offset.
+ *   monkey_number and monkey_value take the halves. Every call ends with an answer, whatever bytes the buffers hold.
+ */
+#ifndef MONKEY_H
+#define MONKEY_H
+
+#include <stddef.h>
+#include <stdint.h>
+
+#ifdef __cplusplus
+extern "C" {
+#endif
+
+/* Sizes to lend. A longer buffer is taken too: what is past the size stays as it was. */
+enum {
+    MONKEY_SESSION_SIZE = 65536, /* bytes of a session */
+    MONKEY_CODE_SIZE = 32768,    /* bytes of the code area */
+    MONKEY_TABLE_SIZE = 16384,   /* 32-bit numbers of the table area */
+    MONKEY_TREE_LIMIT = 32768,   /* bytes of the longest tree */
+    MONKEY_IMAGE_LIMIT = 61446,  /* bytes of the longest image: 6, and 32,768 of main code, and 28,672 of pool */
+    MONKEY_LISTING_LIMIT = 6144100 /* no listing has more bytes; most have far fewer */
+};
+
+/* The numbers of refusals. The place is an offset in the tree, 0 where none is named here. */
+enum monkey_refusal {
+    MONKEY_SHORT_BUFFER = 1,     /* a work area or the session is below its size */
+    MONKEY_NO_SESSION = 2,       /* the session's layout is broken: a session that only these functions wrote never is */
+    MONKEY_BAD_TREE = 3,         /* the tree's layout is broken; place: the wrong field, or the parent of a missing child */
+    MONKEY_TOO_DEEP = 4,         /* a field at level 65, Program being level 1; place: the field */
+    MONKEY_UNDEFINED = 5,        /* a name without symbol; place: the Identifier */
+    MONKEY_OPERATOR = 6,         /* an operator that is none there; place: the Infix or Prefix */
+    MONKEY_MACRO = 7,            /* place: the MacroLit */
+    MONKEY_TOO_MANY = 8,         /* over 255 parameters or arguments; place: the Function or Call */
+    MONKEY_LOCALS = 9,           /* the 257th definition in a function; place: the Let */
+    MONKEY_CAPTURES = 10,        /* the 256th free symbol of a function; place: the Identifier */
+    MONKEY_GLOBALS = 11,         /* the session's 1,025th definition; place: the Let */
+    MONKEY_POOL = 12,            /* a constant would pass 4,096 constants or 28,672 bytes; place: its expression */
+    MONKEY_CODE = 13,            /* open code would pass 32,768 bytes; place: the expression or statement */
+    MONKEY_NESTING = 14,         /* the 17th open function; place: the Function */
+    MONKEY_OUTPUT_SHORT = 15,    /* the result is longer than the output */
+    MONKEY_BAD_INSTRUCTION = 16, /* an unknown byte or missing operands; none of these functions answers it */
+    MONKEY_BAD_IMAGE = 17        /* place: the offset in the image of its first wrong field or instruction */
+};
+
+/* The number of a refusal, 0 where there is none. */
+static inline uint32_t monkey_number(uint64_t answer) { return (uint32_t)(answer >> 32); }
+
+/* The length, or the place of a refusal. */
+static inline uint32_t monkey_value(uint64_t answer) { return (uint32_t)answer; }
+
+/*
+ * Makes a fresh session in the first 65,536 bytes and answers 65,536. Refused: 1, and nothing is written.
+ */
+uint64_t monkey_make_session(uint8_t *session, size_t session_length);
+
+/*
+ * Compiles a tree in a session.
+ *   Accepted: the answer is the image's length, and the image stands at the front of the output, whose other bytes stay as they were.
+ *     The tree's definitions and constants are added to the session, so that the next tree is compiled with them.
+ *   Refused, 1 to 15: session and output are as they were. An output of any length is taken; MONKEY_IMAGE_LIMIT bytes are enough for
+ *     every image.
+ *   Work areas may hold anything before. They are zero afterwards, over their sizes, after every call but one that is refused 1, which
+ *     writes nothing at all.
+ */
+uint64_t monkey_compile(uint8_t *session, size_t session_length,
+                        const uint8_t *tree, size_t tree_length,
+                        uint8_t *output, size_t output_length,
+                        uint8_t *code, size_t code_length,
+                        uint32_t *table, size_t table_length);
+
+/*
+ * Checks an image: 0 where it is sound, or 17 and the place. The length is the image's own: bytes that follow it are refused.
+ */
+uint64_t monkey_check_image(const uint8_t *image, size_t image_length);
+
+/*
+ * Lists an image as text: the answer is the listing's length, and the text stands at the front of the output, each line ended by 0A and no
+ * 0 behind the last. The other bytes of the output stay as they were.
+ *   Refused, and the output is as it was: 17 as by monkey_check_image; then 15, where the listing is longer than the output.
+ */
+uint64_t monkey_list_image(const uint8_t *image, size_t image_length, uint8_t *output, size_t output_length);
+
+#ifdef __cplusplus
+}
+#endif
+
+#endif
