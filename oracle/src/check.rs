@@ -1,5 +1,6 @@
 //! The comparison of one series: the Rust and the proved compiler, call by call.
 use crate::image;
+use crate::listing;
 use crate::port::{self, Answer};
 use crate::random::Random;
 use crate::read::{self, Reading};
@@ -16,6 +17,7 @@ pub struct Counts {
     pub refused: [u64; 18],
     /// By number, where a limit of the port decides.
     pub limits: [u64; 18],
+    /// Images checked and listed, sound and damaged ones.
     pub images: u64,
 }
 
@@ -271,12 +273,13 @@ impl Both {
         Ok(())
     }
 
-    /// The image check on the image, and on a damaged copy of it.
+    /// The image check and the listing, on the image and on a damaged copy of it.
     fn image(&mut self, mut image: Vec<u8>) -> Compared {
         self.expect(port::check_image(&image), Answer::Length(0))?;
         if image.len() > 600 {
             return Ok(());
         }
+        self.listed(&image)?;
         let at = self.damage.below(image.len());
         match self.damage.below(4) {
             0 => image.truncate(at),
@@ -284,12 +287,30 @@ impl Both {
             2 => image[at] = self.damage.below(0x20) as u8,
             _ => image[at] = self.damage.next() as u8,
         }
-        let due = match image::check(&image) {
-            Ok(_) => Answer::Length(0),
-            Err(image::Wrong(place)) => Answer::Refused(17, place),
+        self.listed(&image).map_err(|text| format!("of the image {}: {text}", crate::hex::hex(&image)))
+    }
+
+    /// The image check and the listing of one image, now and then into too short an output.
+    fn listed(&mut self, image: &[u8]) -> Compared {
+        let (checked, listed) = match listing::listing(image) {
+            Ok(text) => (Answer::Length(0), text.into_bytes()),
+            Err(image::Wrong(place)) => (Answer::Refused(17, place), Vec::new()),
         };
         self.counts.images += 1;
-        let text = |e| format!("image check of {}: {e}", crate::hex::hex(&image));
-        self.expect(port::check_image(&image), due).map_err(text)
+        self.expect(port::check_image(image), checked)?;
+        let short = self.damage.often(100) && !listed.is_empty();
+        let mut output = vec![0xA5; if short { self.damage.below(listed.len()) } else { listed.len() + 8 }];
+        let answer = port::list_image(image, &mut output);
+        let due = match checked {
+            Answer::Length(_) if short => Answer::Refused(15, 0),
+            Answer::Length(_) => Answer::Length(listed.len()),
+            refused => refused,
+        };
+        self.expect(answer, due)?;
+        let written = if let Answer::Length(length) = due { length } else { 0 };
+        if output[..written] != listed[..written] || output[written..].iter().any(|b| *b != 0xA5) {
+            return Err(format!("the listing differs: {}", String::from_utf8_lossy(&output)));
+        }
+        Ok(())
     }
 }

@@ -127,7 +127,7 @@ impl Run {
             some.map(|(number, n)| format!("{number} {n}")).collect::<Vec<_>>().join(", ")
         };
         println!(
-            "compared {} trees: accepted {}, refused {}; own limits {}; damaged images {}; pairs {}; differ {}",
+            "compared {} trees: accepted {}, refused {}; own limits {}; images listed {}; pairs {}; differ {}",
             counts.trees,
             counts.accepted,
             listed(&counts.refused),
