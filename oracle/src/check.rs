@@ -19,6 +19,8 @@ pub struct Counts {
     pub limits: [u64; 18],
     /// Images checked and listed, sound and damaged ones.
     pub images: u64,
+    /// Damaged sessions.
+    pub sessions: u64,
 }
 
 /// Both sides in the middle of a series.
@@ -254,7 +256,45 @@ impl Both {
             return Err(format!("the sessions differ; the Rust's is {}", crate::hex::hex(&self.state.session())));
         }
         self.counts.accepted += 1;
-        self.image(image)
+        self.image(image)?;
+        if self.damage.often(100) {
+            self.damaged_session()
+        } else {
+            Ok(())
+        }
+    }
+
+    /// The empty tree on a damaged copy of the session: 2 where the layout is broken, else an image with the copy's pool.
+    fn damaged_session(&mut self) -> Compared {
+        let mut session = self.session.clone();
+        let used = self.state.session().len() + 4;
+        for _ in 0..self.damage.between(1, 2) {
+            let at = if self.damage.often(50) { self.damage.below(session.len()) } else { self.damage.below(used) };
+            let near = session[at].wrapping_add(*self.damage.pick(&[1, 255, 3, 253]));
+            session[at] = if self.damage.often(500) { near } else { self.damage.below(0x63) as u8 };
+        }
+        session
+    }
+
+    /// The empty tree on these session bytes: 2 where the layout is broken, else an image with their pool.
+    fn on_session(&mut self, session: &[u8]) -> Compared {
+        let (answer, after) = self.lent.call_on(session, &[0x10, 0, 0])?;
+        match image::session(session) {
+            None => self.limit(answer, 2, 0)?,
+            Some((pool, _)) => {
+                let image = [&[0x50, 0, 0], &session[pool]].concat();
+                self.expect(answer, Answer::Length(image.len()))?;
+                if self.lent.output[..image.len()] != image {
+                    return Err("the empty tree's image has another pool than the session".into());
+                }
+            }
+        }
+        self.counts.sessions += 1;
+        if after == session {
+            Ok(())
+        } else {
+            Err("the empty tree or number 2 changed the session".into())
+        }
     }
 
     /// The names of this tree stand in the Rust's own table where the session has them.
