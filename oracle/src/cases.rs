@@ -69,7 +69,7 @@ fn case(both: &mut Both, name: &str, trees: &[Vec<u8>]) -> Result<Option<Case>, 
         let outcome = match answer {
             Answer::Length(length) => {
                 bytes += length;
-                format!("ok {}", text(&both.output()[..length]))
+                format!("ok {}", text(both.latest_image()))
             }
             Answer::Refused(number @ (3 | 5..=10), place) => {
                 numbers.push(number);

@@ -28,6 +28,7 @@ pub struct Both {
     lent: Lent,
     state: State,
     session: Vec<u8>,
+    latest: Vec<u8>,
     pub counts: Counts,
     damage: Random,
 }
@@ -85,7 +86,8 @@ fn place_fits(tree: &[u8], number: usize, place: usize, message: &str) -> bool {
 impl Default for Both {
     fn default() -> Self {
         let (lent, state) = (Lent::default(), State::fresh());
-        Both { lent, state, session: Vec::new(), counts: Counts::default(), damage: Random::new(17) }
+        let (session, latest) = (Vec::new(), Vec::new());
+        Both { lent, state, session, latest, counts: Counts::default(), damage: Random::new(17) }
     }
 }
 
@@ -106,9 +108,9 @@ impl Both {
         Ok(())
     }
 
-    /// The output that is lent.
-    pub fn output(&self) -> &[u8] {
-        &self.lent.output
+    /// The latest image that both sides made.
+    pub fn latest_image(&self) -> &[u8] {
+        &self.latest
     }
 
     /// The session that the Rust's state makes.
@@ -256,16 +258,18 @@ impl Both {
             return Err(format!("the sessions differ; the Rust's is {}", crate::hex::hex(&self.state.session())));
         }
         self.counts.accepted += 1;
+        self.latest.clone_from(&image);
         self.image(image)?;
-        if self.damage.often(100) {
-            self.damaged_session()
-        } else {
-            Ok(())
+        if !self.damage.often(100) {
+            return Ok(());
         }
+        let session = self.damaged_session();
+        let used = session.iter().rposition(|b| *b != 0).map_or(0, |last| last + 1);
+        self.on_session(&session)
+            .map_err(|text| format!("on the session {}: {text}", crate::hex::hex(&session[..used])))
     }
 
-    /// The empty tree on a damaged copy of the session: 2 where the layout is broken, else an image with the copy's pool.
-    fn damaged_session(&mut self) -> Compared {
+    fn damaged_session(&mut self) -> Vec<u8> {
         let mut session = self.session.clone();
         let used = self.state.session().len() + 4;
         for _ in 0..self.damage.between(1, 2) {
