@@ -18,6 +18,9 @@ const LONGEST_EDGE: usize = 7_500;
 const LONGEST_SERIES: usize = 1_000;
 const LONGEST_RARE: usize = 2_500;
 
+/// So are those with more bytes of trees and images.
+const MOST_BYTES: usize = 10_000;
+
 /// Series in which a number is refused; once there are so many, no more are taken for its sake.
 const ENOUGH: usize = 25;
 
@@ -48,9 +51,10 @@ fn text(bytes: &[u8]) -> String {
     out
 }
 
-/// A case's text, and the numbers that are refused in it.
+/// A case's text, the bytes of its trees and images, and the numbers that are refused in it.
 struct Case {
     text: String,
+    bytes: usize,
     numbers: Vec<usize>,
 }
 
@@ -58,21 +62,26 @@ struct Case {
 fn case(both: &mut Both, name: &str, trees: &[Vec<u8>]) -> Result<Option<Case>, String> {
     let mut out = format!("\ncase {name}\n");
     let mut numbers = Vec::new();
+    let mut bytes = 0;
     both.begin()?;
     for tree in trees {
         let answer = both.call(&Call::full(tree.clone()))?;
         let outcome = match answer {
-            Answer::Length(length) => format!("ok {}", text(&both.output()[..length])),
+            Answer::Length(length) => {
+                bytes += length;
+                format!("ok {}", text(both.latest_image()))
+            }
             Answer::Refused(number @ (3 | 5..=10), place) => {
                 numbers.push(number);
                 format!("refused {number} {place}")
             }
             Answer::Refused(..) => return Ok(None),
         };
+        bytes += tree.len();
         out += &format!("tree {}\n{outcome}\n", text(tree));
     }
     out += &format!("session {}\nend\n", text(&both.reference_session()));
-    Ok(Some(Case { text: out, numbers }))
+    Ok(Some(Case { text: out, bytes, numbers }))
 }
 
 /// The series to choose from: edges, then random ones without end.
@@ -101,7 +110,8 @@ pub fn write(seed: u64, bytes: usize) -> bool {
         };
         let rare = case.numbers.iter().any(|n| matches!(n, 6 | 8..=10) && taken[*n] < ENOUGH);
         let known = !case.numbers.is_empty() && case.numbers.iter().all(|n| taken[*n] >= ENOUGH);
-        if known || case.text.len() > if rare { longest.max(LONGEST_RARE) } else { longest } {
+        if known || case.bytes > MOST_BYTES || case.text.len() > if rare { longest.max(LONGEST_RARE) } else { longest }
+        {
             continue;
         }
         if out.len() + case.text.len() > bytes {

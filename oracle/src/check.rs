@@ -1,5 +1,6 @@
 //! The comparison of one series: the Rust and the proved compiler, call by call.
 use crate::image;
+use crate::listing;
 use crate::port::{self, Answer};
 use crate::random::Random;
 use crate::read::{self, Reading};
@@ -16,7 +17,10 @@ pub struct Counts {
     pub refused: [u64; 18],
     /// By number, where a limit of the port decides.
     pub limits: [u64; 18],
+    /// Images checked and listed, sound and damaged ones.
     pub images: u64,
+    /// Damaged sessions.
+    pub sessions: u64,
 }
 
 /// Both sides in the middle of a series.
@@ -24,6 +28,7 @@ pub struct Both {
     lent: Lent,
     state: State,
     session: Vec<u8>,
+    latest: Vec<u8>,
     pub counts: Counts,
     damage: Random,
 }
@@ -81,7 +86,8 @@ fn place_fits(tree: &[u8], number: usize, place: usize, message: &str) -> bool {
 impl Default for Both {
     fn default() -> Self {
         let (lent, state) = (Lent::default(), State::fresh());
-        Both { lent, state, session: Vec::new(), counts: Counts::default(), damage: Random::new(17) }
+        let (session, latest) = (Vec::new(), Vec::new());
+        Both { lent, state, session, latest, counts: Counts::default(), damage: Random::new(17) }
     }
 }
 
@@ -102,9 +108,9 @@ impl Both {
         Ok(())
     }
 
-    /// The output that is lent.
-    pub fn output(&self) -> &[u8] {
-        &self.lent.output
+    /// The latest image that both sides made.
+    pub fn latest_image(&self) -> &[u8] {
+        &self.latest
     }
 
     /// The session that the Rust's state makes.
@@ -252,7 +258,47 @@ impl Both {
             return Err(format!("the sessions differ; the Rust's is {}", crate::hex::hex(&self.state.session())));
         }
         self.counts.accepted += 1;
-        self.image(image)
+        self.latest.clone_from(&image);
+        self.image(image)?;
+        if !self.damage.often(100) {
+            return Ok(());
+        }
+        let session = self.damaged_session();
+        let used = session.iter().rposition(|b| *b != 0).map_or(0, |last| last + 1);
+        self.on_session(&session)
+            .map_err(|text| format!("on the session {}: {text}", crate::hex::hex(&session[..used])))
+    }
+
+    fn damaged_session(&mut self) -> Vec<u8> {
+        let mut session = self.session.clone();
+        let used = self.state.session().len() + 4;
+        for _ in 0..self.damage.between(1, 2) {
+            let at = if self.damage.often(50) { self.damage.below(session.len()) } else { self.damage.below(used) };
+            let near = session[at].wrapping_add(*self.damage.pick(&[1, 255, 3, 253]));
+            session[at] = if self.damage.often(500) { near } else { self.damage.below(0x63) as u8 };
+        }
+        session
+    }
+
+    /// The empty tree on these session bytes: 2 where the layout is broken, else an image with their pool.
+    fn on_session(&mut self, session: &[u8]) -> Compared {
+        let (answer, after) = self.lent.call_on(session, &[0x10, 0, 0])?;
+        match image::session(session) {
+            None => self.limit(answer, 2, 0)?,
+            Some((pool, _)) => {
+                let image = [&[0x50, 0, 0], &session[pool]].concat();
+                self.expect(answer, Answer::Length(image.len()))?;
+                if self.lent.output[..image.len()] != image {
+                    return Err("the empty tree's image has another pool than the session".into());
+                }
+            }
+        }
+        self.counts.sessions += 1;
+        if after == session {
+            Ok(())
+        } else {
+            Err("the empty tree or number 2 changed the session".into())
+        }
     }
 
     /// The names of this tree stand in the Rust's own table where the session has them.
@@ -271,12 +317,13 @@ impl Both {
         Ok(())
     }
 
-    /// The image check on the image, and on a damaged copy of it.
+    /// The image check and the listing, on the image and on a damaged copy of it.
     fn image(&mut self, mut image: Vec<u8>) -> Compared {
         self.expect(port::check_image(&image), Answer::Length(0))?;
         if image.len() > 600 {
             return Ok(());
         }
+        self.listed(&image)?;
         let at = self.damage.below(image.len());
         match self.damage.below(4) {
             0 => image.truncate(at),
@@ -284,12 +331,30 @@ impl Both {
             2 => image[at] = self.damage.below(0x20) as u8,
             _ => image[at] = self.damage.next() as u8,
         }
-        let due = match image::check(&image) {
-            Ok(_) => Answer::Length(0),
-            Err(image::Wrong(place)) => Answer::Refused(17, place),
+        self.listed(&image).map_err(|text| format!("of the image {}: {text}", crate::hex::hex(&image)))
+    }
+
+    /// The image check and the listing of one image, now and then into too short an output.
+    fn listed(&mut self, image: &[u8]) -> Compared {
+        let (checked, listed) = match listing::listing(image) {
+            Ok(text) => (Answer::Length(0), text.into_bytes()),
+            Err(image::Wrong(place)) => (Answer::Refused(17, place), Vec::new()),
         };
         self.counts.images += 1;
-        let text = |e| format!("image check of {}: {e}", crate::hex::hex(&image));
-        self.expect(port::check_image(&image), due).map_err(text)
+        self.expect(port::check_image(image), checked)?;
+        let short = self.damage.often(100) && !listed.is_empty();
+        let mut output = vec![0xA5; if short { self.damage.below(listed.len()) } else { listed.len() + 8 }];
+        let answer = port::list_image(image, &mut output);
+        let due = match checked {
+            Answer::Length(_) if short => Answer::Refused(15, 0),
+            Answer::Length(_) => Answer::Length(listed.len()),
+            refused => refused,
+        };
+        self.expect(answer, due)?;
+        let written = if let Answer::Length(length) = due { length } else { 0 };
+        if output[..written] != listed[..written] || output[written..].iter().any(|b| *b != 0xA5) {
+            return Err(format!("the listing differs: {}", String::from_utf8_lossy(&output)));
+        }
+        Ok(())
     }
 }

@@ -1,9 +1,12 @@
 //! Document 01's reading of images and sessions; instructions are decoded by the Rust.
+use std::ops::Range;
+
 use crate::vm::opcode::Opcode;
 
 const MAX_CODE: usize = 32_768;
 const MAX_POOL: usize = 28_672;
 const MAX_CONSTANTS: usize = 4_096;
+const MAX_NAMES: usize = 1_024;
 
 /// The offset of the first wrong field or instruction.
 pub struct Wrong(pub usize);
@@ -81,11 +84,21 @@ pub fn check(image: &[u8]) -> Result<Vec<usize>, Wrong> {
     }
 }
 
-/// The offsets of the literal bytes in a session that is sound.
-pub fn session_literals(session: &[u8]) -> Vec<usize> {
-    let names = usize::from(u16::from_be_bytes([session[1], session[2]]));
-    let mut reader = Reader { bytes: session, at: 3 + names, literals: Vec::new() };
-    let read = reader.pool();
-    assert!(read.is_ok(), "the session is not sound");
-    reader.literals
+/// Reads a session's 65,536 bytes: the pool's field, and the offsets of the literal bytes; or nothing where the layout is broken.
+pub fn session(bytes: &[u8]) -> Option<(Range<usize>, Vec<usize>)> {
+    let mut reader = Reader { bytes, at: 0, literals: Vec::new() };
+    let end = reader.head(&[0x40], bytes.len(), usize::MAX).ok()?;
+    reader.at = 3;
+    let mut names = 0;
+    while reader.at < end {
+        let stop = reader.head(&[0x30], end, 32).ok()?;
+        names += 1;
+        if stop == reader.at + 3 || names > MAX_NAMES {
+            return None;
+        }
+        reader.at = stop;
+    }
+    reader.pool().ok()?;
+    let zeros = bytes[reader.at..].iter().all(|b| *b == 0);
+    zeros.then_some((end..reader.at, reader.literals))
 }

@@ -102,7 +102,13 @@ fn defining(names: &[Vec<u8>]) -> Vec<u8> {
     node::program(names.iter().map(|n| node::let_stmt(n, node::array(Vec::new()))).collect()).bytes()
 }
 
-/// Sessions that are full: names, and a pool of 28,672 bytes.
+/// A function of 8,400 instructions of one byte.
+fn much_code() -> Vec<u8> {
+    let body = vec![node::expr_stmt(node::boolean(true)); 4200];
+    node::program(vec![node::expr_stmt(node::function(b"", &[], body))]).bytes()
+}
+
+/// Sessions that are full: names, and a pool of 28,672 bytes; or hold much code.
 fn full_session() -> Vec<Input> {
     let strings = (0..28).map(|_| node::expr_stmt(node::string(&[0x61; 1021]))).collect();
     let before = vec![defining(&global_names(1000)), node::program(strings).bytes()];
@@ -110,6 +116,12 @@ fn full_session() -> Vec<Input> {
     vec![
         input("full session, 20 identifiers".into(), before.clone(), uses(50)),
         input("full session, empty tree".into(), before, Vec::new()),
+        input(
+            "session of 960 functions, empty tree".into(),
+            vec![node::program(filled(30_000, closure)).bytes()],
+            Vec::new(),
+        ),
+        input("session of 25,200 instructions, empty tree".into(), vec![much_code(); 3], Vec::new()),
     ]
 }
 

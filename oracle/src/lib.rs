@@ -11,6 +11,7 @@ pub mod generate;
 pub mod hex;
 pub mod image;
 pub mod inputs;
+pub mod listing;
 pub mod node;
 pub mod pairs;
 pub mod port;

@@ -68,7 +68,7 @@ impl Pair {
                 return Err("the images differ outside the literals".into());
             }
         }
-        let literals = image::session_literals(self.shapes.session_bytes());
+        let Some((_, literals)) = image::session(self.shapes.session_bytes()) else { return Err("no session".into()) };
         if !equal_outside(self.first.session_bytes(), self.second.session_bytes(), &literals) {
             return Err("the sessions differ outside the literals".into());
         }

@@ -19,6 +19,7 @@ extern "C" {
         table_length: usize,
     ) -> u64;
     fn monkey_check_image(image: *const u8, image_length: usize) -> u64;
+    fn monkey_list_image(image: *const u8, image_length: usize, output: *mut u8, output_length: usize) -> u64;
 }
 
 /// What a call answers.
@@ -60,4 +61,8 @@ pub fn compile(session: &mut [u8], tree: &[u8], output: &mut [u8], code: &mut [u
 
 pub fn check_image(image: &[u8]) -> Answer {
     unpack(unsafe { monkey_check_image(image.as_ptr(), image.len()) })
+}
+
+pub fn list_image(image: &[u8], output: &mut [u8]) -> Answer {
+    unpack(unsafe { monkey_list_image(image.as_ptr(), image.len(), output.as_mut_ptr(), output.len()) })
 }

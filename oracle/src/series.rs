@@ -124,6 +124,15 @@ impl Lent {
         Ok(answer)
     }
 
+    /// A call on other session bytes; the session itself stays.
+    pub fn call_on(&mut self, session: &[u8], tree: &[u8]) -> Result<(Answer, Vec<u8>), String> {
+        let kept = self.session.clone();
+        self.session[..SESSION_SIZE].copy_from_slice(session);
+        let answer = self.call(tree, &Lending::FULL)?;
+        let after = std::mem::replace(&mut self.session, kept);
+        Ok((answer, after[..SESSION_SIZE].to_vec()))
+    }
+
     /// The session's 65,536 bytes.
     pub fn session_bytes(&self) -> &[u8] {
         &self.session[..SESSION_SIZE]

@@ -127,12 +127,13 @@ impl Run {
             some.map(|(number, n)| format!("{number} {n}")).collect::<Vec<_>>().join(", ")
         };
         println!(
-            "compared {} trees: accepted {}, refused {}; own limits {}; damaged images {}; pairs {}; differ {}",
+            "compared {} trees: accepted {}, refused {}; own limits {}; images listed {}; damaged sessions {}; pairs {}; differ {}",
             counts.trees,
             counts.accepted,
             listed(&counts.refused),
             listed(&counts.limits),
             counts.images,
+            counts.sessions,
             self.pairs,
             self.differ
         );
