@@ -1,7 +1,8 @@
 // Images and sessions on bytes: whether they are sound, and where a session's parts lie.
 use definition::Refusal;
 use field::length_at;
-use opcode::size_at;
+use opcode::size_by;
+use opcode::table::WIDTHS;
 ghost use mathlib.Core.Path.{_≡_};
 ghost use Prim.Native.Nat.{ℕ, _+_, _≤_};
 ghost use lib.ListN.{length};
@@ -67,10 +68,11 @@ fn check_code(bytes: &[u8], start: usize, end: usize) -> Checked
     requires { ⌜ Part (now bytes) start end ⌝ }
     ensures { λ r. ⌜ ((len : ℕ) → end ≤ start + len → r ≡ checked (readCode (byteAt (now (bytes .entry))) len start end)) ⌝ }
 {
+    let widths = WIDTHS;
     let mut at = start;
     let mut count = 0;
     while at < end {
-        let size = size_at(bytes, at, end);
+        let size = size_by(&widths, bytes, at, end);
         if size == 0 {
             return Checked::Wrong(at);
         }

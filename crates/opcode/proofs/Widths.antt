@@ -8,13 +8,13 @@ use lib.ListN.{length, getD, List·getD-eq-default}
 use borrow.Author.Tests.{lt-leb, le-leb, leb-false}
 use Rattle.definition.specs.Basic.{both}
 use Rattle.definition.specs.Opcode.{opLast, widths, width}
-use Rattle.opcode.specs.Table.{entry, noInstruction}
+use Rattle.opcode.specs.Table.{entry, noInstruction, IsTable}
 use Rattle.opcode.specs.Decoding.{sizeAt}
 use Rattle.opcode.proofs.Tables.{tabulate, tabulated, every-at}
 
 -- the whole table is its rule: antt computes all 256 entries, and each is right
-pub right-at : (o : ℕ) → o < 256 → getD (tabulate entry 0 256) o 0 ≡ entry o
-right-at o h = tabulated entry 256 o h
+pub table : IsTable (tabulate entry 0 256)
+table = record { right = tabulated entry 256 }
 
 -- at most three operand bytes
 pub width-small : (o : ℕ) → width o ≤ 3

@@ -18,7 +18,7 @@ ghost use Rattle.definition.specs.Decode.{readInstr};
 ghost use Rattle.definition.specs.Output.{over};
 ghost use Rattle.definition.specs.Listing.{words};
 ghost use Rattle.definition.specs.Valid.{operandBound, capturesBound};
-ghost use Rattle.opcode.specs.Table.{entry};
+ghost use Rattle.opcode.specs.Table.{entry, IsTable};
 ghost use Rattle.opcode.specs.Decoding.{sizeAt, instruction, instrOf, decodeAnswer};
 ghost use Rattle.opcode.specs.Words.{joined, startOf, wordAnswer, wordInto};
 ghost use Rattle.opcode.specs.Encoding.{valid, encodeAnswer, encodeInto, Ready};
@@ -36,11 +36,20 @@ pub enum Decoded {
     Refused(Refusal),
 }
 
+// The entry of a first byte in a table that is lent.
+fn entry_in(widths: &[u8; 256], op: u8) -> u8
+    requires { ⌜ IsTable (now widths) ⌝ }
+    ensures { λ r. ⌜ r ≡ entry op ⌝ }
+{
+    widths[wide(op)]
+}
+
 // The operand length of an instruction with this first byte, or `NO_INSTRUCTION`.
 pub fn width(op: u8) -> u8
     ensures { λ r. ⌜ r ≡ entry op ⌝ }
 {
-    WIDTHS[wide(op)]
+    let widths = WIDTHS;
+    entry_in(&widths, op)
 }
 
 // How many operand bytes follow a first byte; none after a byte that is no instruction's.
@@ -59,10 +68,20 @@ pub fn size_at(code: &[u8], at: usize, end: usize) -> usize
     requires { ⌜ end ≤ length (now code) ⌝ }
     ensures { λ r. ⌜ r ≡ sizeAt (byteAt (now (code .entry))) at end ⌝ }
 {
+    let widths = WIDTHS;
+    size_by(&widths, code, at, end)
+}
+
+// The same by a table that is lent, which a loop writes to its stack once.
+pub fn size_by(widths: &[u8; 256], code: &[u8], at: usize, end: usize) -> usize
+    requires { ⌜ IsTable (now widths) ⌝ }
+    requires { ⌜ end ≤ length (now code) ⌝ }
+    ensures { λ r. ⌜ r ≡ sizeAt (byteAt (now (code .entry))) at end ⌝ }
+{
     if end <= at {
         return 0;
     }
-    let w = width(code[at]);
+    let w = entry_in(widths, code[at]);
     if w == NO_INSTRUCTION {
         return 0;
     }

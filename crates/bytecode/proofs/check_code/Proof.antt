@@ -4,15 +4,16 @@ use native.Mathlib.Omega.{arith}
 use denote.Ref.{now}
 use borrow.Author.Needs.{needs}
 use Rattle.definition.specs.Basic.{byteAt}
+use Rattle.opcode.proofs.Widths.{table}
 use Rattle.bytecode.proofs.Instructions.{CodeLoop, code-begins, code-ends, code-wrong, code-next, code-again}
 use Rattle.bytecode.proofs.check_code.Statement.{statement}
 use Rattle.bytecode.proofs.check_code.Tie as tie
 
 abbrev Inv-loop : tie.InvT-loop
-Inv-loop bytes start end at₀ count₀ at count = CodeLoop (byteAt bytes) start end at count
+Inv-loop bytes start end widths at₀ count₀ at count = CodeLoop (byteAt bytes) start end at count
 
 abbrev μ-loop : tie.MeasureT-loop
-μ-loop bytes start end at₀ count₀ at count = end - at
+μ-loop bytes start end widths at₀ count₀ at count = end - at
 
 loop-holds : tie.Need-loop-holds Inv-loop μ-loop
 loop-holds c = search code-begins
@@ -22,12 +23,12 @@ returns c = search code-wrong
 
 add-at : tie.Need-add-at Inv-loop μ-loop
 add-at c =
-    let start = c .before .before .before .before .before in
-    let loop = c .before .before .before .loop in
-    let loop-test = c .before .before .loop-test in
-    let size-at = c .before .size-at in
+    let start = c .before .before .before .before .before .before in
+    let loop = c .before .before .before .before .loop in
+    let loop-test = c .before .before .before .loop-test in
+    let size-by = c .before .size-by in
     let if1 = c .if1 in
-    let h = code-next (byteAt (now (start .args .bytes))) (start .args .start) (start .args .end) (loop .inv) (loop-test .taken) (size-at .ensures) (if1 .left) in
+    let h = code-next (byteAt (now (start .args .bytes))) (start .args .start) (start .args .end) (loop .inv) (loop-test .taken) (size-by .ensures) (if1 .left) in
     omega arith
 
 loop-again : tie.Need-loop-again Inv-loop μ-loop
@@ -43,7 +44,7 @@ check-code-spec =
     Inv-loop
     μ-loop
     loop-holds
-    (λ c κs. search needs)
+    (λ c κs. (table, search needs))
     returns
     add-at
     (λ c. omega arith)
