@@ -34,14 +34,15 @@ fn with_instruction(code: &mut [u8], c: Chunk, i: Instruction) -> Emitted
     ensures { λ r. ⌜ Adds (now (code .entry)) c i r (now (code .exit)) ⌝ }
 {
     let at = c.start + c.len;
-    let n = 1 + opcode::operand_length(i.op);
+    let operands = opcode::operand_length(i.op);
+    let n = 1 + operands;
     if CODE_SIZE < at + n {
         return Emitted {
             chunk: c,
             room: false,
         };
     }
-    write_instruction(code, at, i.op, i.a, i.b);
+    write_instruction(code, at, i.op, operands, i.a, i.b);
     let next = longer(c, n);
     Emitted {
         chunk: next,
