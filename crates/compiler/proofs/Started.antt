@@ -19,7 +19,7 @@ use Rattle.symbol_table.specs.Layout.{tablesOf}
 use Rattle.symbol_table.specs.Contract.{HasNames, Starts}
 use Rattle.step.specs.Memory.{rest, symbolsOf, memory, RoomyState, FineState}
 use Rattle.compiler.specs.Stage.{Opened}
-use Rattle.compiler.specs.Translated.{startState}
+use Rattle.compiler.specs.Translated.{Small, startState}
 use Rattle.compiler.proofs.Opened.{names-read, names-after, room-behind, pool-end}
 
 -- In bytes that read as a session of a layout
@@ -47,6 +47,13 @@ module _ {e : Bytes} {l : SessionLayout} (x : Opened e l) where
         start = omega arith;
         end = omega (arith, pool-length (z .pool), v .pool .size);
       }
+
+  -- the layout's numbers are within the limits
+  pub opened-small : Small l
+  opened-small =
+      let count : l .constants ≡ length (x .session .pool) = ap (λ (l : SessionLayout). l .constants) (x .layout) in
+      let r = opened-room in
+      record { constants = omega (arith, x .valid .pool .count); names = omega arith; pool = omega arith }
 
   module _ {t₀ t : List ℕ} (begun : Starts e (l .«names_end») t₀ t) (tree : Bytes) where
     -- the table area stands well

@@ -40,9 +40,9 @@ use Rattle.step.specs.Memory.{Rest, rest, symbolsOf, noSymbols, settled, memory
 use Rattle.walk.specs.Parts.{ReadsTree}
 use Rattle.compiler.specs.Result.{refusedResult, stepResult, sessionResult, result}
 use Rattle.compiler.specs.Stage.{Opened, Checked}
-use Rattle.compiler.specs.Translated.{startState, Through, Halted, WalkEnded}
+use Rattle.compiler.specs.Translated.{Small, startState, Through, Halted, WalkEnded}
 use Rattle.compiler.proofs.Opened.{opened}
-use Rattle.compiler.proofs.Started.{opened-names, opened-after, started-fine, started-view, started-ready}
+use Rattle.compiler.proofs.Started.{opened-names, opened-small, opened-after, started-fine, started-view, started-ready}
 
 -- a walk that goes on is settled as it is
 settled-on : {A : Type 0} (y : Res View A) {a : A} {v : View} → on a v ≡ settled y → y ≡ on a v
@@ -152,6 +152,10 @@ module _ {tree e c : Bytes} {t : List ℕ} {l : SessionLayout} (k : Checked tree
 
   well : ReadsWell (readTree tree)
   well = reads-well (readTree tree) (k .good)
+
+  -- the layout's numbers are within the limits
+  pub layout-small : Small l
+  layout-small = opened-small x
 
   -- what starting the table area needs
   pub start-needs : (length e ≤ sessionSize) × (HasNames e × (globalsSize ≤ length t))

@@ -5,7 +5,7 @@ use mathlib.Core.List.{List}
 use lib.ListN.{length, replicate}
 use lib.Seq.{sets}
 use Rattle.definition.specs.Basic.{Bytes}
-use Rattle.definition.specs.Limit.{sessionSize, codeSize}
+use Rattle.definition.specs.Limit.{sessionSize, codeSize, constantsLimit}
 use Rattle.definition.specs.Session.{Session, sessionBytes}
 use Rattle.definition.specs.Valid.{ValidSession}
 use Rattle.definition.specs.Walk.{on}
@@ -22,6 +22,12 @@ use Rattle.bytecode.specs.declared.SessionLayout.{SessionLayout}
 use Rattle.step.specs.Memory.{rest, symbolsOf, FineState}
 use Rattle.compiler.specs.Result.{Result, refusedResult, stepResult, result}
 use Rattle.compiler.specs.Stage.{layoutAt}
+
+-- the numbers of a layout are within the limits, so that the compiler's state holds them
+pub record Small (l : SessionLayout) : Type 0 where
+  pub constants : l .constants ≤ constantsLimit
+  pub names : l .«names_end» ≤ sessionSize
+  pub pool : l .«pool_end» ≤ sessionSize
 
 -- the compiler's state as the walk starts: an empty chunk
 abbrev pub startState : SessionLayout → Memory.State

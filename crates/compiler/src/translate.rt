@@ -15,13 +15,14 @@ ghost use Prim.Native.Nat.{_≤_};
 ghost use lib.ListN.{length};
 ghost use Rattle.compiler.specs.Result.{result};
 ghost use Rattle.compiler.specs.Stage.{Checked};
-ghost use Rattle.compiler.specs.Translated.{startState, imageLength, Translated, finalResult, WalkEnded};
+ghost use Rattle.compiler.specs.Translated.{Small, startState, imageLength, Translated, finalResult, WalkEnded};
 
 // Number 15: the image is longer than the output.
 const OUTPUT_SHORT: usize = 15;
 
 // The state as the walk starts: an empty chunk.
 fn start_state(layout: SessionLayout) -> State
+    requires { ⌜ Small layout ⌝ }
     ensures { λ r. ⌜ r ≡ startState layout ⌝ }
 {
     State {
@@ -32,9 +33,9 @@ fn start_state(layout: SessionLayout) -> State
             prev: 0,
         },
         level: 0,
-        constants: layout.constants,
-        names_end: layout.names_end,
-        pool_end: layout.pool_end,
+        constants: layout.constants as u32,
+        names_end: layout.names_end as u32,
+        pool_end: layout.pool_end as u32,
     }
 }
 
@@ -55,10 +56,10 @@ fn accept(
     ensures { λ r. ⌜ ((p : Translated (now (tree .entry)) (now (code .entry)) (now (session .entry)) (now (table .entry)) layout s) → record { answer = r; session = now (session .exit); output = now (output .exit) } ≡ finalResult p (now (output .entry))) ⌝ }
 {
     let chunk = s.chunk;
-    let len = chunk.len;
+    let len = chunk.len as usize;
     let names_end = layout.names_end;
     let from = names_end + 3;
-    let to = s.pool_end;
+    let to = s.pool_end as usize;
     write_image(output, &code[..len], &session[from..to]);
     let end = append_names(session, tree, table, layout.names, names_end);
     let start = 6 + len;
@@ -80,9 +81,10 @@ fn finish(
     ensures { λ r. ⌜ ((p : Translated (now (tree .entry)) (now (code .entry)) (now (session .entry)) (now (table .entry)) layout s) → record { answer = r; session = now (session .exit); output = now (output .exit) } ≡ finalResult p (now (output .entry))) ⌝ }
 {
     let chunk = s.chunk;
-    let total = 6 + chunk.len + (s.pool_end - (layout.names_end + 3));
+    let end = s.pool_end as usize;
+    let total = 6 + chunk.len as usize + (end - (layout.names_end + 3));
     if output.len() < total {
-        restore(session, layout.pool_end, s.pool_end);
+        restore(session, layout.pool_end, end);
         return Answer::Refused(Refusal {
             number: OUTPUT_SHORT,
             place: 0,
@@ -120,7 +122,7 @@ pub fn translate(
 {
     match walk_tree(tree, session, code, table, layout) {
         Walked::Stop(r, s) => {
-            restore(session, layout.pool_end, s.pool_end);
+            restore(session, layout.pool_end, s.pool_end as usize);
             Answer::Refused(r)
         }
         Walked::On(s) => finish(session, tree, output, code, table, layout, s),

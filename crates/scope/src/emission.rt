@@ -22,7 +22,7 @@ fn longer(c: Chunk, n: usize) -> Chunk
 {
     Chunk {
         start: c.start,
-        len: c.len + n,
+        len: c.len + n as u32,
         last: c.len,
         prev: c.last,
     }
@@ -33,15 +33,16 @@ fn with_instruction(code: &mut [u8], c: Chunk, i: Instruction) -> Emitted
     requires { ⌜ Within (now code) c ⌝ }
     ensures { λ r. ⌜ Adds (now (code .entry)) c i r (now (code .exit)) ⌝ }
 {
-    let at = c.start + c.len;
-    let n = 1 + opcode::operand_length(i.op);
+    let at = (c.start + c.len) as usize;
+    let operands = opcode::operand_length(i.op);
+    let n = 1 + operands;
     if CODE_SIZE < at + n {
         return Emitted {
             chunk: c,
             room: false,
         };
     }
-    write_instruction(code, at, i.op, i.a, i.b);
+    write_instruction(code, at, i.op, operands, i.a, i.b);
     let next = longer(c, n);
     Emitted {
         chunk: next,
@@ -60,14 +61,14 @@ fn with_operand(code: &mut [u8], c: Chunk, at: usize) -> Emitted
             room: false,
         };
     }
-    let target = c.start + at;
+    let target = c.start as usize + at;
     if CODE_SIZE <= target + 2 {
         return Emitted {
             chunk: c,
             room: false,
         };
     }
-    write_word(code, target + 1, c.len);
+    write_word(code, target + 1, c.len as usize);
     Emitted {
         chunk: c,
         room: true,

@@ -4,7 +4,7 @@ ghost use mathlib.Core.List.{[], _∷_};
 ghost use Prim.Native.Nat.{_+_, _/_, _%_, _≤_, _<_};
 ghost use lib.ListN.{length};
 ghost use lib.Seq.{sets};
-ghost use Rattle.definition.specs.Opcode.{instr, size, operands, bytesOf};
+ghost use Rattle.definition.specs.Opcode.{instr, size, width, operands, bytesOf};
 
 // An instruction to emit: its byte, and what its operands are made of.
 pub struct Instruction {
@@ -56,12 +56,11 @@ fn write_operands(code: &mut [u8], at: usize, n: usize, a: usize, b: usize)
     }
 }
 
-// Writes an instruction, with the operands that its first byte has.
-pub fn write_instruction(code: &mut [u8], at: usize, op: u8, a: usize, b: usize)
-    requires { ⌜ at + size (instr op a b) ≤ length (now code) ⌝ }
+// Writes an instruction, with the `n` operand bytes that its first byte has.
+pub fn write_instruction(code: &mut [u8], at: usize, op: u8, n: usize, a: usize, b: usize)
+    requires { ⌜ (at + size (instr op a b) ≤ length (now code)) × (n ≡ width op) ⌝ }
     ensures { λ _. ⌜ now (code .exit) ≡ sets (now (code .entry)) at (bytesOf (instr op a b)) ⌝ }
 {
-    let n = opcode::operand_length(op);
     code[at] = op;
     write_operands(code, at + 1, n, a, b);
 }

@@ -23,20 +23,20 @@ const UNPATCHED: usize = 9999;
 
 // The chunk in work: where it starts in the code area, its length, and in it the positions of its last and its previous instruction.
 pub struct Chunk {
-    pub start: usize,
-    pub len: usize,
-    pub last: usize,
-    pub prev: usize,
+    pub start: u32,
+    pub len: u32,
+    pub last: u32,
+    pub prev: u32,
 }
 
 // The compiler's state beside the lent memory: the chunk in work, the number of open functions, the number of constants, and in the
 // session the offsets where the names and the constants end.
 pub struct State {
     pub chunk: Chunk,
-    pub level: usize,
-    pub constants: usize,
-    pub names_end: usize,
-    pub pool_end: usize,
+    pub level: u32,
+    pub constants: u32,
+    pub names_end: u32,
+    pub pool_end: u32,
 }
 
 // The walk so far: it goes on in a state, or has stopped at a refusal, in the state where it stopped.
@@ -84,7 +84,7 @@ fn last_is(code: &[u8], c: Chunk, op: u8) -> bool
     ensures { λ r. ⌜ r ≡ Machine.lastIs op (now (code .entry)) c ⌝ }
 {
     if c.last < c.len {
-        let at = c.start + c.last;
+        let at = c.start as usize + c.last as usize;
         code[at] == op
     } else {
         false
@@ -98,11 +98,11 @@ fn position(w: Walked) -> usize
     match w {
         Walked::On(s) => {
             let c = s.chunk;
-            c.len
+            c.len as usize
         }
         Walked::Stop(r, s) => {
             let c = s.chunk;
-            c.len
+            c.len as usize
         }
     }
 }
@@ -240,7 +240,7 @@ pub fn returned(code: &mut [u8], w: Walked, place: usize) -> Walked
         Walked::On(s) => {
             let c = s.chunk;
             if last_is(code, c, opcodes::POP) {
-                let at = c.start + c.last;
+                let at = (c.start + c.last) as usize;
                 code[at] = opcodes::RETURN_VALUE;
                 return w;
             }

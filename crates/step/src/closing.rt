@@ -91,7 +91,7 @@ fn emit_function(
     ensures { λ r. ⌜ Done (now (code .entry)) (now (code .exit)) (outsideOf o (added .walked)) r (λ v. then (machine.loads place (originalsOf (part (o .level) (now (table .entry))) n) v) (machine.emit place (instr opClosure (added .index) n))) ⌝ }
 {
     let v = added.walked;
-    let w = loads(code, table, outside(o, v), place, o.level, n);
+    let w = loads(code, table, outside(o, v), place, o.level as usize, n);
     emit_closure(code, w, place, added.index, n)
 }
 
@@ -109,11 +109,11 @@ pub fn close(
     requires { ⌜ Closable (now code) (now session) (now table) o s ⌝ }
     ensures { λ r. ⌜ Closes place params (now (code .entry)) (now (code .exit)) (now (session .entry)) (now (session .exit)) (now (table .entry)) o s r ⌝ }
 {
-    let level = o.level;
+    let level = o.level as usize;
     let n = captures(table, level);
     let c = o.chunk;
     let k = s.chunk;
-    if CODE_SIZE < c.start + c.len + k.len + loads_size(table, level, n) {
+    if CODE_SIZE < (c.start + c.len + k.len) as usize + loads_size(table, level, n) {
         return refuse(Walked::On(s), numbers::CODE, place);
     }
     let added = add_function(session, code, s, place, definitions(table, level), params);

@@ -29,7 +29,7 @@ ghost use Rattle.step.specs.Memory.{rest, Roomy, Fine, Deeper};
 ghost use Rattle.step.specs.Contract.{Steps, StepsBeside, placedAt, FineBeside, DefinesBeside, HeadAt, EntersBeside, FineFor, LeavesBeside};
 
 // The open functions, and the parameters of each.
-const NESTING_LIMIT: usize = 16;
+const NESTING_LIMIT: u32 = 16;
 
 const ARGUMENTS_LIMIT: usize = 255;
 
@@ -82,8 +82,8 @@ pub fn load(
 {
     match w {
         Walked::On(s) => {
-            let end = s.names_end;
-            match resolve_name(tree, &session[..end], table, s.level, at) {
+            let end = s.names_end as usize;
+            match resolve_name(tree, &session[..end], table, s.level as usize, at) {
                 Lookup::Found(symbol) => {
                     let l = load_of(symbol);
                     emit_any(code, w, at, l.op, l.operand as usize)
@@ -133,7 +133,7 @@ pub fn define(tree: &[u8], table: &mut [u32], w: Walked, at: usize) -> Defining
 {
     match w {
         Walked::On(s) => {
-            let answer = symbol_table::define(tree, table, s.level, at + 3);
+            let answer = symbol_table::define(tree, table, s.level as usize, at + 3);
             placed(s, at, answer)
         }
         Walked::Stop(r, s) => Defining {
@@ -183,7 +183,7 @@ pub fn enter(tree: &[u8], table: &mut [u32], w: Walked, at: usize, n: usize) -> 
                 return refuse(w, numbers::TOO_MANY, at);
             }
             let row = after_at(tree, at + 3) + 3;
-            symbol_table::enter(tree, table, s.level, at + 3, row, n);
+            symbol_table::enter(tree, table, s.level as usize, at + 3, row, n);
             Walked::On(inside(s))
         }
         Walked::Stop(r, s) => w,

@@ -22,7 +22,7 @@ ghost use Rattle.step.specs.Memory.{Roomy};
 ghost use Rattle.step.specs.Contract.{hasRoom, Adds};
 
 // The constants of a pool, and the bytes of its content.
-const CONSTANTS_LIMIT: usize = 4096;
+const CONSTANTS_LIMIT: u32 = 4096;
 
 const POOL_LIMIT: usize = 28672;
 
@@ -37,7 +37,7 @@ fn has_room(s: State, n: usize) -> bool
     if CONSTANTS_LIMIT <= s.constants {
         return false;
     }
-    let used = s.pool_end - s.names_end;
+    let used = (s.pool_end - s.names_end) as usize;
     if POOL_LIMIT < used {
         return false;
     }
@@ -56,11 +56,11 @@ fn advance(s: State, n: usize) -> Added
         level: s.level,
         constants: s.constants + 1,
         names_end: s.names_end,
-        pool_end: s.pool_end + (3 + n),
+        pool_end: s.pool_end + (3 + n) as u32,
     };
     Added {
         walked: Walked::On(next),
-        index: s.constants,
+        index: s.constants as usize,
     }
 }
 
@@ -72,7 +72,7 @@ pub fn add_constant(session: &mut [u8], w: Walked, place: usize, tag: u8, conten
     match w {
         Walked::On(s) => {
             let n = content.len();
-            let end = s.pool_end;
+            let end = s.pool_end as usize;
             if has_room(s, n) {
                 put_field(session, end, tag, content);
                 return advance(s, n);
@@ -127,10 +127,11 @@ pub fn add_function(
     ensures { λ r. ⌜ Adds (addConstant place tagFunctionConst (functionContent locals params (take (s .chunk .len) (drop (s .chunk .start) (now (code .entry)))))) (now (session .entry)) (now (session .exit)) (On s) r ⌝ }
 {
     let c = s.chunk;
-    let start = c.start;
-    let end = start + c.len;
-    let n = 3 + c.len;
-    let at = s.pool_end;
+    let start = c.start as usize;
+    let len = c.len as usize;
+    let end = start + len;
+    let n = 3 + len;
+    let at = s.pool_end as usize;
     if has_room(s, n) {
         put_function(session, at, locals, params, &code[start..end]);
         return advance(s, n);

@@ -53,6 +53,7 @@ returned-spec =
     (λ c. search needs)
     last-is-requires
     add-at
+    (λ c. search needs)
     slice-write-code
     (λ c. search needs)
     returns

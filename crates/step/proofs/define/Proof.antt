@@ -5,12 +5,13 @@ use Rattle.step.proofs.define.Statement.{statement}
 use Rattle.step.proofs.define.Tie as tie
 
 define-requires : tie.Need-define-requires
-define-requires c κs = (search beside-base, (beside-good (c .before .before .w .given .1) (c .before .before .before .before .before .before .pre .1 .1), search needs))
+define-requires c κs = (search beside-base, (beside-good (c .before .before .before .w .given .1) (c .before .before .before .before .before .before .before .pre .1 .1), search needs))
 
 pub define-spec : {M : Type 1} → statement M
 define-spec =
     tie.close
     (tie.spec
+    (λ c. search needs)
     (λ c. search needs)
     (λ c. search needs)
     define-requires

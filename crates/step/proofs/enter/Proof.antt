@@ -11,6 +11,13 @@ enter-requires c κs = (search beside-part, (search needs, (search needs, (searc
 inside-requires : tie.Need-inside-requires
 inside-requires c κs = (search sound-on, search needs)
 
+returns-3 : tie.Need-returns-3
+returns-3 c =
+    let table = c .before .before .before in
+    let within = table .before .before .before .before in
+    let m = within .before .before .before .before in
+    enter-on (m .before .before .before .before .pre .1 .0) (m .w .given .1) (within .before .if1 .left) (within .if2 .left) (table .before .before .before .after-at .ensures .0) (table .enter .ensures) (table .enter .kept .1 .0) (c .inside .ensures)
+
 pub enter-spec : {M : Type 1} → statement M
 enter-spec =
     tie.close
@@ -24,9 +31,10 @@ enter-spec =
     (λ c κs. search needs)
     (λ c. search needs)
     (λ c. search needs)
+    (λ c. search needs)
     enter-requires
     inside-requires
     (λ c. search needs)
     (λ c. search needs)
-    (λ c. search enter-on)
+    returns-3
     (λ c. search enter-stop))

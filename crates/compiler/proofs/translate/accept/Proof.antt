@@ -12,24 +12,24 @@ use Rattle.compiler.proofs.translate.accept.Tie as tie
 
 -- the function's entry, from the calls
 abbrev entry : tie.After-write-image-arg3 → tie.Start
-entry c = c .before .before .before .before .before .before .before .before .before .before
+entry c = c .before .before .before .before .before .before .before .before .before .before .before .before
 
 abbrev at-names : tie.After-append-names → tie.Start
 at-names c = entry (c .before .before .before .before .before)
 
 add-from : tie.Need-add-from
-add-from c = let b = bounds (c .before .before .before .before .before .before .pre .0) in omega (arith, b .start, b .end)
+add-from c = let b = bounds (c .before .before .before .before .before .before .before .pre .0) in omega (arith, b .start, b .end)
 
 slice-aggregate-write-image : tie.Need-slice-aggregate-write-image
 slice-aggregate-write-image c =
-    let e = c .before .before .before .before .before .before .before .before in
+    let e = c .before .before .before .before .before .before .before .before .before .before in
     sym (length-take-le (e .args .s .chunk .len) (e .args .code .now) (bounds (e .pre .0) .code))
 
 sub-write-image : tie.Need-sub-write-image
-sub-write-image c = bounds (c .before .before .before .before .before .before .before .before .pre .0) .start
+sub-write-image c = bounds (c .before .before .before .before .before .before .before .before .before .before .pre .0) .start
 
 part-write-image-start : tie.Need-part-write-image-start
-part-write-image-start c = bounds (c .before .before .before .before .before .before .before .before .before .pre .0) .start
+part-write-image-start c = bounds (c .before .before .before .before .before .before .before .before .before .before .before .pre .0) .start
 
 write-image-requires : tie.Need-write-image-requires
 write-image-requires c κs = let p = entry c .pre in image-room (p .0) (omega (arith, p .1 .0, p .1 .1))
@@ -57,7 +57,9 @@ pub accept-spec : {M : Type 1} → statement M
 accept-spec =
     tie.close
     (tie.spec
+    (λ c. search needs)
     add-from
+    (λ c. search needs)
     slice-aggregate-write-image
     sub-write-image
     part-write-image-start

@@ -10,7 +10,7 @@ abbrev entry : tie.After-struct-known3 → tie.Start
 entry c = c .before .before .before .before .before .before .before .before .before
 
 add-total-2 : tie.Need-add-total-2
-add-total-2 c = let b = bounds (c .before .before .before .before .before .before .before .before .pre) in omega (arith, b .start, b .end)
+add-total-2 c = let b = bounds (entry c .pre) in omega (arith, b .start, b .end)
 
 sub-total : tie.Need-sub-total
 sub-total c = bounds (entry c .pre) .start
@@ -27,6 +27,8 @@ pub finish-spec : {M : Type 1} → statement M
 finish-spec =
     tie.close
     (tie.spec
+    (λ c. search needs)
+    (λ c. search needs)
     (λ c. search needs)
     add-total-2
     sub-total

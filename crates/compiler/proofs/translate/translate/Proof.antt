@@ -30,7 +30,7 @@ through c =
 
 restore-requires : tie.Need-restore-requires
 restore-requires c κs =
-    let r = c .before .before in
+    let r = c .before .before .before in
     let h = halted r in
     (h .low, omega (arith, h .high, in-stop r .walk-tree .kept .1 .0, entry (in-stop r) .pre .lengths .session))
 
@@ -39,7 +39,7 @@ finish-requires c κs = through (c .before .before .before .before .before) .tra
 
 returns : tie.Need-returns
 returns c =
-    let r = c .before .before .before .before .before in
+    let r = c .before .before .before .before .before .before in
     let w = in-stop r in
     halted-result (entry w .args .tree .now) (entry w .args .session .now) (halted r) (c .before .before .restore .ensures) (entry w .args .output .now)
 
@@ -54,6 +54,7 @@ translate-spec =
     tie.close
     (tie.spec
     (λ c κs. search needs)
+    (λ c. search needs)
     (λ c. search needs)
     restore-requires
     (λ c. search needs)

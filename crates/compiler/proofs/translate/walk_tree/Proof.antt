@@ -2,7 +2,7 @@
 use native.Mathlib.Omega.{arith}
 use borrow.Author.Needs.{needs}
 use Rattle.definition.specs.Valid.{AreBytes}
-use Rattle.compiler.proofs.Walked.{start-needs, walk-needs, walked}
+use Rattle.compiler.proofs.Walked.{layout-small, start-needs, walk-needs, walked}
 use Rattle.compiler.proofs.translate.walk_tree.Statement.{statement}
 use Rattle.compiler.proofs.translate.walk_tree.Tie as tie
 
@@ -17,6 +17,11 @@ are-bytes c = record { below = λ i. omega (arith, c .slice-known .given i) }
 start-requires : tie.Need-start-requires
 start-requires c κs = start-needs (c .before .before .before .before .before .before .pre) (are-bytes (c .before .before .before .before))
 
+start-state-requires : tie.Need-start-state-requires
+start-state-requires c κs =
+    let b = c .before .before .before .before .before in
+    layout-small (entry b .pre) (are-bytes (b .before .before .before .before .before))
+
 compile-tree-requires : tie.Need-compile-tree-requires
 compile-tree-requires c κs =
     let b = c .before .before .before .before .before .before in
@@ -29,4 +34,4 @@ returns c =
     walked (entry b .pre) (are-bytes (b .before .before .before .before .before)) (b .start .ensures .0) (b .start .ensures .1) (k .before .start-state .ensures) (k .compile-tree .result) (k .compile-tree .ensures)
 
 pub walk-tree-spec : {M : Type 1} → statement M
-walk-tree-spec = tie.close (tie.spec start-requires (λ c κs. search needs) compile-tree-requires (λ c. search needs) (λ c. search needs) (λ c. search needs) returns)
+walk-tree-spec = tie.close (tie.spec start-requires start-state-requires compile-tree-requires (λ c. search needs) (λ c. search needs) (λ c. search needs) returns)

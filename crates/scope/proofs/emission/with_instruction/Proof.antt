@@ -23,6 +23,7 @@ with-instruction-spec =
     tie.close
     (tie.spec
     (λ c. search needs)
+    (λ c. search needs)
     (λ c κs. search needs)
     add-n
     add-if1

@@ -21,7 +21,9 @@ with-operand-spec =
     returns
     (λ c. search needs)
     (λ c. search needs)
+    (λ c. search needs)
     returns-2
+    (λ c. search needs)
     (λ c. search needs)
     (λ c κs. search needs)
     (λ c. search needs)

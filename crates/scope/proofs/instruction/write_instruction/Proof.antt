@@ -8,7 +8,7 @@ use Rattle.scope.proofs.instruction.write_instruction.Tie as tie
 use Rattle.scope.proofs.instruction.write_instruction.Statement.{statement}
 
 write-operands-requires : tie.Need-write-operands-requires
-write-operands-requires c κs = simp length-set (omega (arith, c .before .operand-length .ensures))
+write-operands-requires c κs = simp length-set (omega arith)
 
 same-length : tie.Need-same-length
 same-length c = c .before .before .write-operands .kept .0 ∙ simp length-set
@@ -20,7 +20,6 @@ pub write-instruction-spec : {M : Type 1} → statement M
 write-instruction-spec =
     tie.close
     (tie.spec
-    (λ c κs. search needs)
     (λ c. search needs)
     (λ c. search needs)
     write-operands-requires

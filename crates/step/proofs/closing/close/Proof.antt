@@ -5,19 +5,21 @@ use Rattle.step.proofs.closing.close.Statement.{statement}
 use Rattle.step.proofs.closing.close.Tie as tie
 
 returns : tie.Need-returns
-returns c = closes-full _ _ (c .before .before .before .before .before .before .before .before .before .before .before .pre) (c .before .before .before .before .before .before .before .captures .ensures) (c .before .before .loads-size .ensures .0) (c .before .if1 .taken) (c .refuse .ensures)
+returns c = closes-full _ _ (c .before .before .before .before .before .before .before .before .before .before .before .before .pre) (c .before .before .before .before .before .before .before .captures .ensures) (c .before .before .loads-size .ensures .0) (c .before .if1 .taken) (c .refuse .ensures)
 
 emit-function-requires : tie.Need-emit-function-requires
-emit-function-requires c κs = (closes-ready (c .before .before .before .before .before .before .before .before .before .before .before .before .before .before .before .before .before .pre) (c .before .before .before .add-function .ensures), (c .before .before .before .before .before .before .before .before .before .before .before .before .before .before .before .before .before .pre .table, few-captures (c .before .before .before .before .before .before .before .before .before .before .before .before .before .before .before .before .before .pre) (c .before .before .before .before .before .before .before .before .before .before .before .before .before .captures .ensures)))
+emit-function-requires c κs = (closes-ready (c .before .before .before .before .before .before .before .before .before .before .before .before .before .before .before .before .before .before .pre) (c .before .before .before .add-function .ensures), (c .before .before .before .before .before .before .before .before .before .before .before .before .before .before .before .before .before .before .pre .table, few-captures (c .before .before .before .before .before .before .before .before .before .before .before .before .before .before .before .before .before .before .pre) (c .before .before .before .before .before .before .before .before .before .before .before .before .before .captures .ensures)))
 
 returns-2 : tie.Need-returns-2
-returns-2 c = closes-on _ _ (c .before .before .before .before .before .before .before .before .before .before .before .before .before .before .before .before .before .before .before .before .pre) (c .before .before .before .before .before .before .before .before .before .before .before .before .before .before .before .before .captures .ensures) (c .before .before .before .before .before .before .before .before .before .before .before .loads-size .ensures .0) (c .before .before .before .before .before .before .before .definitions .ensures) (c .before .before .before .before .before .before .add-function .ensures) (c .before .before .before .before .before .before .before .before .before .before .if1 .left) (c .before .before .emit-function .ensures)
+returns-2 c = closes-on _ _ (c .before .before .before .before .before .before .before .before .before .before .before .before .before .before .before .before .before .before .before .before .before .pre) (c .before .before .before .before .before .before .before .before .before .before .before .before .before .before .before .before .captures .ensures) (c .before .before .before .before .before .before .before .before .before .before .before .loads-size .ensures .0) (c .before .before .before .before .before .before .before .definitions .ensures) (c .before .before .before .before .before .before .add-function .ensures) (c .before .before .before .before .before .before .before .before .before .before .if1 .left) (c .before .before .emit-function .ensures)
 
 pub close-spec : {M : Type 1} → statement M
 close-spec =
     tie.close
     (tie.spec
+    (λ c. search needs)
     (λ c κs. search needs)
+    (λ c. search needs)
     (λ c. search needs)
     (λ c. search needs)
     (λ c κs. search needs)

@@ -9,6 +9,7 @@ add-constant-spec =
     tie.close
     (tie.spec
     (λ c. search needs)
+    (λ c. search needs)
     (λ c κs. search roomy-start)
     (λ c κs. search roomy-write)
     (λ c κs. search (roomy-count, roomy-size))

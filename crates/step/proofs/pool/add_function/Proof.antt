@@ -1,5 +1,6 @@
 -- `step::pool::add_function` meets its contract: where the pool has room, the chunk in work is copied behind it.
 use borrow.Author.Needs.{needs}
+use mathlib.Core.Path.{refl}
 use Rattle.step.proofs.Constants.{roomy-start, roomy-count, roomy-size}
 use Rattle.step.proofs.FunctionConstants.{function-within, function-on, function-full}
 use Rattle.step.proofs.pool.add_function.Statement.{statement}
@@ -12,7 +13,10 @@ put-function-requires : tie.Need-put-function-requires
 put-function-requires c κs = search function-within
 
 advance-requires : tie.Need-advance-requires
-advance-requires c κs = (search roomy-count, search roomy-size)
+advance-requires c κs =
+    let t = c .before .before .before .before .before in
+    let roomy = t .before .before .before .before .before .before .before .before .pre .0 in
+    (roomy-count refl roomy _ (t .before .has-room .ensures) (t .if1 .taken), roomy-size refl roomy _ (t .before .has-room .ensures) (t .if1 .taken))
 
 returns : tie.Need-returns
 returns c = search function-on
@@ -24,6 +28,9 @@ pub add-function-spec : {M : Type 1} → statement M
 add-function-spec =
     tie.close
     (tie.spec
+    (λ c. search needs)
+    (λ c. search needs)
+    (λ c. search needs)
     (λ c. search needs)
     (λ c. search needs)
     has-room-requires

@@ -5,4 +5,4 @@ use Rattle.step.proofs.pool.has_room.Statement.{statement}
 use Rattle.step.proofs.pool.has_room.Tie as tie
 
 pub has-room-spec : {M : Type 1} → statement M
-has-room-spec = tie.close (tie.spec (λ c. search room-none) (λ c. search needs) (λ c. search room-full) (λ c. search room-rest))
+has-room-spec = tie.close (tie.spec (λ c. search room-none) (λ c. search needs) (λ c. search needs) (λ c. search room-full) (λ c. search room-rest))
