@@ -68,7 +68,7 @@ module _ (p : ℕ) (i : Instr) (c : Bytes) (s : State) where
   full-step h e y = simp (lt-leb (here s + size i) codeSize h)
 
 -- The two as the code takes them, with what emission on the chunk answered
-module _ (p op a b : ℕ) {c c′ : Bytes} {w : Walked} {s : State} {e : Emitted} (q : w ≡ On s) (h : Ready c w) (d : Adds c (s .chunk) (record { op = op; a = a; b = b }) e c′) where
+module _ (p op n a b : ℕ) {c c′ : Bytes} {w : Walked} {s : State} {e : Emitted} (q : w ≡ On s) (h : Ready c w) (d : Adds c (s .chunk) (record { op = op; operands = n; a = a; b = b }) e c′) where
   -- the bytes are written, and the chunk is longer
   pub emit-on : {s′ : State} → e .room ≡ true → s′ ≡ withChunk (e .chunk) s → Done c c′ w (On s′) (emit p (instr op a b))
   emit-on t u =

@@ -64,6 +64,6 @@ pub instruction-laws : PassedLaws instruction
 instruction-laws = record {
   val = LL.val In.the-type In′.the-laws;
   tells = LL.tells In.the-type In′.the-laws;
-  typed = λ i is. let fields = LL.owed In.the-type In′.the-laws i _ is in (tt, (record { fits = fields .0 .1 }, (record { fits = fields .1 .0 .1 }, (record { fits = fields .1 .1 .0 .1 }, tt))));
+  typed = λ i is. let fields = LL.owed In.the-type In′.the-laws i _ is in (tt, (record { fits = fields .0 .1 }, (record { fits = fields .1 .0 .1 }, (record { fits = fields .1 .1 .0 .1 }, (record { fits = fields .1 .1 .1 .0 .1 }, tt)))));
   makes = λ 𝓤 H A W. LL.makes In.the-type In′.the-plain 𝓤 H A;
 }

@@ -20,7 +20,7 @@ use denote.Exit.{yes}
 use denote.Signature.{Signature, plain}
 use Rattle.scope.specs.declared.Chunk.{Chunk}
 use Rattle.scope.specs.declared.emission.Emitted.{Emitted}
-use Rattle.scope.specs.Emission.{emitted, Within, Adds, Changes}
+use Rattle.scope.specs.Emission.{emitted, Within, Sized, Adds, Changes}
 use Rattle.scope.proofs.Chunk as Ch
 use Rattle.scope.proofs.Chunk.Laws as Ch′
 use Rattle.scope.proofs.emission.Emitted as Em
@@ -36,7 +36,7 @@ pub record Work : Type 2 where
 
 -- an instruction is added
 abbrev pub emission : Work
-emission = record { passed = instruction; laws = instruction-laws; Asks = λ ys c i. Within ys c; Says = Adds }
+emission = record { passed = instruction; laws = instruction-laws; Asks = λ ys c i. Within ys c × Sized i; Says = Adds }
 
 -- the operand of the jump at a position is changed
 abbrev pub patching : Work

@@ -8,7 +8,7 @@ use lib.Seq.{sets}
 use lib.Dec.{leb, ltb}
 use Rattle.definition.specs.Basic.{Bytes, pick}
 use Rattle.definition.specs.Limit.{codeSize}
-use Rattle.definition.specs.Opcode.{Instr, instr, size, bytesOf}
+use Rattle.definition.specs.Opcode.{Instr, instr, width, size, bytesOf}
 use Rattle.scope.specs.Machine.{chunk}
 use Rattle.scope.specs.declared.Chunk.{Chunk}
 use Rattle.scope.specs.declared.emission.Emitted.{Emitted}
@@ -17,6 +17,10 @@ use Rattle.scope.specs.declared.instruction.Instruction.{Instruction}
 -- the instruction that the code's record stands for
 abbrev pub instrOf : Instruction → Instr
 instrOf i = instr (i .op) (i .a) (i .b)
+
+-- the code's record has the right number of operand bytes
+pub record Sized (i : Instruction) : Type 0 where
+  pub is : i .operands ≡ width (i .op)
 
 -- an answer: the chunk afterwards, and whether there was room
 abbrev pub emitted : Chunk → Bool → Emitted

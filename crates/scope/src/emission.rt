@@ -7,7 +7,7 @@ use super::instruction::write_word;
 ghost use mathlib.Core.Path.{_≡_};
 ghost use Prim.Native.Nat.{_+_, _≤_};
 ghost use Rattle.definition.specs.Limit.{codeSize};
-ghost use Rattle.scope.specs.Emission.{emitted, longerChunk, Within, Adds, Changes};
+ghost use Rattle.scope.specs.Emission.{emitted, longerChunk, Within, Sized, Adds, Changes};
 
 // What emission and patching answer: the chunk afterwards, and whether there was room.
 pub struct Emitted {
@@ -30,19 +30,18 @@ fn longer(c: Chunk, n: usize) -> Chunk
 
 // Adds an instruction to a chunk by value, where there is room.
 fn with_instruction(code: &mut [u8], c: Chunk, i: Instruction) -> Emitted
-    requires { ⌜ Within (now code) c ⌝ }
+    requires { ⌜ Within (now code) c × Sized i ⌝ }
     ensures { λ r. ⌜ Adds (now (code .entry)) c i r (now (code .exit)) ⌝ }
 {
     let at = (c.start + c.len) as usize;
-    let operands = opcode::operand_length(i.op);
-    let n = 1 + operands;
+    let n = 1 + i.operands;
     if CODE_SIZE < at + n {
         return Emitted {
             chunk: c,
             room: false,
         };
     }
-    write_instruction(code, at, i.op, operands, i.a, i.b);
+    write_instruction(code, at, i.op, i.operands, i.a, i.b);
     let next = longer(c, n);
     Emitted {
         chunk: next,
@@ -77,7 +76,7 @@ fn with_operand(code: &mut [u8], c: Chunk, at: usize) -> Emitted
 
 // Emission: adds an instruction to the chunk that is lent, and says whether there was room.
 pub fn add_instruction(code: &mut [u8], chunk: &mut Chunk, i: Instruction) -> bool
-    requires { ⌜ Within (now code) (now chunk) ⌝ }
+    requires { ⌜ Within (now code) (now chunk) × Sized i ⌝ }
     ensures { λ r. ⌜ Adds (now (code .entry)) (now (chunk .entry)) i (emitted (now (chunk .exit)) r) (now (code .exit)) ⌝ }
 {
     let r = with_instruction(code, *chunk, i);
@@ -97,7 +96,7 @@ pub fn change_operand(code: &mut [u8], chunk: &mut Chunk, at: usize) -> bool
 
 // Lends a chunk to emission.
 pub fn emit_lent(code: &mut [u8], mut c: Chunk, i: Instruction) -> Emitted
-    requires { ⌜ Within (now code) c ⌝ }
+    requires { ⌜ Within (now code) c × Sized i ⌝ }
     ensures { λ r. ⌜ Adds (now (code .entry)) c i r (now (code .exit)) ⌝ }
 {
     let room = add_instruction(code, &mut c, i);

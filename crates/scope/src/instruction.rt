@@ -6,9 +6,10 @@ ghost use lib.ListN.{length};
 ghost use lib.Seq.{sets};
 ghost use Rattle.definition.specs.Opcode.{instr, size, width, operands, bytesOf};
 
-// An instruction to emit: its byte, and what its operands are made of.
+// An instruction to emit: its byte, the number of its operand bytes, and what they are made of.
 pub struct Instruction {
     pub op: u8,
+    pub operands: usize,
     pub a: usize,
     pub b: usize,
 }

@@ -4,7 +4,7 @@ ghost use mathlib.Core.Path.{_≡_};
 ghost use Prim.Native.Nat.{_+_, _≤_};
 ghost use lib.ListN.{length, getD};
 ghost use mathlib.Core.Option.{none};
-ghost use Rattle.definition.specs.Opcode.{instr, plain, opClosure};
+ghost use Rattle.definition.specs.Opcode.{instr, plain, width, opClosure};
 ghost use Rattle.definition.specs.Walk.{on, operate, prefixes, infixes};
 ghost use Rattle.scope.specs.View.{Ready, Done, Jumps, Refuses};
 ghost use Rattle.scope.specs.Machine;
@@ -123,15 +123,29 @@ pub fn refuse(w: Walked, number: usize, place: usize) -> Walked
     }
 }
 
-// Emits an instruction, with the operands that its first byte has.
-fn emit_instruction(code: &mut [u8], w: Walked, place: usize, op: u8, a: usize, b: usize) -> Walked
+// Emits an instruction, with the `n` operand bytes that its first byte has.
+fn emit_instruction(
+    code: &mut [u8],
+    w: Walked,
+    place: usize,
+    op: u8,
+    n: usize,
+    a: usize,
+    b: usize,
+) -> Walked
     requires { ⌜ Ready (now code) w ⌝ }
+    requires { ⌜ n ≡ width op ⌝ }
     ensures { λ r. ⌜ Done (now (code .entry)) (now (code .exit)) w r (Machine.emit place (instr op a b)) ⌝ }
 {
     match w {
         Walked::On(s) => {
             let c = s.chunk;
-            let i = instruction::Instruction { op: op, a: a, b: b };
+            let i = instruction::Instruction {
+                op: op,
+                operands: n,
+                a: a,
+                b: b,
+            };
             let e = emission::emit_lent(code, c, i);
             let room = e.room;
             if room {
@@ -147,9 +161,10 @@ fn emit_instruction(code: &mut [u8], w: Walked, place: usize, op: u8, a: usize, 
 // Emits an instruction without operands.
 pub fn emit(code: &mut [u8], w: Walked, place: usize, op: u8) -> Walked
     requires { ⌜ Ready (now code) w ⌝ }
+    requires { ⌜ 0 ≡ width op ⌝ }
     ensures { λ r. ⌜ Done (now (code .entry)) (now (code .exit)) w r (Machine.emit place (plain op)) ⌝ }
 {
-    emit_instruction(code, w, place, op, 0, 0)
+    emit_instruction(code, w, place, op, 0, 0, 0)
 }
 
 // Emits an instruction with at most one operand, of one or two bytes.
@@ -157,7 +172,16 @@ pub fn emit_any(code: &mut [u8], w: Walked, place: usize, op: u8, operand: usize
     requires { ⌜ Ready (now code) w ⌝ }
     ensures { λ r. ⌜ Done (now (code .entry)) (now (code .exit)) w r (Machine.emit place (instr op operand 0)) ⌝ }
 {
-    emit_instruction(code, w, place, op, operand, 0)
+    emit_instruction(code, w, place, op, opcode::operand_length(op), operand, 0)
+}
+
+// Emits an instruction with one operand, of two bytes.
+pub fn emit_word(code: &mut [u8], w: Walked, place: usize, op: u8, operand: usize) -> Walked
+    requires { ⌜ Ready (now code) w ⌝ }
+    requires { ⌜ 2 ≡ width op ⌝ }
+    ensures { λ r. ⌜ Done (now (code .entry)) (now (code .exit)) w r (Machine.emit place (instr op operand 0)) ⌝ }
+{
+    emit_instruction(code, w, place, op, 2, operand, 0)
 }
 
 // Emits Closure: the constant that holds its function, and how many free symbols it captures.
@@ -171,16 +195,17 @@ pub fn emit_closure(
     requires { ⌜ Ready (now code) w ⌝ }
     ensures { λ r. ⌜ Done (now (code .entry)) (now (code .exit)) w r (Machine.emit place (instr opClosure constant captures)) ⌝ }
 {
-    emit_instruction(code, w, place, opcodes::CLOSURE, constant, captures)
+    emit_instruction(code, w, place, opcodes::CLOSURE, 3, constant, captures)
 }
 
 // Emits a jump without its target, and says at which position.
 pub fn jump(code: &mut [u8], w: Walked, place: usize, op: u8) -> Jumped
     requires { ⌜ Ready (now code) w ⌝ }
+    requires { ⌜ 2 ≡ width op ⌝ }
     ensures { λ r. ⌜ Jumps (now (code .entry)) (now (code .exit)) w r (Machine.jump place op) ⌝ }
 {
     let at = position(w);
-    let r = emit_any(code, w, place, op, UNPATCHED);
+    let r = emit_word(code, w, place, op, UNPATCHED);
     Jumped { walked: r, at: at }
 }
 
@@ -264,6 +289,7 @@ pub fn boolean(code: &mut [u8], w: Walked, place: usize, b: u8) -> Walked
 // Emits an operator's instruction, or refuses where it has none.
 fn operator(code: &mut [u8], w: Walked, place: usize, op: u8) -> Walked
     requires { ⌜ Ready (now code) w ⌝ }
+    requires { ⌜ 0 ≡ width op ⌝ }
     ensures { λ r. ⌜ Done (now (code .entry)) (now (code .exit)) w r (operate Machine.machine place (opcodeOf op)) ⌝ }
 {
     if op == opcodes::NONE {

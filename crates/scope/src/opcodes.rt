@@ -4,7 +4,7 @@ ghost use mathlib.Core.Option.{none};
 ghost use lib.Dec.{eqb};
 ghost use lib.ListN.{getD};
 ghost use Rattle.definition.specs.Basic.{pick};
-ghost use Rattle.definition.specs.Opcode.{opTrue, opFalse};
+ghost use Rattle.definition.specs.Opcode.{opTrue, opFalse, width};
 ghost use Rattle.definition.specs.Walk.{prefixes, infixes};
 ghost use Rattle.scope.specs.Code.{opcodeOf};
 
@@ -91,7 +91,8 @@ const INFIXES: [u8; 10] = [
 
 // The instruction of a prefix operator, or NONE.
 pub fn prefix_opcode(o: u8) -> u8
-    ensures { λ r. ⌜ opcodeOf r ≡ getD prefixes o none ⌝ }
+    ensures is { λ r. ⌜ opcodeOf r ≡ getD prefixes o none ⌝ }
+    ensures alone { λ r. ⌜ 0 ≡ width r ⌝ }
 {
     let i = o as usize;
     if i < 4 { PREFIXES[i] } else { NONE }
@@ -99,7 +100,8 @@ pub fn prefix_opcode(o: u8) -> u8
 
 // The instruction of an infix operator, or NONE.
 pub fn infix_opcode(o: u8) -> u8
-    ensures { λ r. ⌜ opcodeOf r ≡ getD infixes o none ⌝ }
+    ensures is { λ r. ⌜ opcodeOf r ≡ getD infixes o none ⌝ }
+    ensures alone { λ r. ⌜ 0 ≡ width r ⌝ }
 {
     let i = o as usize;
     if i < 10 { INFIXES[i] } else { NONE }
@@ -107,7 +109,8 @@ pub fn infix_opcode(o: u8) -> u8
 
 // The instruction of a boolean.
 pub fn boolean_opcode(b: u8) -> u8
-    ensures { λ r. ⌜ r ≡ pick (eqb b 0) opFalse opTrue ⌝ }
+    ensures is { λ r. ⌜ r ≡ pick (eqb b 0) opFalse opTrue ⌝ }
+    ensures alone { λ r. ⌜ 0 ≡ width r ⌝ }
 {
     if b == 0 { FALSE } else { TRUE }
 }

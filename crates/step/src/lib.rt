@@ -10,6 +10,7 @@ use scope::Chunk;
 use scope::State;
 use scope::Walked;
 use scope::emit_any;
+use scope::emit_word;
 use scope::numbers;
 use scope::opcodes;
 use scope::refuse;
@@ -62,7 +63,7 @@ pub fn literal(
 {
     let added = add_constant(session, w, at, tag, content_at(tree, at));
     let v = added.walked;
-    emit_any(code, v, at, opcodes::CONSTANT, added.index)
+    emit_word(code, v, at, opcodes::CONSTANT, added.index)
 }
 
 // Looks an identifier up, and loads its symbol.

@@ -4,7 +4,7 @@ use Rattle.scope.proofs.infix_operator.Tie as tie
 use Rattle.scope.proofs.infix_operator.Statement.{statement}
 
 returns : tie.Need-returns
-returns c = rw (← (c .before .before .before .infix-opcode .ensures)) (c .before .before .operator .ensures)
+returns c = rw (← (c .before .before .before .infix-opcode .ensures .0)) (c .before .before .operator .ensures)
 
 pub infix-operator-spec : {M : Type 1} → statement M
 infix-operator-spec =

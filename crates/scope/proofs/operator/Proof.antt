@@ -6,7 +6,7 @@ use Rattle.scope.proofs.operator.Tie as tie
 use Rattle.scope.proofs.operator.Statement.{statement}
 
 returns : tie.Need-returns
-returns c = refused (c .before .before .before .pre) (c .refuse .ensures) (λ e y. rw (c .before .if1 .taken))
+returns c = refused (c .before .before .before .pre .0) (c .refuse .ensures) (λ e y. rw (c .before .if1 .taken))
 
 returns-2 : tie.Need-returns-2
 returns-2 c = rw (ne-eqb _ _ (c .before .before .before .before .if1 .left)) (c .before .before .emit .ensures)

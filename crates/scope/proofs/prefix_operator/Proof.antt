@@ -4,7 +4,7 @@ use Rattle.scope.proofs.prefix_operator.Tie as tie
 use Rattle.scope.proofs.prefix_operator.Statement.{statement}
 
 returns : tie.Need-returns
-returns c = rw (← (c .before .before .before .prefix-opcode .ensures)) (c .before .before .operator .ensures)
+returns c = rw (← (c .before .before .before .prefix-opcode .ensures .0)) (c .before .before .operator .ensures)
 
 pub prefix-operator-spec : {M : Type 1} → statement M
 prefix-operator-spec =

@@ -1,4 +1,5 @@
 -- The three ends of a function's chunk.
+use mathlib.Core.Path.{refl}
 use borrow.Author.Needs.{needs}
 use native.Mathlib.Omega.{arith}
 use Rattle.definition.specs.Opcode.{opPop}
@@ -38,7 +39,7 @@ returns-2 c =
 emit-requires : tie.Need-emit-requires
 emit-requires c κs =
     let m = c .before .before .before .before .before .before .before .before .before in
-    ready-on (m .w .given .1) (m .before .before .before .pre)
+    (ready-on (m .w .given .1) (m .before .before .before .pre), refl)
 
 returns-3 : tie.Need-returns-3
 returns-3 c = search return-more

@@ -7,10 +7,10 @@ use Rattle.scope.proofs.emission.with_instruction.Tie as tie
 use Rattle.scope.proofs.emission.with_instruction.Statement.{statement}
 
 add-n : tie.Need-add-n
-add-n c = omega (arith, c .operand-length .ensures, width-most (c .before .before .before .args .i .op))
+add-n c = let start = c .before .before .before in omega (arith, start .pre .1 .is, width-most (start .args .i .op))
 
 add-if1 : tie.Need-add-if1
-add-if1 c = omega (arith, c .operand-length .ensures, width-most (c .before .before .before .args .i .op))
+add-if1 c = let start = c .before .before .before in omega (arith, start .pre .1 .is, width-most (start .args .i .op))
 
 returns : tie.Need-returns
 returns c = search adds-full
@@ -24,7 +24,6 @@ with-instruction-spec =
     (tie.spec
     (λ c. search needs)
     (λ c. search needs)
-    (λ c κs. search needs)
     add-n
     add-if1
     returns
