@@ -172,16 +172,23 @@ pub fn emit_any(code: &mut [u8], w: Walked, place: usize, op: u8, operand: usize
     requires { ⌜ Ready (now code) w ⌝ }
     ensures { λ r. ⌜ Done (now (code .entry)) (now (code .exit)) w r (Machine.emit place (instr op operand 0)) ⌝ }
 {
-    emit_instruction(code, w, place, op, opcode::operand_length(op), operand, 0)
+    emit_operand(code, w, place, op, opcode::operand_length(op), operand)
 }
 
-// Emits an instruction with one operand, of two bytes.
-pub fn emit_word(code: &mut [u8], w: Walked, place: usize, op: u8, operand: usize) -> Walked
+// Emits an instruction with at most one operand, of `n` bytes.
+pub fn emit_operand(
+    code: &mut [u8],
+    w: Walked,
+    place: usize,
+    op: u8,
+    n: usize,
+    operand: usize,
+) -> Walked
     requires { ⌜ Ready (now code) w ⌝ }
-    requires { ⌜ 2 ≡ width op ⌝ }
+    requires { ⌜ n ≡ width op ⌝ }
     ensures { λ r. ⌜ Done (now (code .entry)) (now (code .exit)) w r (Machine.emit place (instr op operand 0)) ⌝ }
 {
-    emit_instruction(code, w, place, op, 2, operand, 0)
+    emit_instruction(code, w, place, op, n, operand, 0)
 }
 
 // Emits Closure: the constant that holds its function, and how many free symbols it captures.
@@ -205,7 +212,7 @@ pub fn jump(code: &mut [u8], w: Walked, place: usize, op: u8) -> Jumped
     ensures { λ r. ⌜ Jumps (now (code .entry)) (now (code .exit)) w r (Machine.jump place op) ⌝ }
 {
     let at = position(w);
-    let r = emit_word(code, w, place, op, UNPATCHED);
+    let r = emit_operand(code, w, place, op, 2, UNPATCHED);
     Jumped { walked: r, at: at }
 }
 

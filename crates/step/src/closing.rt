@@ -1,12 +1,11 @@
 // A function is closed over the code outside it.
 use super::Added;
 use super::pool::add_function;
-use opcode::operand_length;
 use scope::CODE_SIZE;
 use scope::State;
 use scope::Walked;
-use scope::emit_any;
 use scope::emit_closure;
+use scope::emit_operand;
 use scope::numbers;
 use scope::refuse;
 use symbol_table::leaving::captures;
@@ -34,7 +33,7 @@ fn loads_size(table: &[u32], level: usize, n: usize) -> usize
     let mut i = 0;
     while i < n {
         let l = load_of(original(table, level, i));
-        size += 1 + operand_length(l.op);
+        size += 1 + l.operands;
         i += 1;
     }
     size
@@ -51,7 +50,7 @@ fn loads(code: &mut [u8], table: &[u32], w: Walked, place: usize, level: usize, 
     let mut i = 0;
     while i < n {
         let l = load_of(original(table, level, i));
-        v = emit_any(code, v, place, l.op, l.operand as usize);
+        v = emit_operand(code, v, place, l.op, l.operands, l.operand as usize);
         i += 1;
     }
     v

@@ -9,8 +9,7 @@ use pool::add_constant;
 use scope::Chunk;
 use scope::State;
 use scope::Walked;
-use scope::emit_any;
-use scope::emit_word;
+use scope::emit_operand;
 use scope::numbers;
 use scope::opcodes;
 use scope::refuse;
@@ -63,7 +62,7 @@ pub fn literal(
 {
     let added = add_constant(session, w, at, tag, content_at(tree, at));
     let v = added.walked;
-    emit_word(code, v, at, opcodes::CONSTANT, added.index)
+    emit_operand(code, v, at, opcodes::CONSTANT, 2, added.index)
 }
 
 // Looks an identifier up, and loads its symbol.
@@ -87,7 +86,7 @@ pub fn load(
             match resolve_name(tree, &session[..end], table, s.level as usize, at) {
                 Lookup::Found(symbol) => {
                     let l = load_of(symbol);
-                    emit_any(code, w, at, l.op, l.operand as usize)
+                    emit_operand(code, w, at, l.op, l.operands, l.operand as usize)
                 }
                 Lookup::Undefined => refuse(w, numbers::UNDEFINED, at),
                 Lookup::Full => refuse(w, numbers::CAPTURES, at),

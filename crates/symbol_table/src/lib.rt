@@ -25,7 +25,7 @@ ghost use mathlib.Core.List.{List, []};
 ghost use lib.ListN.{length, getD, take};
 ghost use Rattle.definition.specs.Basic.{Bytes};
 ghost use Rattle.definition.specs.Limit.{treeLimit, sessionSize, argumentsLimit, freeLimit};
-ghost use Rattle.definition.specs.Opcode.{instr};
+ghost use Rattle.definition.specs.Opcode.{instr, width};
 ghost use Rattle.definition.specs.SymbolTable.{find, builtins, loadOf};
 ghost use Rattle.field.specs.Layout.{after, content};
 ghost use Rattle.symbol_table.specs.Name.{Stands, fields, Row, buckets};
@@ -53,9 +53,10 @@ pub enum Definition {
     LocalsFull,
 }
 
-// An instruction with one operand.
+// An instruction with at most one operand, and the number of its operand bytes.
 pub struct Load {
     pub op: u8,
+    pub operands: usize,
     pub operand: u32,
 }
 
@@ -243,34 +244,40 @@ pub fn global_name(table: &[u32], k: usize) -> u32
 
 // The instruction that loads a symbol.
 pub fn load_of(code: u32) -> Load
-    ensures { λ r. ⌜ instr (r .op) (r .operand) 0 ≡ loadOf (symbolOf code) ⌝ }
+    ensures is { λ r. ⌜ instr (r .op) (r .operand) 0 ≡ loadOf (symbolOf code) ⌝ }
+    ensures sized { λ r. ⌜ r .operands ≡ width (r .op) ⌝ }
 {
     if code < 256 {
         return Load {
             op: 0x1D,
+            operands: 0,
             operand: 0,
         };
     }
     if code < 512 {
         return Load {
             op: 0x18,
+            operands: 1,
             operand: code - 256,
         };
     }
     if code < 768 {
         return Load {
             op: 0x1C,
+            operands: 1,
             operand: code - 512,
         };
     }
     if code < 1024 {
         return Load {
             op: 0x1A,
+            operands: 1,
             operand: code - 768,
         };
     }
     Load {
         op: 0x10,
+        operands: 2,
         operand: code - 1024,
     }
 }

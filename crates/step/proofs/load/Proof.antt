@@ -15,11 +15,11 @@ slice-aggregate-resolve-name c = names-length _ _ _ (c .before .before .before .
 resolve-name-requires : tie.Need-resolve-name-requires
 resolve-name-requires c κs = (fine-base _ _ _ (c .before .before .before .before .before .w .given .1) (c .before .before .before .before .before .before .before .before .before .before .before .pre .1 .1 .1), (fine-good _ _ _ (c .before .before .before .before .before .w .given .1) (c .before .before .before .before .before .before .before .before .before .before .before .pre .1 .1 .1), search needs))
 
-emit-any-requires : tie.Need-emit-any-requires
-emit-any-requires c κs = ready-on (c .before .before .before .before .before .before .before .before .before .before .before .before .before .before .w .given .1) (c .before .before .before .before .before .before .before .before .before .before .before .before .before .before .before .before .before .before .before .before .pre .1 .1 .0)
+emit-operand-requires : tie.Need-emit-operand-requires
+emit-operand-requires c κs = (ready-on (c .before .before .before .before .before .before .before .before .before .before .before .before .before .before .w .given .1) (c .before .before .before .before .before .before .before .before .before .before .before .before .before .before .before .before .before .before .before .before .pre .1 .1 .0), c .before .before .load-of .ensures .1)
 
 returns : tie.Need-returns
-returns c = load-found _ (c .before .before .before .before .before .before .before .before .before .before .before .before .before .before .before .before .before .w .given .1) (c .before .before .before .before .before .before .before .before .before .before .before .resolve-name .kept .1 .1 .0) (c .before .before .before .before .before .before .before .before .before .before .before .before .before .before .before .before .before .before .before .before .before .before .before .pre .1 .1 .1) (c .before .before .before .before .before .before .before .before .before .before .before .resolve-name .ensures) (c .before .before .before .before .before .before .before .symbol .given .1) (c .before .before .before .before .before .load-of .ensures) (c .before .before .emit-any .ensures)
+returns c = load-found _ (c .before .before .before .before .before .before .before .before .before .before .before .before .before .before .before .before .before .w .given .1) (c .before .before .before .before .before .before .before .before .before .before .before .resolve-name .kept .1 .1 .0) (c .before .before .before .before .before .before .before .before .before .before .before .before .before .before .before .before .before .before .before .before .before .before .before .pre .1 .1 .1) (c .before .before .before .before .before .before .before .before .before .before .before .resolve-name .ensures) (c .before .before .before .before .before .before .before .symbol .given .1) (c .before .before .before .before .before .load-of .ensures .0) (c .before .before .emit-operand .ensures)
 
 returns-2 : tie.Need-returns-2
 returns-2 c = load-refused _ (c .before .before .before .before .before .before .before .before .before .before .before .w .given .1) Number.undefined Undefined (λ v ts. refl) (c .before .before .before .before .before .before .before .before .before .before .before .before .before .before .before .before .before .pre .1 .1 .0) (c .before .before .before .before .before .resolve-name .ensures) (c .before .enum-told .given .1) (c .refuse .ensures)
@@ -39,7 +39,7 @@ load-spec =
     (λ c. search needs)
     (λ c κs. search needs)
     (λ c. search needs)
-    emit-any-requires
+    emit-operand-requires
     (λ c. search needs)
     (λ c κs. search needs)
     (λ c. search needs)

@@ -22,11 +22,11 @@ original-requires c κs = search needs
 load-of-requires : tie.Need-load-of-requires Inv-loop μ-loop
 load-of-requires c κs = search needs
 
-cast-emit-any : tie.Need-cast-emit-any Inv-loop μ-loop
-cast-emit-any c = search needs
+cast-emit-operand : tie.Need-cast-emit-operand Inv-loop μ-loop
+cast-emit-operand c = search needs
 
-emit-any-requires : tie.Need-emit-any-requires Inv-loop μ-loop
-emit-any-requires c κs = c .before .before .before .before .before .loop .inv .done .ready
+emit-operand-requires : tie.Need-emit-operand-requires Inv-loop μ-loop
+emit-operand-requires c κs = (c .before .before .before .before .before .loop .inv .done .ready, c .before .before .load-of .ensures .1)
 
 add-i : tie.Need-add-i Inv-loop μ-loop
 add-i c = omega arith
@@ -52,8 +52,8 @@ loads-spec =
     loop-holds
     original-requires
     load-of-requires
-    cast-emit-any
-    emit-any-requires
+    cast-emit-operand
+    emit-operand-requires
     add-i
     loop-less
     loop-again

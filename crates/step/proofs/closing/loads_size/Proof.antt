@@ -23,14 +23,11 @@ original-requires c κs = search needs
 load-of-requires : tie.Need-load-of-requires Inv-loop μ-loop
 load-of-requires c κs = search needs
 
-operand-length-requires : tie.Need-operand-length-requires Inv-loop μ-loop
-operand-length-requires c κs = search needs
-
 add-size : tie.Need-add-size Inv-loop μ-loop
-add-size c = omega (arith, c .operand-length .ensures, width-most (c .before .load-of .result .op))
+add-size c = omega (arith, c .before .load-of .ensures .1, width-most (c .before .load-of .result .op))
 
 add-size-2 : tie.Need-add-size-2 Inv-loop μ-loop
-add-size-2 c = omega (arith, c .operand-length .ensures, width-most (c .before .load-of .result .op))
+add-size-2 c = omega (arith, c .before .load-of .ensures .1, width-most (c .before .load-of .result .op))
 
 add-i : tie.Need-add-i Inv-loop μ-loop
 add-i c = omega arith
@@ -53,7 +50,6 @@ loads-size-spec =
     loop-holds
     original-requires
     load-of-requires
-    operand-length-requires
     add-size
     add-size-2
     add-i
