@@ -28,7 +28,7 @@ use Rattle.bytecode.specs.Checked.{constants, imageAnswer}
 use Rattle.bytecode.proofs.Heads.{both-true}
 use Rattle.bytecode.proofs.Items.{ended, unlike}
 use Rattle.bytecode.proofs.Fields.{mainContent, poolContent, head-read, then-read}
-use Rattle.listing.specs.Put.{Puts, roof}
+use Rattle.listing.specs.Put.{Puts, textLimit}
 use Rattle.listing.specs.Reads.{CodeAt, PoolAt, ImageAt, HasImage, poolText}
 use Rattle.listing.proofs.Lines.{code-size}
 
@@ -150,7 +150,7 @@ empty-part [] out e = refl
 empty-part (x ∷ l) out e = absurd (omega arith)
 
 -- what listing a sound image answers and leaves, by the length of the listing
-module _ (b out : Bytes) {m : Image} (i : ImageAt b m) {o o₁ : Bytes} {size : ℕ} (p : Puts roof o o₁ 0 size (listing m)) where
+module _ (b out : Bytes) {m : Image} (i : ImageAt b m) {o o₁ : Bytes} {size : ℕ} (p : Puts textLimit o o₁ 0 size (listing m)) where
   counts : length (listing m) ≡ size
   counts = sym (p .counted ∙ zero-add (length (listing m)))
 
@@ -163,7 +163,7 @@ module _ (b out : Bytes) {m : Image} (i : ImageAt b m) {o o₁ : Bytes} {size : 
         let h : length out < size = omega (arith, ap length whole) in
         (rw (i .reads, counts, lt-leb size (length out) h), whole ∙ rw (i .reads, counts, lt-leb size (length out) h))
 
-    pub listing-written : {last : Bytes} {again : ℕ} → size ≤ length (part ++ out) → Puts roof (part ++ out) last 0 again (listing m)
+    pub listing-written : {last : Bytes} {again : ℕ} → size ≤ length (part ++ out) → Puts textLimit (part ++ out) last 0 again (listing m)
         → (Length size ≡ listAnswer (readImage b) (length out)) × (last ≡ listInto (readImage b) out)
     listing-written l q =
         let h : size ≤ length out = omega (arith, ap length whole) in (

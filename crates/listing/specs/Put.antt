@@ -5,13 +5,13 @@ use lib.ListN.{length}
 use lib.Seq.{sets}
 use Rattle.definition.specs.Basic.{Bytes}
 
--- no listing comes near this length
-abbrev pub roof : ℕ
-roof = 1099511627776
+-- a bound on every text, so that its length can be counted
+abbrev pub textLimit : ℕ
+textLimit = 1099511627776
 
 -- so many bytes more can be counted
 abbrev pub Room : ℕ → ℕ → Type 0
-Room most at = at + most ≤ roof
+Room most at = at + most ≤ textLimit
 
 -- more than the text of each byte of an image
 abbrev pub perByte : ℕ

@@ -18,13 +18,13 @@ ghost use lib.ListN.{length};
 ghost use Rattle.definition.specs.Bytecode.{Image};
 ghost use Rattle.definition.specs.Decode.{readImage};
 ghost use Rattle.definition.specs.Listing.{listing, listAnswer, listInto};
-ghost use Rattle.listing.specs.Put.{roof, Puts};
+ghost use Rattle.listing.specs.Put.{textLimit, Puts};
 ghost use Rattle.listing.specs.Reads.{ImageAt, HasImage};
 
 // Puts the listing of a sound image at the start of the output.
 fn put_listing(output: &mut [u8], image: &[u8]) -> usize
     requires { ⌜ HasImage (now image) ⌝ }
-    ensures { λ r. ⌜ ((m : Image) → ImageAt (now (image .entry)) m → Puts roof (now (output .entry)) (now (output .exit)) 0 r (listing m)) ⌝ }
+    ensures { λ r. ⌜ ((m : Image) → ImageAt (now (image .entry)) m → Puts textLimit (now (output .entry)) (now (output .exit)) 0 r (listing m)) ⌝ }
 {
     let size = length_at(image, 0);
     let end = 3 + size;
