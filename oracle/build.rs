@@ -1,4 +1,4 @@
-//! Lays the published Rust sources and the shims out as one module tree below OUT_DIR, and links the proved library.
+//! Lays the published Rust sources, patched, and the shims out as one module tree below OUT_DIR, and links the proved library.
 use std::path::{Path, PathBuf};
 use std::process::Command;
 use std::{env, fs};
@@ -49,11 +49,27 @@ fn take_sources(source: &Path, root: &Path) {
     assert!(status.success(), "the sources are not those of sources.sha256");
 }
 
+/// The patches of this folder, in the order of their names, onto the verified files: where the port no longer follows the Rust.
+fn apply_patches(folder: &Path, root: &Path) {
+    println!("cargo:rerun-if-changed={}", folder.display());
+    let mut patches = Vec::new();
+    files_below(folder, &mut patches);
+    patches.retain(|path| path.extension().is_some_and(|end| end == "patch"));
+    patches.sort();
+    for patch in patches {
+        let input = fs::File::open(&patch).unwrap();
+        let mut apply = Command::new("patch");
+        let status = apply.args(["--strip=1", "--fuzz=0", "--quiet"]).stdin(input).current_dir(root).status().unwrap();
+        assert!(status.success(), "{} does not apply", patch.display());
+    }
+}
+
 fn main() {
     let (source, library) = (sources(), library());
     let root = Path::new(&env::var("OUT_DIR").unwrap()).join("monkey");
     let _ = fs::remove_dir_all(&root);
     take_sources(&source, &root);
+    apply_patches(Path::new("patches"), &root);
     let mut shims = Vec::new();
     files_below(Path::new("shims"), &mut shims);
     for shim in shims {

@@ -1,15 +1,15 @@
 #!/usr/bin/env python3
-"""Write the recorded cases of crates/replay_bytecode from vector files.
+"""Write the recorded cases of the program replay_bytecode from case files.
 
-usage: bytecode_cases.py VECTORS    (run from the repository's root)
+usage: bytecode_cases.py CASES CRATE
 
-VECTORS is the folder of image17.txt, instruction16.txt, listing.txt and session-broken.txt. Each question goes to data/cases as it stands
+CASES is the folder of image17.txt, instruction16.txt, listing.txt and session-broken.txt. Each question goes to data/cases as it stands
 there, but that the length of a listing's output stands in three bytes before its image. Its answer goes to stdout: of a session only whether
 its layout is sound, and a listing as text behind its answer.
 """
 import sys
 
-folder, crate = sys.argv[1], "crates/replay_bytecode/"
+folder, crate = sys.argv[1], sys.argv[2] + "/"
 questions, answers = [], []
 for topic, word in ("instruction16", "decode"), ("image17", "image"), ("listing", "list"), ("session-broken", "start"):
     asked = False

@@ -1,7 +1,7 @@
 #!/usr/bin/env python3
 """Writes the recorded cases of the tree check for the program check_trees.
 
-    tree_cases.py VECTORS_DIR DATA_DIR
+    tree_cases.py CASES_DIR DATA_DIR
 
 A file of DATA_DIR has the trees of a topic, each as a record: the number that the check refuses with (0: the tree is good) in one
 byte, its place and the tree's length in two each, then the tree. Every outcome but number 3 or 4 means that the tree is good."""
@@ -39,9 +39,9 @@ def records(path, prefixes):
             yield bytes([number]) + place.to_bytes(2, "big") + len(tree).to_bytes(2, "big") + tree
 
 
-vectors, data = sys.argv[1:]
+cases, data = sys.argv[1:]
 os.makedirs(data, exist_ok=True)
 for topic, prefixes in TOPICS.items():
     with open(os.path.join(data, topic), "wb") as out:
-        for record in records(os.path.join(vectors, topic + ".txt"), prefixes):
+        for record in records(os.path.join(cases, topic + ".txt"), prefixes):
             out.write(record)

@@ -1,15 +1,47 @@
-// Reads a tree from standard input, compiles it in a fresh session, and writes the image; or only `refused`, the number and the place.
+// Reads a tree from standard input, compiles it in a fresh session, and writes the image to standard output. A refusal is a sentence on
+// standard error, and standard output stays empty.
 use definition::Answer;
+use libc::STDERR_FILENO;
 use libc::STDIN_FILENO;
 use libc::STDOUT_FILENO;
 
-// Writes a refusal.
+// Writes what a number of the walk stands for; whether it could.
+fn print_walk_word(number: usize) -> bool {
+    match number {
+        5 => io::write_all(STDERR_FILENO, b"undefined name"),
+        6 => io::write_all(STDERR_FILENO, b"operator that is none here"),
+        7 => io::write_all(STDERR_FILENO, b"macro"),
+        8 => io::write_all(STDERR_FILENO, b"too many parameters or arguments"),
+        9 => io::write_all(STDERR_FILENO, b"too many locals"),
+        10 => io::write_all(STDERR_FILENO, b"too many captures"),
+        11 => io::write_all(STDERR_FILENO, b"too many globals"),
+        12 => io::write_all(STDERR_FILENO, b"pool full"),
+        13 => io::write_all(STDERR_FILENO, b"code full"),
+        _ => io::write_all(STDERR_FILENO, b"functions nested too deep"),
+    }
+}
+
+// Writes what a number stands for; whether it could.
+fn print_word(number: usize) -> bool {
+    match number {
+        1 => io::write_all(STDERR_FILENO, b"short buffer"),
+        2 => io::write_all(STDERR_FILENO, b"no session"),
+        3 => io::write_all(STDERR_FILENO, b"bad tree"),
+        4 => io::write_all(STDERR_FILENO, b"tree too deep"),
+        15 => io::write_all(STDERR_FILENO, b"output short"),
+        _ => print_walk_word(number),
+    }
+}
+
+// Writes a refusal as a sentence.
 fn print_refusal(number: usize, place: usize) {
-    io::write_all(STDOUT_FILENO, b"refused ");
-    io::print_decimal(STDOUT_FILENO, number as u64);
-    io::write_all(STDOUT_FILENO, b" ");
-    io::print_decimal(STDOUT_FILENO, place as u64);
-    io::write_all(STDOUT_FILENO, b"\n");
+    io::write_all(STDERR_FILENO, b"compile_tree: refused with number ");
+    io::print_decimal(STDERR_FILENO, number as u64);
+    io::write_all(STDERR_FILENO, b", ");
+    print_word(number);
+    io::write_all(STDERR_FILENO, b", at offset ");
+    io::print_decimal(STDERR_FILENO, place as u64);
+    io::write_all(STDERR_FILENO, b" of the tree.\n");
 }
 
 // Writes the first bytes of the output.
