@@ -5,3 +5,4 @@ pub mod Symbols
 pub mod Functions
 pub mod Loads
 pub mod Closed
+pub mod Framed

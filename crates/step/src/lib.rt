@@ -27,6 +27,7 @@ ghost use Rattle.scope.specs.View.{Fits, Sound, Ready};
 ghost use Rattle.scope.specs.Machine as machine;
 ghost use Rattle.step.specs.Memory.{rest, Roomy, Fine, Deeper};
 ghost use Rattle.step.specs.Contract.{Steps, StepsBeside, placedAt, FineBeside, DefinesBeside, HeadAt, EntersBeside, FineFor, LeavesBeside};
+ghost use Rattle.step.specs.Frame.{LeavesAlone};
 
 // The open functions, and the parameters of each.
 const NESTING_LIMIT: u32 = 16;
@@ -190,7 +191,8 @@ pub fn enter(tree: &[u8], table: &mut [u32], w: Walked, at: usize, n: usize) -> 
     }
 }
 
-// Leaves the function in which `w` goes on: its constant, and outside it the loads of what it captures and Closure.
+// Leaves the function in which `w` goes on: its constant, and outside it the loads of what it captures and Closure. Its code is copied once,
+// from the code area into the constant.
 pub fn leave(
     session: &mut [u8],
     code: &mut [u8],
@@ -204,7 +206,8 @@ pub fn leave(
     requires { ⌜ Sound outer ⌝ }
     requires { ⌜ Deeper 1 outer w ⌝ }
     requires { ⌜ FineFor (rest (now session) (now table)) w ⌝ }
-    ensures { λ r. ⌜ LeavesBeside place params (now (code .entry)) (now (code .exit)) (now (session .entry)) (now (session .exit)) (now (table .entry)) outer w r ⌝ }
+    ensures closed { λ r. ⌜ LeavesBeside place params (now (code .entry)) (now (code .exit)) (now (session .entry)) (now (session .exit)) (now (table .entry)) outer w r ⌝ }
+    ensures alone { λ r. ⌜ LeavesAlone (now (code .entry)) (now (code .exit)) (now (session .entry)) (now (session .exit)) outer w r ⌝ }
 {
     let v = returned(code, w, place);
     match outer {

@@ -73,7 +73,7 @@ module _ (t : ℕ) where
       let start = c .before .before .before .before .before .before .before .before .before .before .before .before .before .before .before .before .before .before .before .before .before .before .before .before .before .before .before .before .before .before in
       let on-walk-block = c .before .before .before .before .before .before .before .before .before .before .before .before .before .before .walk-block in
       let on-leave = c .before .before .before .before .leave in
-      function-walks (on-after-at .ensures .0) (on-after-at2 .ensures .0) (on-after-at3 .ensures .0) (on-count-fields .ensures) (on-enter .ensures .enters _ _ (start .pre .1 .1 .ready) (start .pre .1 .1 .fine)) (on-walk-block .ensures) (on-leave .ensures .leaves _ (on-walk-block .ensures .fine))
+      function-walks (on-after-at .ensures .0) (on-after-at2 .ensures .0) (on-after-at3 .ensures .0) (on-count-fields .ensures) (on-enter .ensures .enters _ _ (start .pre .1 .1 .ready) (start .pre .1 .1 .fine)) (on-walk-block .ensures) (on-leave .ensures .0 .leaves _ (on-walk-block .ensures .fine))
 
 pub met : {M : Type 1} (t : ℕ) → lts.Closed (calls t) (walk-function-at t) walk-function.Post M
 met t =
