@@ -1,5 +1,5 @@
 /*
- * The profile compiler for C: link target/staticlib/libcapi.a (rt staticlib capi; x86-64).
+ * The profile compiler for C: link target/staticlib/libcapi.a (rt staticlib capi; x86-64). The bytes of trees, sessions and images: docs/FORMAT.md.
  *
  * Buffers
  *   Each is a pointer and a length. A length counts elements: bytes, and for the table area 32-bit numbers.
