@@ -246,10 +246,10 @@ pub fn jump_and_patch(code: &mut [u8], w: Walked, place: usize, at: usize) -> Ju
     }
 }
 
-// Drops a branch's last Pop.
-pub fn drop_pop(code: &mut [u8], w: Walked, _place: usize) -> Walked
+// Drops the last Pop of a branch of the if at a place.
+pub fn drop_pop(code: &mut [u8], w: Walked, place: usize) -> Walked
     requires { ⌜ Ready (now code) w ⌝ }
-    ensures { λ r. ⌜ Done (now (code .entry)) (now (code .exit)) w r (λ v. on tt (Machine.dropped v)) ⌝ }
+    ensures { λ r. ⌜ Done (now (code .entry)) (now (code .exit)) w r (Machine.dropped place) ⌝ }
 {
     match w {
         Walked::On(s) => {
