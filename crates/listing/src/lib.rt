@@ -8,6 +8,7 @@ use bytecode::check_image;
 use code::list_code;
 use definition::Answer;
 use definition::Refusal;
+use definition::number;
 use field::length_at;
 use pool::list_pool;
 use text::put_bytes;
@@ -47,7 +48,7 @@ pub fn list_image(image: &[u8], output: &mut [u8]) -> Answer
             let size = put_listing(&mut output[..0], image);
             if output.len() < size {
                 return Answer::Refused(Refusal {
-                    number: 15,
+                    number: number::OUTPUT_SHORT,
                     place: 0,
                 });
             }

@@ -8,6 +8,7 @@ use crate::text::put_newline;
 use crate::text::put_signed;
 use bytecode::Checked;
 use bytecode::check_constants;
+use definition::tag;
 use field::length_at;
 use field::wide;
 use field::word;
@@ -83,10 +84,10 @@ fn list_content(output: &mut [u8], at: usize, image: &[u8], from: usize, end: us
 {
     let tag = image[from];
     let len = length_at(image, from);
-    if tag == 0x60 {
+    if tag == tag::INTEGER_CONST {
         return list_integer(output, at, image, from + 3);
     }
-    if tag == 0x61 {
+    if tag == tag::STRING_CONST {
         return list_string(output, at, image, from + 3, len);
     }
     list_function(output, at, image, from + 3, len)
