@@ -31,9 +31,9 @@ pub enum Checked {
     Wrong(usize),
 }
 
-// What the check of an image answers.
+// What the check of an image answers: how many constants a sound one has, or its refusal.
 pub enum ImageCheck {
-    Sound,
+    Sound(usize),
     Refused(Refusal),
 }
 
@@ -206,7 +206,7 @@ fn bad_image(place: usize) -> ImageCheck
     })
 }
 
-// Check an image: it is sound, or 17 at its first wrong field or instruction.
+// Check an image: it is sound, with so many constants, or 17 at its first wrong field or instruction.
 pub fn check_image(image: &[u8]) -> ImageCheck
     ensures { λ r. ⌜ r ≡ imageAnswer (readImage (now (image .entry))) ⌝ }
 {
@@ -214,11 +214,11 @@ pub fn check_image(image: &[u8]) -> ImageCheck
         Checked::Wrong(place) => bad_image(place),
         Checked::Good(_, at) => match check_pool(image, at, image.len()) {
             Checked::Wrong(place) => bad_image(place),
-            Checked::Good(_, next) => {
+            Checked::Good(constants, next) => {
                 if next != image.len() {
                     return bad_image(next);
                 }
-                ImageCheck::Sound
+                ImageCheck::Sound(constants)
             }
         },
     }

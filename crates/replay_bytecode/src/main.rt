@@ -69,7 +69,7 @@ fn write_instruction(i: Instruction, size: usize) {
 // Answer a question on the image check.
 fn answer_image(image: &[u8]) {
     match bytecode::check_image(image) {
-        ImageCheck::Sound => {
+        ImageCheck::Sound(_) => {
             io::write_all(STDOUT_FILENO, b"ok\n");
         }
         ImageCheck::Refused(r) => write_refusal(r.number, r.place),
