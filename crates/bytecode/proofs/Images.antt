@@ -52,9 +52,11 @@ module _ (b : Bytes) where
         unfolding after-main
         pool-wrong v q = q ∙ sym (ap imageAnswer image-after ∙ rw (checked-wrong (readPool (byteAt b) at (length b)) f v))
 
-        pub image-ends : {j next : ℕ} → s ≡ Good j next → next ≡ length b → Sound ≡ imageAnswer (readImage b)
+        pub image-ends : {j next : ℕ} → s ≡ Good j next → next ≡ length b → Sound j ≡ imageAnswer (readImage b)
         unfolding after-main
-        image-ends {next = next} v q = sym (ap imageAnswer image-after ∙ rw (checked-good (readPool (byteAt b) at (length b)) f v .1, eq-eqb next (length b) q))
+        image-ends {next = next} v q =
+            let g = checked-good (readPool (byteAt b) at (length b)) f v in
+            sym (ap imageAnswer image-after ∙ rw (g .1, eq-eqb next (length b) q) (ap Sound (g .2)))
 
         pub image-follows : {j next : ℕ} {x : ImageCheck} → s ≡ Good j next → (next ≡ length b → ⊥) → x ≡ refused next → x ≡ imageAnswer (readImage b)
         unfolding after-main

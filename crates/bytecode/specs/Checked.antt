@@ -70,12 +70,12 @@ module _ (byte : ℕ → ℕ) where
   abbrev pub mainCode : ℕ → Decoded Code
   mainCode n = then (readHead byte (mainHead byte) 0 n) (λ h in₀. readCode byte (h .len) in₀ (in₀ + h .len))
 
--- an image: number 17 where something is wrong
+-- an image: how many constants it has; number 17 where something is wrong
 abbrev pub refused : ℕ → ImageCheck
 refused p = Refused (refusal badImage p)
 
 abbrev pub imageAnswer : Decoded Image → ImageCheck
-imageAnswer (decoded m n) = Sound
+imageAnswer (decoded m n) = Sound (length (m .pool))
 imageAnswer (malformed p) = refused p
 
 -- a session: where the names that were read end, where the pool ends, and how many of each there are

@@ -1,5 +1,8 @@
 // Images and sessions on bytes: whether they are sound, and where a session's parts lie.
 use definition::Refusal;
+use definition::limit;
+use definition::number;
+use definition::tag;
 use field::length_at;
 use opcode::size_by;
 use opcode::table::WIDTHS;
@@ -28,9 +31,9 @@ pub enum Checked {
     Wrong(usize),
 }
 
-// What the check of an image answers.
+// What the check of an image answers: how many constants a sound one has, or its refusal.
 pub enum ImageCheck {
-    Sound,
+    Sound(usize),
     Refused(Refusal),
 }
 
@@ -86,13 +89,13 @@ fn check_code(bytes: &[u8], start: usize, end: usize) -> Checked
 fn constant_head(tag: u8, len: usize) -> bool
     ensures { λ r. ⌜ r ≡ isConstant (headOf tag len) ⌝ }
 {
-    if tag == 0x60 {
+    if tag == tag::INTEGER_CONST {
         return len == 8;
     }
-    if tag == 0x61 {
+    if tag == tag::STRING_CONST {
         return true;
     }
-    if tag != 0x62 {
+    if tag != tag::FUNCTION_CONST {
         return false;
     }
     3 <= len
@@ -109,7 +112,7 @@ fn check_constant(bytes: &[u8], at: usize, end: usize) -> Item
             if !constant_head(tag, len) {
                 return Item::Wrong(at);
             }
-            if tag != 0x62 {
+            if tag != tag::FUNCTION_CONST {
                 return Item::Next(at + 3 + len);
             }
             match check_code(bytes, at + 3 + 3, at + 3 + len) {
@@ -128,7 +131,7 @@ pub fn check_constants(bytes: &[u8], start: usize, end: usize) -> Checked
     let mut at = start;
     let mut count = 0;
     while at < end {
-        if count == 4096 {
+        if count == limit::CONSTANTS_LIMIT {
             return Checked::Wrong(at);
         }
         match check_constant(bytes, at, end) {
@@ -146,10 +149,10 @@ pub fn check_constants(bytes: &[u8], start: usize, end: usize) -> Checked
 fn pool_head(tag: u8, len: usize) -> bool
     ensures { λ r. ⌜ r ≡ isPool (headOf tag len) ⌝ }
 {
-    if tag != 0x51 {
+    if tag != tag::POOL {
         return false;
     }
-    len <= 28672
+    len <= limit::POOL_LIMIT
 }
 
 // Check the pool at `at`.
@@ -172,10 +175,10 @@ fn check_pool(bytes: &[u8], at: usize, end: usize) -> Checked
 fn main_head(tag: u8, len: usize) -> bool
     ensures { λ r. ⌜ r ≡ isMain (headOf tag len) ⌝ }
 {
-    if tag != 0x50 {
+    if tag != tag::MAIN {
         return false;
     }
-    len <= 32768
+    len <= limit::CODE_SIZE
 }
 
 // Check an image's main code.
@@ -198,12 +201,12 @@ fn bad_image(place: usize) -> ImageCheck
     ensures { λ r. ⌜ r ≡ refused place ⌝ }
 {
     ImageCheck::Refused(Refusal {
-        number: 17,
+        number: number::BAD_IMAGE,
         place: place,
     })
 }
 
-// Check an image: it is sound, or 17 at its first wrong field or instruction.
+// Check an image: it is sound, with so many constants, or 17 at its first wrong field or instruction.
 pub fn check_image(image: &[u8]) -> ImageCheck
     ensures { λ r. ⌜ r ≡ imageAnswer (readImage (now (image .entry))) ⌝ }
 {
@@ -211,11 +214,11 @@ pub fn check_image(image: &[u8]) -> ImageCheck
         Checked::Wrong(place) => bad_image(place),
         Checked::Good(_, at) => match check_pool(image, at, image.len()) {
             Checked::Wrong(place) => bad_image(place),
-            Checked::Good(_, next) => {
+            Checked::Good(constants, next) => {
                 if next != image.len() {
                     return bad_image(next);
                 }
-                ImageCheck::Sound
+                ImageCheck::Sound(constants)
             }
         },
     }
@@ -225,13 +228,13 @@ pub fn check_image(image: &[u8]) -> ImageCheck
 fn name_head(tag: u8, len: usize) -> bool
     ensures { λ r. ⌜ r ≡ isName (headOf tag len) ⌝ }
 {
-    if tag != 0x30 {
+    if tag != tag::NAME_BYTE {
         return false;
     }
     if len < 1 {
         return false;
     }
-    len <= 32
+    len <= limit::NAME_LIMIT
 }
 
 // Check the name at `at`.
@@ -258,7 +261,7 @@ fn check_name_fields(bytes: &[u8], start: usize, end: usize) -> Checked
     let mut at = start;
     let mut count = 0;
     while at < end {
-        if count == 1024 {
+        if count == limit::GLOBALS_LIMIT {
             return Checked::Wrong(at);
         }
         match check_name(bytes, at, end) {
@@ -279,7 +282,7 @@ fn check_names(session: &[u8]) -> Checked
     match head_at(session, 0, session.len()) {
         FieldHead::Cut => Checked::Wrong(0),
         FieldHead::Whole(tag, len) => {
-            if tag != 0x40 {
+            if tag != tag::NAMES {
                 return Checked::Wrong(0);
             }
             check_name_fields(session, 3, 3 + len)

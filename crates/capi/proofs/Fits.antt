@@ -2,9 +2,12 @@
 use Prim.Native.Nat.{ℕ, _+_, _*_, _≤_, _<_}
 use native.Mathlib.Omega.{arith}
 use mathlib.Core.Path.{_≡_, refl, sym, ap, subst}
+use mathlib.Core.List.{List}
+use lib.Dec.{T, ltb}
 use lib.ListN.{take}
 use Rattle.definition.specs.Basic.{Bytes}
 use Rattle.definition.specs.Limit.{sessionSize, imageLimit}
+use Rattle.definition.specs.Number.{callNumbers, makeNumbers, listNumbers}
 use Rattle.definition.specs.Bytecode.{Image}
 use Rattle.definition.specs.Decode.{Decoded, decoded, malformed, readImage}
 use Rattle.definition.specs.Call.{Lent, call, made}
@@ -13,6 +16,7 @@ use Rattle.definition.specs.Valid.{AreBytes}
 use Rattle.definition.specs.declared.Refusal.{Refusal}
 use Rattle.definition.specs.declared.Answer.{Answer}
 use Rattle.definition.specs.declared.Answer.the-variants.{Length, Refused}
+use Rattle.definition.proofs.Numbers.{each, below}
 use Rattle.definition.proofs.Places.{Within, made-within, call-within-limit}
 use Rattle.definition.proofs.ImagePlaces.{image-place}
 use Rattle.definition.proofs.ListingLength.{list-within}
@@ -42,15 +46,15 @@ pub packs-as : {a b : Answer} {r : ℕ} → a ≡ b → Packs a r → Packs b r
 packs-as {r = r} e h = subst (λ a. Packs a r) e h
 
 -- an answer within bounds that fit
-within-fits : {lengths numbers places : ℕ} {a : Answer} → lengths < halfBound → numbers < halfBound → places < halfBound → Within lengths numbers places a → Fits a
-within-fits l n p (Within.wrote h) = record { number = omega arith; value = omega arith }
-within-fits l n p (Within.refused b) = record { number = omega (arith, b .number); value = omega (arith, b .place) }
+within-fits : {lengths places : ℕ} {a : Answer} (numbers : List ℕ) → T (each (λ n. ltb n halfBound) numbers) → lengths < halfBound → places < halfBound → Within lengths numbers places a → Fits a
+within-fits numbers n l p (Within.wrote h) = record { number = omega arith; value = omega arith }
+within-fits numbers n l p (Within.refused {r = r} b) = record { number = below numbers halfBound n (r .number) (b .number); value = omega (arith, b .place) }
 
 pub made-fits : (s : Bytes) → Fits (made s .answer)
-made-fits s = within-fits (omega arith) (omega arith) (omega arith) (made-within s)
+made-fits s = within-fits makeNumbers tt (omega arith) (omega arith) (made-within s)
 
 pub call-fits : (tree : Bytes) (l : Lent) → AreBytes (take sessionSize (l .session)) → Fits (call tree l .answer)
-call-fits tree l a = within-fits (omega arith) (omega arith) (omega arith) (call-within-limit tree l a)
+call-fits tree l a = within-fits callNumbers tt (omega arith) (omega arith) (call-within-limit tree l a)
 
 pub image-fits : (b : Bytes) → Fits (checkAnswer (imageAnswer (readImage b)))
 image-fits b = go (readImage b) (image-place b)
@@ -60,4 +64,4 @@ image-fits b = go (readImage b) (image-place b)
     go (malformed p) h = record { number = omega arith; value = omega (arith, h p refl) }
 
 pub list-fits : (b : Bytes) → AreBytes b → (room : ℕ) → Fits (listAnswer (readImage b) room)
-list-fits b a room = within-fits (omega arith) (omega arith) (omega arith) (list-within b a room)
+list-fits b a room = within-fits listNumbers tt (omega arith) (omega arith) (list-within b a room)

@@ -43,7 +43,7 @@ pub record Packs (a : Answer) (r : ℕ) : Type 0 where
 
 -- the check of an image writes nothing: length 0, or its refusal
 abbrev pub checkAnswer : ImageCheck → Answer
-checkAnswer Sound = Length 0
+checkAnswer (Sound n) = Length 0
 checkAnswer (Bad r) = Refused r
 
 -- making a session: answer and buffer are the definition's

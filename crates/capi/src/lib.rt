@@ -48,7 +48,7 @@ fn check_answer(check: ImageCheck) -> Answer
     ensures { λ r. ⌜ r ≡ checkAnswer check ⌝ }
 {
     match check {
-        ImageCheck::Sound => Answer::Length(0),
+        ImageCheck::Sound(_) => Answer::Length(0),
         ImageCheck::Refused(r) => Answer::Refused(r),
     }
 }

@@ -1,6 +1,10 @@
 // Reads a tree from standard input, compiles it in a fresh session, and writes the image to standard output. A refusal is a sentence on
 // standard error, and standard output stays empty.
 use definition::Answer;
+use definition::limit::CODE_SIZE;
+use definition::limit::TABLE_SIZE;
+use definition::limit::TREE_LIMIT;
+use definition::number;
 use libc::STDERR_FILENO;
 use libc::STDIN_FILENO;
 use libc::STDOUT_FILENO;
@@ -8,15 +12,15 @@ use libc::STDOUT_FILENO;
 // Writes what a number of the walk stands for; whether it could.
 fn print_walk_word(number: usize) -> bool {
     match number {
-        5 => io::write_all(STDERR_FILENO, b"undefined name"),
-        6 => io::write_all(STDERR_FILENO, b"operator that is none here"),
-        7 => io::write_all(STDERR_FILENO, b"macro"),
-        8 => io::write_all(STDERR_FILENO, b"too many parameters or arguments"),
-        9 => io::write_all(STDERR_FILENO, b"too many locals"),
-        10 => io::write_all(STDERR_FILENO, b"too many captures"),
-        11 => io::write_all(STDERR_FILENO, b"too many globals"),
-        12 => io::write_all(STDERR_FILENO, b"pool full"),
-        13 => io::write_all(STDERR_FILENO, b"code full"),
+        number::UNDEFINED => io::write_all(STDERR_FILENO, b"undefined name"),
+        number::OPERATOR => io::write_all(STDERR_FILENO, b"operator that is none here"),
+        number::MACRO => io::write_all(STDERR_FILENO, b"macro"),
+        number::TOO_MANY => io::write_all(STDERR_FILENO, b"too many parameters or arguments"),
+        number::LOCALS => io::write_all(STDERR_FILENO, b"too many locals"),
+        number::CAPTURES => io::write_all(STDERR_FILENO, b"too many captures"),
+        number::GLOBALS => io::write_all(STDERR_FILENO, b"too many globals"),
+        number::POOL => io::write_all(STDERR_FILENO, b"pool full"),
+        number::CODE => io::write_all(STDERR_FILENO, b"code full"),
         _ => io::write_all(STDERR_FILENO, b"functions nested too deep"),
     }
 }
@@ -24,11 +28,11 @@ fn print_walk_word(number: usize) -> bool {
 // Writes what a number stands for; whether it could.
 fn print_word(number: usize) -> bool {
     match number {
-        1 => io::write_all(STDERR_FILENO, b"short buffer"),
-        2 => io::write_all(STDERR_FILENO, b"no session"),
-        3 => io::write_all(STDERR_FILENO, b"bad tree"),
-        4 => io::write_all(STDERR_FILENO, b"tree too deep"),
-        15 => io::write_all(STDERR_FILENO, b"output short"),
+        number::SHORT_BUFFER => io::write_all(STDERR_FILENO, b"short buffer"),
+        number::NO_SESSION => io::write_all(STDERR_FILENO, b"no session"),
+        number::BAD_TREE => io::write_all(STDERR_FILENO, b"bad tree"),
+        number::TOO_DEEP => io::write_all(STDERR_FILENO, b"tree too deep"),
+        number::OUTPUT_SHORT => io::write_all(STDERR_FILENO, b"output short"),
         _ => print_walk_word(number),
     }
 }
@@ -56,8 +60,8 @@ fn run(tree: &[u8]) {
     let mut session = io::large_buffer();
     compiler::make_session(&mut session);
     let mut output = io::large_buffer();
-    let mut code = [0u8; 32768];
-    let mut table = [0u32; 16384];
+    let mut code = [0u8; CODE_SIZE];
+    let mut table = [0u32; TABLE_SIZE];
     let answer = compiler::compile(&mut session, tree, &mut output, &mut code, &mut table);
     match answer {
         Answer::Length(n) => write_image(&output, n),
@@ -67,7 +71,7 @@ fn run(tree: &[u8]) {
 
 // A tree has at most 32,768 bytes: a longer one is refused as its first 32,769 are.
 fn main() {
-    let mut tree = [0u8; 32769];
+    let mut tree = [0u8; TREE_LIMIT + 1];
     let length = io::read_full(STDIN_FILENO, &mut tree);
     run(&tree[..length]);
 }

@@ -9,7 +9,7 @@ use lib.Seq.{drop-append-seam, drop-at}
 use Rattle.definition.specs.Basic.{Bytes}
 use Rattle.definition.specs.Limit.{sessionSize}
 use Rattle.definition.specs.Number
-use Rattle.definition.specs.Number.{refusal}
+use Rattle.definition.specs.Number.{refusal, translateNumbers, lentNumbers}
 use Rattle.definition.specs.Bytecode.{Image, imageBytes}
 use Rattle.definition.specs.Session.{Session, sessionBytes}
 use Rattle.definition.specs.Decode.{Decoded, decoded, malformed, readSession}
@@ -20,6 +20,7 @@ use Rattle.definition.specs.declared.Refusal.{Refusal}
 use Rattle.definition.specs.declared.Answer.{Answer}
 use Rattle.definition.specs.declared.Answer.the-variants.{Refused}
 use Rattle.definition.specs.Valid.{AreBytes}
+use Rattle.definition.proofs.Numbers.{among}
 use Rattle.definition.proofs.Sessions.{write-session, session-length}
 use Rattle.definition.proofs.Steps.{CallNumber, translate-valid, compile-valid, compile-fits}
 use Rattle.definition.proofs.Series.{condition-3}
@@ -71,7 +72,7 @@ ends : (l : Lent) (o : Outcome) → ((m : Image) → o ≡ Outcome.accepted m �
     → (z : Session) → length (sessionBytes z) ≡ sessionSize → Ended l (answered l z o .answer) (answered l z o .lent)
 ends l (Outcome.accepted m) f k z s =
     Ended.answered (f m refl) (drop-append-seam (imageBytes m) _) (drop-at (sessionBytes z) _ sessionSize s ∙ ap (λ n. drop n (l .session)) s) (record { code = refl; table = refl })
-ends l (Outcome.refused r) f k z s = let c = k r refl in Ended.refused {r = r} (omega (arith, c .low)) (c .high) refl refl (record { code = refl; table = refl })
+ends l (Outcome.refused r) f k z s = Ended.refused {r = r} (among translateNumbers lentNumbers tt (r .number) (k r refl)) refl refl (record { code = refl; table = refl })
 
 -- Every call on bytes: an answer, or a numbered refusal with its place that leaves session and output as they were
 pub compile-condition-1 : (tree : Bytes) (l : Lent) (r : Answer) (l′ : Lent) → AreBytes (take sessionSize (l .session)) → Compiles tree l r l′ → Ended l r l′
@@ -83,7 +84,7 @@ compile-condition-1 tree l r l′ a p = subst₂ (Ended l) (sym (p .answer)) (sy
         let t = translate-valid (length (l .output)) z v tree in
         let c = compile-valid z v (request l tree) in
         ends l (compile z (request l tree) .outcome) (compile-fits z (request l tree)) (λ q h. t .number q (sym (ap (λ (x : Step). x .outcome) (compile-is tree l big z)) ∙ h)) (compile z (request l tree) .session) (session-length _ (c .session))
-    within (malformed n) e big = Ended.refused {r = refusal Number.noSession 0} (omega arith) (omega arith) refl refl (record { code = refl; table = refl })
+    within (malformed n) e big = Ended.refused {r = refusal Number.noSession 0} tt refl refl (record { code = refl; table = refl })
 
     go : (b : Bool) → enough (request l tree) ≡ b → Ended l (call tree l .answer) (call tree l .lent)
     go true e = subst (λ (x : Called). Ended l (x .answer) (x .lent)) (sym (call-enough tree l e)) (within (readSession (take sessionSize (l .session))) refl e)

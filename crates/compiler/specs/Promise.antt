@@ -1,5 +1,6 @@
 -- What the public functions promise, and what the three conditions say of any call and of any series of calls.
 use Prim.Native.Nat.{ℕ, _≤_}
+use lib.Dec.{T}
 use mathlib.Core.Logic.{_↔_}
 use mathlib.Core.Path.{_≡_}
 use mathlib.Core.List.{List, [], _∷_}
@@ -7,6 +8,7 @@ use lib.ListN.{length, drop}
 use Rattle.definition.specs.Basic.{Bytes}
 use Rattle.definition.specs.Limit.{sessionSize, codeSize, tableSize}
 use Rattle.definition.specs.Number
+use Rattle.definition.specs.Number.{isOneOf, lentNumbers}
 use Rattle.definition.specs.Bytecode.{Image, imageBytes}
 use Rattle.definition.specs.Session.{Session, sessionBytes}
 use Rattle.definition.specs.Compile.{Outcome, compile}
@@ -35,7 +37,7 @@ pub record Cleared (l l′ : Lent) : Type 0 where
 -- Condition 1 about a call: an answer, or a numbered refusal with its place that leaves session and output as they were
 pub data Ended (l : Lent) : Answer → Lent → Type 0 where
   answered : {n : ℕ} {l′ : Lent} → n ≤ length (l .output) → drop n (l′ .output) ≡ drop n (l .output) → drop sessionSize (l′ .session) ≡ drop sessionSize (l .session) → Cleared l l′ → Ended l (Length n) l′
-  refused : {r : Refusal} {l′ : Lent} → Number.noSession ≤ r .number → r .number ≤ Number.outputShort → l′ .session ≡ l .session → l′ .output ≡ l .output → Cleared l l′ → Ended l (Refused r) l′
+  refused : {r : Refusal} {l′ : Lent} → T (isOneOf lentNumbers (r .number)) → l′ .session ≡ l .session → l′ .output ≡ l .output → Cleared l l′ → Ended l (Refused r) l′
   short : {r : Refusal} {l′ : Lent} → r .number ≡ Number.shortBuffer → r .place ≡ 0 → l′ ≡ l → Ended l (Refused r) l′
 
 -- a series of compile calls that ran: each on the session that the last one left

@@ -6,7 +6,10 @@ use bytecode::Layout;
 use bytecode::read_layout;
 use definition::Answer;
 use definition::Refusal;
-use scope::CODE_SIZE;
+use definition::limit::CODE_SIZE;
+use definition::limit::SESSION_SIZE;
+use definition::limit::TABLE_SIZE;
+use definition::number;
 use translate::translate;
 use tree::Checked;
 ghost use mathlib.Core.Path.{_≡_};
@@ -19,18 +22,6 @@ ghost use Rattle.definition.specs.Call.{cleared};
 ghost use Rattle.compiler.specs.Result.{result, wholeOf};
 ghost use Rattle.compiler.specs.Promise.{Compiles, Makes};
 ghost use Rattle.compiler.specs.Stage.{lentOf, Long, Lengths};
-
-// The bytes of a session.
-const SESSION_SIZE: usize = 65536;
-
-// The numbers of the table area.
-const TABLE_SIZE: usize = 16384;
-
-// Number 1: a work area or the session is below its size.
-const SHORT_BUFFER: usize = 1;
-
-// Number 2: the session's layout is broken.
-const NO_SESSION: usize = 2;
 
 // Makes a fresh session.
 pub fn make_session(session: &mut [u8]) -> Answer
@@ -81,7 +72,7 @@ fn compile_in(
 {
     match read_layout(session) {
         Layout::Broken => Answer::Refused(Refusal {
-            number: NO_SESSION,
+            number: number::NO_SESSION,
             place: 0,
         }),
         Layout::Sound(layout) => match tree::check(tree) {
@@ -128,7 +119,7 @@ pub fn compile(
         return compile_lent(session, tree, output, code, table);
     }
     Answer::Refused(Refusal {
-        number: SHORT_BUFFER,
+        number: number::SHORT_BUFFER,
         place: 0,
     })
 }

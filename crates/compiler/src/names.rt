@@ -1,9 +1,11 @@
 // Appending the names that a tree defined to those of the session.
+use definition::tag;
 use field::content_at;
 use field::length_at;
 use session::write;
 use symbol_table::count_globals;
 use symbol_table::global_name;
+use symbol_table::layout::IN_TREE;
 ghost use mathlib.Core.Path.{_≡_};
 ghost use Prim.Native.Nat.{_+_, _≤_};
 ghost use lib.ListN.{length, getD, take, drop};
@@ -11,12 +13,6 @@ ghost use lib.Seq.{sets};
 ghost use Rattle.definition.specs.Session.{nameBytes};
 ghost use Rattle.symbol_table.specs.Layout.{globalName};
 ghost use Rattle.compiler.specs.Names.{Appends, HasName, laterFields, LaterNames};
-
-// The tag of a name.
-const TAG_NAME: u8 = 0x30;
-
-// The table area has a name of the tree as this much more than its offset.
-const IN_TREE: usize = 65536;
 
 // Stores bytes of the session once more, behind them.
 fn repeat(session: &mut [u8], from: usize, to: usize, n: usize)
@@ -38,12 +34,12 @@ fn append_name(session: &mut [u8], tree: &[u8], v: u32, at: usize) -> usize
     let place = v as usize;
     if place < IN_TREE {
         let n = length_at(session, place);
-        write::put_head(session, at, TAG_NAME, n);
+        write::put_head(session, at, tag::NAME_BYTE, n);
         repeat(session, place + 3, at + 3, n);
         return at + (3 + n);
     }
     let name = content_at(tree, place - IN_TREE);
-    write::put_field(session, at, TAG_NAME, name);
+    write::put_field(session, at, tag::NAME_BYTE, name);
     at + (3 + name.len())
 }
 

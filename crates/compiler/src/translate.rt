@@ -3,6 +3,7 @@ use super::names::append_names;
 use bytecode::SessionLayout;
 use definition::Answer;
 use definition::Refusal;
+use definition::number;
 use scope::Chunk;
 use scope::State;
 use scope::Walked;
@@ -16,9 +17,6 @@ ghost use lib.ListN.{length};
 ghost use Rattle.compiler.specs.Result.{result};
 ghost use Rattle.compiler.specs.Stage.{Checked};
 ghost use Rattle.compiler.specs.Translated.{Small, startState, imageLength, Translated, finalResult, WalkEnded};
-
-// Number 15: the image is longer than the output.
-const OUTPUT_SHORT: usize = 15;
 
 // The state as the walk starts: an empty chunk.
 fn start_state(layout: SessionLayout) -> State
@@ -86,7 +84,7 @@ fn finish(
     if output.len() < total {
         restore(session, layout.pool_end, end);
         return Answer::Refused(Refusal {
-            number: OUTPUT_SHORT,
+            number: number::OUTPUT_SHORT,
             place: 0,
         });
     }

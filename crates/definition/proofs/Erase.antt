@@ -168,9 +168,9 @@ tails {s} {t} r = withoutLast-erase (s .code) ∙ (λ k. withoutLast (r .erased 
 last-is : {s t : State} → Alike erase s t → (o : ℕ) → eqb 7 o ≡ eqb 6 o → lastIs o (s .code) ≡ lastIs o (t .code)
 last-is r o h = seen (lastIs o) (lastIs-erase o h) (codes r)
 
-dropped-alike : {s t : State} → Alike erase s t → Alike erase (dropped s) (dropped t)
+dropped-alike : {s t : State} → Alike erase s t → (p : ℕ) → Same (dropped p s) (dropped p t)
 unfolding dropped
-dropped-alike r = picked (Alike erase) (last-is r 2 refl) (record { erased = λ k. withCode (tails r k) (r .erased k) }) r
+dropped-alike r p = picked Same (last-is r 2 refl) (Both.on tt (record { erased = λ k. withCode (tails r k) (r .erased k) })) (Both.on tt r)
 
 enter-alike : {s t : State} → Alike erase s t → (p : ℕ) (x : Bytes) (xs : List Bytes)
     → Both (Alike erase) (λ (_ : Unit {0}) s t. (length xs ≤ argumentsLimit) × Alike erase s t) (enter p x xs s) (enter p x xs t)
@@ -231,7 +231,7 @@ alike =
       jump = λ r p b. jump-alike r p (pick b opJumpNotTruthy opJump);
       patch = λ j r. patch-alike r j;
       patch-under = λ j _ r. patch-alike r j;
-      dropPop = λ r p. Both.on tt (dropped-alike r);
+      dropPop = dropped-alike;
       enter = λ r p x xs _ _. enter-alike r p x xs;
       leave = λ r r′ p k _. leave-alike r r′ p k;
     }

@@ -14,7 +14,7 @@ use Rattle.definition.specs.Opcode.{Instr, instr, plain, size, opConstan
 use Rattle.definition.specs.Bytecode.{Code, Const, sizeOf, poolSize}
 use Rattle.definition.specs.Walk.{Res, Machine, walkStmts}
 use Rattle.definition.specs.SymbolTable.{Table, Symbol, Resolved, Defined, builtins, resolve, place, loadOf}
-use Rattle.definition.specs.Compiler.{State, machine, withCode, literal, emitBeside, addConstant, lastIs, withoutLast, changeOperand, load, loaded, define, placed, unpatched, jump, patch, dropped, enter, returned, loads, closeOver, leave}
+use Rattle.definition.specs.Compiler.{State, machine, literal, emitBeside, addConstant, lastIs, withoutLast, changeOperand, load, loaded, define, placed, unpatched, jump, patch, dropped, enter, returned, loads, closeOver, leave}
 use Rattle.definition.specs.Valid.{ValidInstr}
 use Rattle.definition.proofs.WellFormed.{WfStmts}
 use Rattle.definition.proofs.Symbols.{DefinedValid, place-valid}
@@ -179,13 +179,9 @@ landed j w {s} {t} e h r =
     go true h = refl
     go false h = absurd h
 
-without : (w : List ℕ) {s t : State} → Twice w s t → Twice w (dropped s) (dropped t)
+without : (s : State) (p : ℕ) → Grows (s .code) (dropped p s)
 unfolding dropped
-without w {s} {t} r = record { same = ap dropped (r .same); holds = go (lastIs opPop (s .code)) refl }
-  where
-    go : (b : Bool) → lastIs opPop (s .code) ≡ b → Pending w (pick b (withCode (withoutLast (s .code)) s) s)
-    go true e = pending w s _ (less (s .code) e) (r .holds)
-    go false e = r .holds
+without s p = ends-pick (lastIs opPop (s .code)) (λ e. Ends.on tt (less (s .code) e)) (λ _. Ends.on tt (same (s .code)))
 
 appended : (s : State) (d p : ℕ) (i : Instr) → Ends (λ (_ : Unit {0}) s₁. s₁ .code ≡ i ∷ s .code) (emitBeside d p i s)
 unfolding emitBeside
@@ -237,7 +233,7 @@ jumps =
       jump = λ {w} {s} r p b. kept {v = λ j. j ∷ w} (jump p (pick b opJumpNotTruthy opJump)) (r .same) (jump-pending w s (r .holds) p b);
       patch = λ {w} j r. landed j w (r .same) (r .holds .0) (r .holds .1);
       patch-under = λ {w} j k r. landed j (k ∷ w) (r .same) (r .holds .1 .0) (r .holds .0, r .holds .1 .1);
-      dropPop = λ {w} r p. Both.on tt (without w r);
+      dropPop = λ {w} {s} r p. grown (dropped p) r (without s p);
       enter = λ {w} {s} r p x xs _ _. both-map (from-equal (enter p x xs) (r .same) (enter-few s p x xs)) (λ _ _ _ q. (q .1, record { same = q .0; holds = tt }));
       leave = λ {w} {s} {s′} r r′ p n _. kept {P = Pending} {v = λ _. w} (λ (q : State × State). leave p n (q .0) (q .1)) (λ i. (r .same i, r′ .same i)) (ends-map (leave-grows s s′ p n) (λ _ s₁ k. pending w s s₁ k (r .holds)));
     }

@@ -1,4 +1,5 @@
 pub mod Basic
+pub mod Numbers
 pub mod WellFormed
 pub mod Blank
 pub mod Follows

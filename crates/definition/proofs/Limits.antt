@@ -14,7 +14,7 @@ use Rattle.definition.specs.Opcode.{Instr, instr, plain, size, width, op
 use Rattle.definition.specs.Bytecode.{Code, Const, sizeOf, poolSize}
 use Rattle.definition.specs.Walk.{Res, walkStmts}
 use Rattle.definition.specs.SymbolTable.{Table, Symbol, Resolved, Defined, builtins, resolve, place, loadOf}
-use Rattle.definition.specs.Compiler.{State, machine, withCode, literal, booleanOf, emitBeside, addConstant, lastIs, withoutLast, changeOperand, load, loaded, define, placed, unpatched, jump, patch, dropped, enter, returned, loads, closeOver, leave}
+use Rattle.definition.specs.Compiler.{State, machine, literal, booleanOf, emitBeside, addConstant, lastIs, withoutLast, changeOperand, load, loaded, define, placed, unpatched, jump, patch, dropped, enter, returned, loads, closeOver, leave}
 use Rattle.definition.specs.Compile.{sessionOf}
 use Rattle.definition.specs.Valid.{All, IsName, ValidInstr, ValidConst, ValidPool, ValidSession, operandBound, capturesBound}
 use Rattle.definition.proofs.WellFormed.{WfStmts}
@@ -118,13 +118,11 @@ all-without : {c : Code} → All ValidInstr c → All ValidInstr (withoutLast c)
 all-without All.none = All.none
 all-without (All.more v vs) = vs
 
-dropped-keeps : {s : State} → ValidState s → ValidState (dropped s)
+dropped-keeps : {s : State} → ValidState s → (p : ℕ) → Kept (dropped p s)
 unfolding dropped
-dropped-keeps {s} h = go (lastIs opPop (s .code))
-  where
-    go : (b : Bool) → ValidState (pick b (withCode (withoutLast (s .code)) s) s)
-    go true = record { size = omega (arith, shorter (s .code)); code = all-without (h .code); tables = h .tables; session = h .session }
-    go false = h
+dropped-keeps {s} h p =
+    ends-pick (lastIs opPop (s .code)) (λ _. Ends.on tt (record { size = omega (arith, shorter (s .code)); code = all-without (h .code); tables = h .tables; session = h .session }))
+    (λ _. Ends.on tt h)
 
 enter-keeps : {s : State} → ValidState s → (p : ℕ) (x : Bytes) (xs : List Bytes) → Ends (λ (_ : Unit {0}) s. (length xs ≤ argumentsLimit) × ValidState s) (enter p x xs s)
 unfolding enter
@@ -179,7 +177,7 @@ limits =
       jump = λ r p b. kept (jump p (pick b opJumpNotTruthy opJump)) (r .same) (jump-keeps (r .holds) p b);
       patch = λ j r. record { same = ap (strict .patch j) (r .same); holds = patch-keeps (r .holds) j };
       patch-under = λ j _ r. record { same = ap (strict .patch j) (r .same); holds = patch-keeps (r .holds) j };
-      dropPop = λ r p. Both.on tt (record { same = ap dropped (r .same); holds = dropped-keeps (r .holds) });
+      dropPop = λ r p. kept (dropped p) (r .same) (dropped-keeps (r .holds) p);
       enter = λ r p x xs _ _. both-map (from-equal (enter p x xs) (r .same) (enter-keeps (r .holds) p x xs)) (λ _ _ _ q. (q .1 .0, record { same = q .0; holds = q .1 .1 }));
       leave = λ r r′ p n l. kept (λ (q : State × State). leave p n (q .0) (q .1)) (λ i. (r .same i, r′ .same i)) (leave-keeps (r .holds) (r′ .holds) p n l);
     }

@@ -10,7 +10,7 @@ use lib.Dec.{T, leb, ltb, leb→le}
 use Rattle.definition.specs.Basic.{Bytes, byteAt, pick, both}
 use Rattle.definition.specs.Limit.{codeSize, poolLimit, imageLimit}
 use Rattle.definition.specs.Number
-use Rattle.definition.specs.Number.{refusal}
+use Rattle.definition.specs.Number.{refusal, listNumbers}
 use Rattle.definition.specs.Opcode.{Instr, width}
 use Rattle.definition.specs.Bytecode.{Code, sizeOf, Const, content, poolSize, Image}
 use Rattle.definition.specs.Text.{ascii, digit, digits, decimal, number, signed, hex}
@@ -108,10 +108,10 @@ listing-length m v =
     (omega (arith, decimal-length 20 (sizeOf (m .code)), decimal-length 20 (length (m .pool)), code-listing (m .code), constants-length (m .pool), v .size, v .pool .size))
 
 -- listing an image: that length; or 15; or 17 at a place within the longest image
-pub list-within : (b : Bytes) → AreBytes b → (room : ℕ) → Within listingBound Number.badImage imageLimit (listAnswer (readImage b) room)
+pub list-within : (b : Bytes) → AreBytes b → (room : ℕ) → Within listingBound listNumbers imageLimit (listAnswer (readImage b) room)
 list-within b a room = go (readImage b) refl
   where
-    go : (d : Decoded Image) → readImage b ≡ d → Within listingBound Number.badImage imageLimit (listAnswer d room)
+    go : (d : Decoded Image) → readImage b ≡ d → Within listingBound listNumbers imageLimit (listAnswer d room)
     go (decoded m n) e =
-        chosen (Within listingBound Number.badImage imageLimit) (leb (length (listing m)) room) (λ _. Within.wrote (listing-length m (write-image b a e .sound))) (λ _. nowhere (omega arith))
-    go (malformed p) e = Within.refused {r = refusal Number.badImage p} (record { number = omega arith; place = image-place b p e })
+        chosen (Within listingBound listNumbers imageLimit) (leb (length (listing m)) room) (λ _. Within.wrote (listing-length m (write-image b a e .sound))) (λ _. nowhere tt)
+    go (malformed p) e = Within.refused {r = refusal Number.badImage p} (record { number = tt; place = image-place b p e })

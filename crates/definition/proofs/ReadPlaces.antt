@@ -5,12 +5,12 @@ use mathlib.Core.Bool.{true}
 use mathlib.Core.List.{[], _∷_}
 use mathlib.Core.Path.{_≡_}
 use lib.ListN.{length}
-use lib.Dec.{leb, eqb}
+use lib.Dec.{T, leb, eqb}
 use borrow.Author.Tests.{eqb-true, leb-true}
 use Rattle.definition.specs.Basic.{Bytes, byteAt, both}
 use Rattle.definition.specs.Limit.{treeLimit}
 use Rattle.definition.specs.Number
-use Rattle.definition.specs.Number.{refusal}
+use Rattle.definition.specs.Number.{refusal, isOneOf, treeNumbers}
 use Rattle.definition.specs.Tag.{tagIdentifier, tagMacro, tagBoolean, tagParams, tagOperator, tagBlock, tagProgram}
 use Rattle.definition.specs.Syntax.{Stmt, Stmts, Else, Expr, Exprs}
 use Rattle.definition.specs.Field.{Head, tagged, nameHead}
@@ -173,13 +173,13 @@ finds-program byte n bound l =
 -- what reading comes to
 pub data PlacedParsed (bound : ℕ) : Parsed Stmts → Type 0 where
   parsed : {b : Stmts} {n : ℕ} → PlacedStmts bound b → PlacedParsed bound (Parsed.parsed b n)
-  refused : (number place : ℕ) → number ≤ Number.tooDeep → place ≤ bound → PlacedParsed bound (Parsed.refused (refusal number place))
+  refused : (number place : ℕ) → T (isOneOf treeNumbers number) → place ≤ bound → PlacedParsed bound (Parsed.refused (refusal number place))
 
 judged-placed : {bound end : ℕ} {x : Read Stmts} → Finds bound (Before (PlacedStmts bound) end) x → PlacedParsed bound (judged x)
 judged-placed (Finds.right p Deep.nowhere) = PlacedParsed.parsed (p .placed)
-judged-placed (Finds.right p (Deep.somewhere {p = q} k)) = PlacedParsed.refused Number.tooDeep q (omega arith) k
-judged-placed (Finds.wrong q p Deep.nowhere) = PlacedParsed.refused Number.badTree q (omega arith) p
-judged-placed (Finds.wrong _ p (Deep.somewhere {p = q} k)) = PlacedParsed.refused Number.tooDeep q (omega arith) k
+judged-placed (Finds.right p (Deep.somewhere {p = q} k)) = PlacedParsed.refused Number.tooDeep q tt k
+judged-placed (Finds.wrong q p Deep.nowhere) = PlacedParsed.refused Number.badTree q tt p
+judged-placed (Finds.wrong _ p (Deep.somewhere {p = q} k)) = PlacedParsed.refused Number.tooDeep q tt k
 
 -- a tree's places and those that reading refuses: within any bound that its length is within where it is not too long
 pub read-places : (tree : Bytes) (bound : ℕ) → (length tree ≤ treeLimit → length tree ≤ bound) → PlacedParsed bound (readTree tree)

@@ -7,11 +7,11 @@ use mathlib.Core.Logic.{_↔_}
 use mathlib.Core.Option.{none, some}
 use mathlib.Core.Path.{_≡_, refl, sym, ap, subst, _∙_}
 use lib.ListN.{length}
-use lib.Dec.{leb, T, leb→le}
+use lib.Dec.{leb, T}
 use borrow.Author.Tests.{leb-true}
-use Rattle.definition.specs.Basic.{Bytes, byteAt, pick, both}
+use Rattle.definition.specs.Basic.{Bytes, byteAt, pick}
 use Rattle.definition.specs.Number
-use Rattle.definition.specs.Number.{refusal}
+use Rattle.definition.specs.Number.{refusal, isOneOf, treeNumbers, walkNumbers, translateNumbers}
 use Rattle.definition.specs.Syntax.{Stmts}
 use Rattle.definition.specs.Bytecode.{Image, imageBytes}
 use Rattle.definition.specs.Walk.{Res, walkStmts}
@@ -23,6 +23,7 @@ use Rattle.definition.specs.Compile.{Outcome, Step, Request, imageOf, se
 use Rattle.definition.specs.Valid.{All, ValidImage, ValidPool, ValidSession}
 use Rattle.definition.specs.declared.Refusal.{Refusal}
 use Rattle.definition.proofs.Basic.{picked, chosen}
+use Rattle.definition.proofs.Numbers.{among}
 use Rattle.definition.proofs.WellFormed.{WfStmts}
 use Rattle.definition.proofs.Blank.{blank, mapStmts}
 use Rattle.definition.proofs.ReadShape.{mapParsed, read-shape}
@@ -34,7 +35,7 @@ use Rattle.definition.proofs.Agreement.{eraseImage, eraseSession, image
 
 -- a refusal of reading is number 3 or 4
 abbrev treeNumber : ℕ → Bool
-treeNumber n = both (leb Number.badTree n) (leb n Number.tooDeep)
+treeNumber n = isOneOf treeNumbers n
 
 abbrev TreeNumber : {A : Type 0} → Parsed A → Type 0
 TreeNumber (Parsed.parsed a n) = Unit {0}
@@ -70,9 +71,8 @@ pub start-valid : (z : Session) → ValidSession z → ValidState (start z)
 start-valid z v = record { size = omega arith; code = All.none; tables = All.none; session = v }
 
 -- the numbers of a call past number 2
-pub record CallNumber (n : ℕ) : Type 0 where
-  pub low : Number.badTree ≤ n
-  pub high : n ≤ Number.outputShort
+abbrev pub CallNumber : ℕ → Type 0
+CallNumber n = T (isOneOf translateNumbers n)
 
 -- and of any call in a session
 pub data CompileNumber (n : ℕ) : Type 0 where
@@ -81,7 +81,7 @@ pub data CompileNumber (n : ℕ) : Type 0 where
 
 pub not-two : {n : ℕ} → CompileNumber n → n ≡ Number.noSession → ⊥
 not-two (CompileNumber.short e) h = omega arith
-not-two (CompileNumber.other c) h = omega (arith, c .low)
+not-two (CompileNumber.other c) h = absurd (subst CallNumber h c)
 
 -- a step from a session: a valid session and image, or the session as it was and a numbered refusal
 pub record ValidStep (N : ℕ → Type 0) (z : Session) (x : Step) : Type 0 where
@@ -119,24 +119,15 @@ valid-pick : {N : ℕ → Type 0} {z : Session} {x y : Step} (b : Bool) → Vali
 valid-pick true h k = h
 valid-pick false h k = k
 
--- a number between two that are tested
-between : (least n most : ℕ) → Number.badTree ≤ least → most ≤ Number.outputShort → T (both (leb least n) (leb n most)) → CallNumber n
-between least n most l m t = go (leb least n) (λ k. leb→le least n k) (leb n most) (λ k. leb→le n most k) t
-  where
-    go : (a : Bool) → (T a → least ≤ n) → (b : Bool) → (T b → n ≤ most) → T (both a b) → CallNumber n
-    go true h true k t = let x = h tt in let y = k tt in record { low = omega arith; high = omega arith }
-    go true h false k t = absurd t
-    go false h b k t = absurd t
-
 finish-valid : (n : ℕ) (z : Session) → ValidSession z → {x : Res State (Unit {0})} → Ends (λ (_ : Unit {0}). ValidState) x → ValidStep CallNumber z (finish n z x)
-finish-valid n z v (Ends.on a {s} h) = valid-pick (leb (length (imageBytes (imageOf s))) n) (accepted-valid z s h) (turnedDown-valid z v (refusal Number.outputShort 0) (record { low = omega arith; high = omega arith }))
-finish-valid n z v (Ends.stop r s w) = turnedDown-valid z v r (between Number.undefined (r .number) Number.nesting (omega arith) (omega arith) w)
+finish-valid n z v (Ends.on a {s} h) = valid-pick (leb (length (imageBytes (imageOf s))) n) (accepted-valid z s h) (turnedDown-valid z v (refusal Number.outputShort 0) tt)
+finish-valid n z v (Ends.stop r s w) = turnedDown-valid z v r (among walkNumbers translateNumbers tt (r .number) w)
 
 -- past numbers 1 and 2
 pub translate-valid : (n : ℕ) (z : Session) → ValidSession z → (tree : Bytes) → ValidStep CallNumber z (translate n z (readTree tree))
 translate-valid n z v tree =
     by-reading (λ _ x. ValidStep CallNumber z x) (λ p. translate n z p) (λ b _ w. finish-valid n z v (walk-limits b w (start-valid z v)))
-    (λ r t. turnedDown-valid z v r (between Number.badTree (r .number) Number.tooDeep (omega arith) (omega arith) t)) tree
+    (λ r t. turnedDown-valid z v r (among treeNumbers translateNumbers tt (r .number) t)) tree
 
 -- with another account of the numbers
 renumbered : {N M : ℕ → Type 0} {z : Session} {x : Step} → ((n : ℕ) → N n → M n) → ValidStep N z x → ValidStep M z x

@@ -5,30 +5,29 @@ use mathlib.Core.Bool.{Bool, true, false}
 use mathlib.Core.List.{List, [], _∷_}
 use mathlib.Core.Option.{Option, none, some}
 use lib.ListN.{length, getD}
-use lib.Dec.{leb, ltb, eqb}
+use lib.Dec.{T, leb, ltb, eqb}
 use Rattle.definition.specs.Basic.{Bytes, pick}
 use Rattle.definition.specs.Limit.{codeSize, constantsLimit, poolLimit, nestingLimit, argumentsLimit, globalsLimit, localsLimit}
-use Rattle.definition.specs.Number
-use Rattle.definition.specs.Number.{refusal}
+use Rattle.definition.specs.Number.{refusal, isOneOf, walkNumbers}
 use Rattle.definition.specs.Syntax.{Stmt, Stmts, Else, Expr, Exprs, count}
 use Rattle.definition.specs.Opcode.{Instr, instr, plain, size, opConstant, opPop, opReturnValue, opReturn}
 use Rattle.definition.specs.Bytecode.{Const, sizeOf, poolSize}
 use Rattle.definition.specs.Walk.{Res, bind, Machine, operate, prefixes, infixes, lessThan, walkStmt, walkStmts, walkElse, walkExpr, walkExprs}
 use Rattle.definition.specs.SymbolTable.{Table, Symbol, Resolved, builtins, resolve, place}
-use Rattle.definition.specs.Compiler.{State, machine, literal, booleanOf, emitBeside, addConstant, lastIs, load, loaded, define, placed, jump, enter, returned, loads, closeOver, leave}
+use Rattle.definition.specs.Compiler.{State, machine, literal, booleanOf, emitBeside, addConstant, lastIs, load, loaded, define, placed, dropped, jump, enter, returned, loads, closeOver, leave}
 use Rattle.definition.specs.declared.Refusal.{Refusal}
 use Rattle.definition.proofs.Basic.{chosen}
 use Rattle.definition.proofs.Placed.{PlacedStmt, PlacedStmts, PlacedElse, PlacedExpr, PlacedExprs}
 
--- a refusal's number and place are within bounds
-pub record Bounded (numbers places : ℕ) (r : Refusal) : Type 0 where
-  pub number : r .number ≤ numbers
+-- a refusal's number is in a list, and its place within a bound
+pub record Bounded (numbers : List ℕ) (places : ℕ) (r : Refusal) : Type 0 where
+  pub number : T (isOneOf numbers (r .number))
   pub place : r .place ≤ places
 
 -- a step that goes on; or that is refused, by a number of the walk, at a place within a bound
 pub data Refuses {S A : Type 0} (bound : ℕ) : Res S A → Type 0 where
   on : {a : A} {s : S} → Refuses bound (Res.on a s)
-  stop : {r : Refusal} {s : S} → Bounded Number.nesting bound r → Refuses bound (Res.stop r s)
+  stop : {r : Refusal} {s : S} → Bounded walkNumbers bound r → Refuses bound (Res.stop r s)
 
 module _ {S A : Type 0} {bound : ℕ} where
   refuses-bind : {B : Type 0} {x : Res S A} {k : A → S → Res S B} → Refuses bound x → ((a : A) (s : S) → Refuses bound (k a s)) → Refuses bound (bind x k)
@@ -40,7 +39,7 @@ module _ {S A : Type 0} {bound : ℕ} where
   refuses-pick false h k = k
 
   -- a refusal at a place
-  refuses-at : {n p : ℕ} {s : S} → n ≤ Number.nesting → p ≤ bound → Refuses {A = A} bound (Res.stop (refusal n p) s)
+  refuses-at : {n p : ℕ} {s : S} → T (isOneOf walkNumbers n) → p ≤ bound → Refuses {A = A} bound (Res.stop (refusal n p) s)
   refuses-at h k = Refuses.stop (record { number = h; place = k })
 
 -- a machine whose steps are refused at the places that they are given
@@ -58,7 +57,7 @@ pub record Local {S : Type 0} (bound : ℕ) (m : Machine S) : Type 0 where
 
 module _ {S : Type 0} {bound : ℕ} {m : Machine S} (l : Local bound m) where
   refuses-operate : {p : ℕ} → p ≤ bound → (o : Option ℕ) (s : S) → Refuses bound (operate m p o s)
-  refuses-operate h none s = refuses-at (omega arith) h
+  refuses-operate h none s = refuses-at tt h
   refuses-operate h (some o) s = l .emit h (plain o) s
 
   mutual
@@ -96,14 +95,14 @@ module _ {S : Type 0} {bound : ℕ} {m : Machine S} (l : Local bound m) where
         refuses-bind (l .enter (h .0) n ps s) (λ _ s₁. refuses-bind (refuses-stmts b (h .1) s₁) (λ _ s₂. l .leave (h .0) (length ps) s s₂))
     refuses-expr (Expr.call p f es) h s =
         refuses-bind (refuses-expr f (h .1) s) (λ _ s₁.
-        refuses-pick (ltb argumentsLimit (count es)) (refuses-at (omega arith) (h .0)) (refuses-bind (refuses-exprs es (h .2) s₁) (λ _ s₂. l .emit (h .0) _ s₂)))
+        refuses-pick (ltb argumentsLimit (count es)) (refuses-at tt (h .0)) (refuses-bind (refuses-exprs es (h .2) s₁) (λ _ s₂. l .emit (h .0) _ s₂)))
     refuses-expr (Expr.integer p b) h s = l .integer h b s
     refuses-expr (Expr.boolean p b) h s = l .boolean h b s
     refuses-expr (Expr.string p b) h s = l .string h b s
     refuses-expr (Expr.array p es) h s = refuses-bind (refuses-exprs es (h .1) s) (λ _ s₁. l .emit (h .0) _ s₁)
     refuses-expr (Expr.index p a b) h s = refuses-bind (refuses-expr a (h .1) s) (λ _ s₁. refuses-bind (refuses-expr b (h .2) s₁) (λ _ s₂. l .emit (h .0) _ s₂))
     refuses-expr (Expr.hash p es) h s = refuses-bind (refuses-exprs es (h .1) s) (λ _ s₁. l .emit (h .0) _ s₁)
-    refuses-expr (Expr.macro p) h s = refuses-at (omega arith) h
+    refuses-expr (Expr.macro p) h s = refuses-at tt h
 
     refuses-exprs : (es : Exprs) → PlacedExprs bound es → (s : S) → Refuses bound (walkExprs m es s)
     refuses-exprs Exprs.noExprs h s = Refuses.on
@@ -114,13 +113,13 @@ module _ {S : Type 0} {bound : ℕ} {m : Machine S} (l : Local bound m) where
 module _ {bound p : ℕ} (h : p ≤ bound) where
   emitted : (d : ℕ) (i : Instr) (s : State) → Refuses bound (emitBeside d p i s)
   unfolding emitBeside
-  emitted d i s = refuses-pick (leb (s .around + sizeOf (s .code) + d + size i) codeSize) Refuses.on (refuses-at (omega arith) h)
+  emitted d i s = refuses-pick (leb (s .around + sizeOf (s .code) + d + size i) codeSize) Refuses.on (refuses-at tt h)
 
   added : (c : Const) (s : State) → Refuses bound (addConstant p c s)
   unfolding addConstant
   added c s =
-      refuses-pick (leb constantsLimit (length (s .pool))) (refuses-at (omega arith) h)
-      (refuses-pick (leb (poolSize (c ∷ s .pool)) poolLimit) Refuses.on (refuses-at (omega arith) h))
+      refuses-pick (leb constantsLimit (length (s .pool))) (refuses-at tt h)
+      (refuses-pick (leb (poolSize (c ∷ s .pool)) poolLimit) Refuses.on (refuses-at tt h))
 
   constant : (c : Const) (s : State) → Refuses bound (literal p c s)
   constant c s = refuses-bind (added c s) (λ k s₁. emitted 0 (instr opConstant k 0) s₁)
@@ -131,16 +130,16 @@ module _ {bound p : ℕ} (h : p ≤ bound) where
     where
       go : (f : Resolved) → Refuses bound (loaded p s f)
       go (Resolved.found y ts) = emitted 0 _ _
-      go Resolved.undefined = refuses-at (omega arith) h
-      go Resolved.full = refuses-at (omega arith) h
+      go Resolved.undefined = refuses-at tt h
+      go Resolved.full = refuses-at tt h
 
   defines : (n : Bytes) (s : State) → Refuses bound (define p n s)
   unfolding define
   defines n s = go (s .tables)
     where
       go : (ts : List Table) → Refuses bound (placed p s (place n (s .globals) ts))
-      go [] = chosen (λ d. Refuses bound (placed p s d)) (leb globalsLimit (length (s .globals))) (λ _. refuses-at (omega arith) h) (λ _. Refuses.on)
-      go (t ∷ ts) = chosen (λ d. Refuses bound (placed p s d)) (leb localsLimit (t .definitions)) (λ _. refuses-at (omega arith) h) (λ _. Refuses.on)
+      go [] = chosen (λ d. Refuses bound (placed p s d)) (leb globalsLimit (length (s .globals))) (λ _. refuses-at tt h) (λ _. Refuses.on)
+      go (t ∷ ts) = chosen (λ d. Refuses bound (placed p s d)) (leb localsLimit (t .definitions)) (λ _. refuses-at tt h) (λ _. Refuses.on)
 
   jumps : (o : ℕ) (s : State) → Refuses bound (jump p o s)
   unfolding jump
@@ -149,11 +148,15 @@ module _ {bound p : ℕ} (h : p ≤ bound) where
   enters : (n : Bytes) (ps : List Bytes) (s : State) → Refuses bound (enter p n ps s)
   unfolding enter
   enters n ps s =
-      refuses-pick (leb nestingLimit (length (s .tables))) (refuses-at (omega arith) h) (refuses-pick (ltb argumentsLimit (length ps)) (refuses-at (omega arith) h) Refuses.on)
+      refuses-pick (leb nestingLimit (length (s .tables))) (refuses-at tt h) (refuses-pick (ltb argumentsLimit (length ps)) (refuses-at tt h) Refuses.on)
 
   returns : (s : State) → Refuses bound (returned p s)
   unfolding returned
   returns s = refuses-pick (lastIs opPop (s .code)) Refuses.on (refuses-pick (lastIs opReturnValue (s .code)) Refuses.on (emitted 0 (plain opReturn) s))
+
+  drops : (s : State) → Refuses bound (dropped p s)
+  unfolding dropped
+  drops s = refuses-pick (lastIs opPop (s .code)) Refuses.on Refuses.on
 
   loads-all : (d : ℕ) (ys : List Symbol) (s : State) → Refuses bound (loads d p ys s)
   unfolding loads
@@ -178,7 +181,7 @@ machine-local bound =
       load = λ h n s. loads-one h n s;
       define = λ h n s. defines h n s;
       jump = λ h o s. jumps h o s;
-      dropPop = λ h s. Refuses.on;
+      dropPop = λ h s. drops h s;
       enter = λ h n ps s. enters h n ps s;
       leave = λ h k s s′. leaves h k s s′;
     }

@@ -80,8 +80,9 @@ abbrev pub withoutLast : Code → Code
 withoutLast [] = []
 withoutLast (i ∷ is) = is
 
-unfoldable pub dropped : State → State
-dropped s = pick (lastIs opPop (s .code)) (withCode (withoutLast (s .code)) s) s
+-- a branch's last Pop is dropped
+unfoldable pub dropped : ℕ → Go State
+dropped p s = pick (lastIs opPop (s .code)) (on tt (withCode (withoutLast (s .code)) s)) (on tt s)
 
 -- the target of a jump that is not yet patched
 abbrev pub unpatched : ℕ
@@ -138,7 +139,7 @@ machine =
       define = define;
       jump = jump;
       patch = patch;
-      dropPop = λ _ s. on tt (dropped s);
+      dropPop = dropped;
       enter = enter;
       leave = leave;
     }

@@ -1,8 +1,9 @@
 -- The numbers sent back.
 use Prim.Native.Nat.{ℕ}
-use mathlib.Core.Bool.{Bool}
-use lib.Dec.{leb}
-use Rattle.definition.specs.Basic.{both}
+use mathlib.Core.Bool.{Bool, true, false}
+use mathlib.Core.List.{List, [], _∷_, _++_}
+use lib.Dec.{eqb}
+use Rattle.definition.specs.Basic.{pick}
 use Rattle.definition.specs.declared.Refusal.{Refusal}
 
 abbrev pub refusal : ℕ → ℕ → Refusal
@@ -76,6 +77,39 @@ badInstruction = 16
 abbrev pub badImage : ℕ
 badImage = 17
 
+-- a number is in a list
+abbrev pub isOneOf : List ℕ → ℕ → Bool
+isOneOf [] n = false
+isOneOf (x ∷ xs) n = pick (eqb n x) true (isOneOf xs n)
+
+-- the numbers of reading a tree
+abbrev pub treeNumbers : List ℕ
+treeNumbers = badTree ∷ tooDeep ∷ []
+
 -- the numbers of the walk
+abbrev pub walkNumbers : List ℕ
+walkNumbers = undefined ∷ operator ∷ macro ∷ tooMany ∷ locals ∷ captures ∷ globals ∷ pool ∷ code ∷ nesting ∷ []
+
 abbrev pub walkNumber : ℕ → Bool
-walkNumber n = both (leb undefined n) (leb n nesting)
+walkNumber n = isOneOf walkNumbers n
+
+-- the numbers of compiling a tree in a session
+abbrev pub translateNumbers : List ℕ
+translateNumbers = treeNumbers ++ (walkNumbers ++ (outputShort ∷ []))
+
+-- the numbers of a compile call: number 1, and those of a call that is lent enough
+abbrev pub lentNumbers : List ℕ
+lentNumbers = noSession ∷ translateNumbers
+
+abbrev pub callNumbers : List ℕ
+callNumbers = shortBuffer ∷ lentNumbers
+
+-- the numbers of making a session, of the check of an image, and of its listing
+abbrev pub makeNumbers : List ℕ
+makeNumbers = shortBuffer ∷ []
+
+abbrev pub imageNumbers : List ℕ
+imageNumbers = badImage ∷ []
+
+abbrev pub listNumbers : List ℕ
+listNumbers = badImage ∷ outputShort ∷ []

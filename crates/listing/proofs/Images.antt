@@ -119,14 +119,16 @@ listing-is m = regrouped (ascii "main" ++ also (decimal (sizeOf (m .code))) ++ n
     regrouped : (s n t : Bytes) → s ++ (ascii "pool" ++ also n ++ newline ++ t) ≡ s ++ ascii "pool" ++ also n ++ newline ++ t
     regrouped s n t = simp append-assoc
 
--- what the check of an image says of it
-pub sound-image : (b : Bytes) {r : ImageCheck} → r ≡ imageAnswer (readImage b) → r ≡ Sound → HasImage b
-sound-image b {r} e t = go (readImage b) refl
+-- what the check of an image says of it: it reads, and has so many constants
+pub sound-image : (b : Bytes) {r : ImageCheck} {k : ℕ} → r ≡ imageAnswer (readImage b) → r ≡ Sound k → (h : HasImage b) × (k ≡ length (h .image .pool))
+sound-image b {r} {k} e t = go (readImage b) refl
   where
-    go : (d : Decoded Image) → readImage b ≡ d → HasImage b
-    go (decoded m n) i = record { image = m; is = record { reads = i ∙ ap (decoded m) (image-parts b i .1) } }
+    go : (d : Decoded Image) → readImage b ≡ d → (h : HasImage b) × (k ≡ length (h .image .pool))
+    go (decoded m n) i =
+        let g : Sound (length (m .pool)) ≡ Sound k = sym (e ∙ ap imageAnswer i) ∙ t in
+        (record { image = m; is = record { reads = i ∙ ap (decoded m) (image-parts b i .1) } }, cc)
     go (malformed p) i =
-        let g : Wrong (refusal badImage p) ≡ Sound = sym (e ∙ ap imageAnswer i) ∙ t in
+        let g : Wrong (refusal badImage p) ≡ Sound k = sym (e ∙ ap imageAnswer i) ∙ t in
         let z : _≡_ {A = ℕ} 0 1 = cc in
         absurd (omega arith)
 
@@ -136,7 +138,7 @@ wrong-image b out {r} {q} e t = go (readImage b) refl
   where
     go : (d : Decoded Image) → readImage b ≡ d → (Refused q ≡ listAnswer (readImage b) (length out)) × (out ≡ listInto (readImage b) out)
     go (decoded m n) i =
-        let g : Sound ≡ Wrong q = sym (e ∙ ap imageAnswer i) ∙ t in
+        let g : Sound (length (m .pool)) ≡ Wrong q = sym (e ∙ ap imageAnswer i) ∙ t in
         let z : _≡_ {A = ℕ} 0 1 = cc in
         absurd (omega arith)
     go (malformed p) i =

@@ -11,9 +11,6 @@ use Rattle.definition.specs.Text.{decimal}
 use Rattle.definition.specs.Bytecode.{Const}
 use Rattle.definition.specs.Decode.{decoded, readConst}
 use Rattle.definition.specs.Listing.{constantFields, constantLines}
-use Rattle.bytecode.specs.declared.Checked.{Checked}
-use Rattle.bytecode.specs.declared.Checked.the-variants.{Good, Wrong}
-use Rattle.bytecode.specs.Checked.{checked, constants}
 use Rattle.bytecode.proofs.Fields.{const-end, const-ends}
 use Rattle.listing.specs.Put.{Puts, perByte}
 use Rattle.listing.specs.Reads.{ConstantAt, PoolAt, HasPool}
@@ -21,16 +18,6 @@ use Rattle.listing.proofs.Puts.{both, none, reworded, wider}
 use Rattle.listing.proofs.Items.{Reading, begins, ends, Next, next}
 
 module _ (b : Bytes) (start end : ℕ) where
-  -- the number of constants, as the check of a pool counts them
-  pub count-is : {r : Checked} {k n : ℕ} {cs : List Const} → r ≡ checked (constants (byteAt b) start end) → r ≡ Good k n → PoolAt b start end cs → k ≡ length cs
-  count-is {k = k} {n = n} {cs = cs} e t p = let g : Good (length cs) end ≡ Good k n = sym (e ∙ ap checked (p .reads)) ∙ t in cc
-
-  pub count-not-wrong : {r : Checked} {q : ℕ} {cs : List Const} → r ≡ checked (constants (byteAt b) start end) → r ≡ Wrong q → PoolAt b start end cs → ⊥
-  count-not-wrong {q = q} {cs = cs} e t p =
-      let g : Good (length cs) end ≡ Wrong q = sym (e ∙ ap checked (p .reads)) ∙ t in
-      let z : _≡_ {A = ℕ} 0 1 = cc in
-      omega arith
-
   -- the loop at an offset, after so many constants
   pub record PoolLoop (o₀ : Bytes) (at : ℕ) (o : Bytes) (to pos count : ℕ) : Type 0 where
     pub pool : List Const

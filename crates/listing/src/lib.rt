@@ -8,6 +8,7 @@ use bytecode::check_image;
 use code::list_code;
 use definition::Answer;
 use definition::Refusal;
+use definition::number;
 use field::length_at;
 use pool::list_pool;
 use text::put_bytes;
@@ -21,10 +22,10 @@ ghost use Rattle.definition.specs.Listing.{listing, listAnswer, listInto};
 ghost use Rattle.listing.specs.Put.{textLimit, Puts};
 ghost use Rattle.listing.specs.Reads.{ImageAt, HasImage};
 
-// Puts the listing of a sound image at the start of the output.
-fn put_listing(output: &mut [u8], image: &[u8]) -> usize
+// Puts the listing of a sound image, which has so many constants, at the start of the output.
+fn put_listing(output: &mut [u8], image: &[u8], constants: usize) -> usize
     requires { ⌜ HasImage (now image) ⌝ }
-    ensures { λ r. ⌜ ((m : Image) → ImageAt (now (image .entry)) m → Puts textLimit (now (output .entry)) (now (output .exit)) 0 r (listing m)) ⌝ }
+    ensures { λ r. ⌜ ((m : Image) → ImageAt (now (image .entry)) m → constants ≡ length (m .pool) → Puts textLimit (now (output .entry)) (now (output .exit)) 0 r (listing m)) ⌝ }
 {
     let size = length_at(image, 0);
     let end = 3 + size;
@@ -32,7 +33,7 @@ fn put_listing(output: &mut [u8], image: &[u8]) -> usize
     let after_size = put_field(output, after_word, size);
     let next = put_newline(output, after_size);
     let after_code = list_code(output, next, image, 3, end);
-    list_pool(output, after_code, image, end + 3, image.len())
+    list_pool(output, after_code, image, end + 3, image.len(), constants)
 }
 
 // Lists an image: the length of its listing, which stands at the start of the output then; or 17 where the image is wrong; or 15 where the
@@ -43,15 +44,15 @@ pub fn list_image(image: &[u8], output: &mut [u8]) -> Answer
 {
     match check_image(image) {
         ImageCheck::Refused(r) => Answer::Refused(r),
-        ImageCheck::Sound => {
-            let size = put_listing(&mut output[..0], image);
+        ImageCheck::Sound(constants) => {
+            let size = put_listing(&mut output[..0], image, constants);
             if output.len() < size {
                 return Answer::Refused(Refusal {
-                    number: 15,
+                    number: number::OUTPUT_SHORT,
                     place: 0,
                 });
             }
-            put_listing(output, image);
+            put_listing(output, image, constants);
             Answer::Length(size)
         }
     }

@@ -6,8 +6,7 @@ use crate::text::put_field;
 use crate::text::put_hex_field;
 use crate::text::put_newline;
 use crate::text::put_signed;
-use bytecode::Checked;
-use bytecode::check_constants;
+use definition::tag;
 use field::length_at;
 use field::wide;
 use field::word;
@@ -83,10 +82,10 @@ fn list_content(output: &mut [u8], at: usize, image: &[u8], from: usize, end: us
 {
     let tag = image[from];
     let len = length_at(image, from);
-    if tag == 0x60 {
+    if tag == tag::INTEGER_CONST {
         return list_integer(output, at, image, from + 3);
     }
-    if tag == 0x61 {
+    if tag == tag::STRING_CONST {
         return list_string(output, at, image, from + 3, len);
     }
     list_function(output, at, image, from + 3, len)
@@ -109,23 +108,18 @@ fn list_constants(output: &mut [u8], at: usize, image: &[u8], start: usize, end:
     next
 }
 
-// How many constants fill the part from an offset up to another.
-fn count_constants(image: &[u8], start: usize, end: usize) -> usize
-    requires { ⌜ HasPool (now image) start end ⌝ }
-    ensures { λ r. ⌜ ((cs : List Const) → PoolAt (now (image .entry)) start end cs → r ≡ length cs) ⌝ }
-{
-    match check_constants(image, start, end) {
-        Checked::Good(count, _) => count,
-        Checked::Wrong(_) => 0,
-    }
-}
-
-// Puts the lines of the pool whose constants fill the part from an offset up to another.
-pub fn list_pool(output: &mut [u8], at: usize, image: &[u8], start: usize, end: usize) -> usize
+// Puts the lines of the pool whose constants, so many, fill the part from an offset up to another.
+pub fn list_pool(
+    output: &mut [u8],
+    at: usize,
+    image: &[u8],
+    start: usize,
+    end: usize,
+    count: usize,
+) -> usize
     requires { ⌜ Room (26 + perByte * (end - start)) at × HasPool (now image) start end ⌝ }
-    ensures { λ r. ⌜ ((cs : List Const) → PoolAt (now (image .entry)) start end cs → Puts (26 + perByte * (end - start)) (now (output .entry)) (now (output .exit)) at r (poolText cs)) ⌝ }
+    ensures { λ r. ⌜ ((cs : List Const) → PoolAt (now (image .entry)) start end cs → count ≡ length cs → Puts (26 + perByte * (end - start)) (now (output .entry)) (now (output .exit)) at r (poolText cs)) ⌝ }
 {
-    let count = count_constants(image, start, end);
     let after_word = put_bytes(output, at, b"pool");
     let after_count = put_field(output, after_word, count);
     let next = put_newline(output, after_count);

@@ -1,8 +1,10 @@
 // Instructions on bytes: the operand length of every first byte, decoding, encoding, and the words of the listing.
+pub mod opcodes;
 pub mod table;
 
 use definition::Answer;
 use definition::Refusal;
+use definition::number;
 use field::wide;
 use field::word;
 use table::NO_INSTRUCTION;
@@ -149,7 +151,7 @@ pub fn decode_at(code: &[u8], at: usize, end: usize) -> Decoded
     let size = size_at(code, at, end);
     if size == 0 {
         return Decoded::Refused(Refusal {
-            number: 16,
+            number: number::BAD_INSTRUCTION,
             place: at,
         });
     }
@@ -229,14 +231,14 @@ pub fn encode(out: &mut [u8], i: Instruction) -> Answer
 {
     if !is_valid(i) {
         return Answer::Refused(Refusal {
-            number: 16,
+            number: number::BAD_INSTRUCTION,
             place: 0,
         });
     }
     let w = wide(width(i.op));
     if out.len() <= w {
         return Answer::Refused(Refusal {
-            number: 15,
+            number: number::OUTPUT_SHORT,
             place: 0,
         });
     }
@@ -272,7 +274,7 @@ pub fn write_word(out: &mut [u8], op: u8) -> Answer
 {
     if width(op) == NO_INSTRUCTION {
         return Answer::Refused(Refusal {
-            number: 16,
+            number: number::BAD_INSTRUCTION,
             place: 0,
         });
     }
@@ -281,7 +283,7 @@ pub fn write_word(out: &mut [u8], op: u8) -> Answer
     let size = word_start(o + 1) - start;
     if out.len() < size {
         return Answer::Refused(Refusal {
-            number: 15,
+            number: number::OUTPUT_SHORT,
             place: 0,
         });
     }

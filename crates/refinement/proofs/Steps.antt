@@ -156,10 +156,10 @@ module _ {z : Session} {e : Bytes} {n : ℕ} where
       record { refines = patch-refines j h (d .refines); prev = rw (patch-fits (d .refines .code) j h) (d .prev ∙ sym (prev-changed j _ (s .code))) }
 
   -- a last Pop that is dropped
-  pub drop-refines : {w : Context} {s : State} {v : View} → Droppable z e n w s v → Refines z e n w (Structured.dropped s) (Machine.dropped v)
+  pub drop-refines : {w : Context} {s : State} {v : View} → Droppable z e n w s v → (p : ℕ) → Both (λ _. Stopped z e n) (λ (_ : Unit {0}). Refines z e n w) (Structured.dropped p s) (Machine.dropped p v)
   unfolding Structured.dropped Machine.dropped
-  drop-refines {w} {s} {v} d =
+  drop-refines {w} {s} {v} d p =
       let r = d .refines in
-      forked (Refines z e n w) (Structured.lastIs opPop (s .code)) (lastIs opPop (v .code) (v .state .chunk)) (last-is (r .code) opPop)
-      (λ t. record { code = drop-coded (r .code) (d .prev); pool = r .pool; symbols = r .symbols; globals = r .globals; level = r .level; depth = r .depth; pending = still (Jumps.less (s .code) t) (r .pending) })
-      (λ _. r)
+      forked (Both (λ _. Stopped z e n) (λ (_ : Unit {0}). Refines z e n w)) (Structured.lastIs opPop (s .code)) (lastIs opPop (v .code) (v .state .chunk)) (last-is (r .code) opPop)
+      (λ t. Both.on tt (record { code = drop-coded (r .code) (d .prev); pool = r .pool; symbols = r .symbols; globals = r .globals; level = r .level; depth = r .depth; pending = still (Jumps.less (s .code) t) (r .pending) }))
+      (λ _. Both.on tt r)

@@ -59,7 +59,7 @@ refinement z valid e n wide =
       jump = λ r p b. jump-refines wide r p b;
       patch = patched;
       patch-under = patched-under;
-      dropPop = λ d p. Both.on tt (drop-refines d);
+      dropPop = drop-refines;
       enter = λ r p x xs _ _. enter-refines r p x xs;
       leave = λ r d p k _. leave-refines wide valid r (d .refines) p k;
     }

@@ -1,6 +1,9 @@
 // Replays recorded compile calls: series over one session, compared byte by byte with what was recorded.
 use check::same;
 use definition::Answer;
+use definition::limit::CODE_SIZE;
+use definition::limit::SESSION_SIZE;
+use definition::limit::TABLE_SIZE;
 use field::wide;
 use field::word;
 use libc::STDOUT_FILENO;
@@ -52,14 +55,14 @@ fn read_part(fd: i32, buffer: &mut [u8], length: usize) {
 }
 
 // Whether two buffers are the same.
-fn same_buffers(a: &[u8; 65536], b: &[u8; 65536]) -> bool {
+fn same_buffers(a: &[u8; SESSION_SIZE], b: &[u8; SESSION_SIZE]) -> bool {
     same(a, b)
 }
 
 // Whether all numbers are a value.
-fn all_numbers(numbers: &[u32; 16384], value: u32) -> bool {
+fn all_numbers(numbers: &[u32; TABLE_SIZE], value: u32) -> bool {
     let mut i = 0;
-    while i < 16384 {
+    while i < TABLE_SIZE {
         if numbers[i] != value {
             return false;
         }
@@ -77,8 +80,8 @@ fn as_recorded(answer: Answer, number: usize, value: usize) -> bool {
 }
 
 // Whether all bytes of the code area are a value.
-fn all_code(code: &[u8; 32768], value: u8) -> bool {
-    same(code, &[value; 32768])
+fn all_code(code: &[u8; CODE_SIZE], value: u8) -> bool {
+    same(code, &[value; CODE_SIZE])
 }
 
 // Compiles a tree in parts of these lengths.
@@ -137,24 +140,24 @@ fn compile(
 
 // A call: the output's length in three bytes, the tree, the outcome, the image of an accepted tree. Number 1 leaves the work areas as
 // they were; any other outcome has them zeroed.
-fn run_call(fd: i32, session: &mut [u8; 65536], sizes: Sizes) -> bool {
+fn run_call(fd: i32, session: &mut [u8; SESSION_SIZE], sizes: Sizes) -> bool {
     let lend = read_long(fd);
     let length = read_word(fd);
     let mut tree = io::large_buffer();
     read_part(fd, &mut tree, length);
     let number = read_byte(fd);
     let value = read_word(fd);
-    let mut expected = [0xA5u8; 65536];
+    let mut expected = [0xA5u8; SESSION_SIZE];
     if number == 0 {
         read_part(fd, &mut expected, value);
     }
-    if 65536 < lend {
+    if SESSION_SIZE < lend {
         return false;
     }
     let before = *session;
-    let mut output = [0xA5u8; 65536];
-    let mut code = [0x5Au8; 32768];
-    let mut table = [7u32; 16384];
+    let mut output = [0xA5u8; SESSION_SIZE];
+    let mut code = [0x5Au8; CODE_SIZE];
+    let mut table = [7u32; TABLE_SIZE];
     let answer = compile(
         session,
         &tree,
@@ -177,9 +180,9 @@ fn run_call(fd: i32, session: &mut [u8; 65536], sizes: Sizes) -> bool {
 // Buffers of the full lengths.
 fn full_sizes() -> Sizes {
     Sizes {
-        session: 65536,
-        code: 32768,
-        table: 16384,
+        session: SESSION_SIZE,
+        code: CODE_SIZE,
+        table: TABLE_SIZE,
     }
 }
 
@@ -204,7 +207,7 @@ fn make_in(session: &mut [u8], size: usize) -> Answer {
 }
 
 // Making a session: the length of its buffer, the outcome.
-fn run_make(fd: i32, session: &mut [u8; 65536]) -> bool {
+fn run_make(fd: i32, session: &mut [u8; SESSION_SIZE]) -> bool {
     let size = read_long(fd);
     let number = read_byte(fd);
     let value = read_long(fd);
@@ -212,7 +215,7 @@ fn run_make(fd: i32, session: &mut [u8; 65536]) -> bool {
 }
 
 // The session's first bytes, and zeros after them.
-fn check_session(fd: i32, session: &[u8; 65536]) -> bool {
+fn check_session(fd: i32, session: &[u8; SESSION_SIZE]) -> bool {
     let length = read_word(fd);
     let mut expected = io::large_buffer();
     read_part(fd, &mut expected, length);
@@ -220,7 +223,7 @@ fn check_session(fd: i32, session: &[u8; 65536]) -> bool {
 }
 
 // A session of its own: its first bytes, and zeros after them.
-fn start_session(fd: i32, session: &mut [u8; 65536]) {
+fn start_session(fd: i32, session: &mut [u8; SESSION_SIZE]) {
     let length = read_word(fd);
     let mut start = io::large_buffer();
     read_part(fd, &mut start, length);
@@ -229,7 +232,7 @@ fn start_session(fd: i32, session: &mut [u8; 65536]) {
 
 // The next record: 1 a fresh session, 2 a session of its own, 3 a call, 4 the session as it must be, 5 a session made in a part of the
 // buffer, 6 a call in parts of the buffers.
-fn run_record(fd: i32, session: &mut [u8; 65536]) -> Record {
+fn run_record(fd: i32, session: &mut [u8; SESSION_SIZE]) -> Record {
     match read_byte(fd) {
         1 => {
             compiler::make_session(session);

@@ -5,6 +5,7 @@
 use bytecode::ImageCheck;
 use bytecode::Layout;
 use definition::Answer;
+use definition::number;
 use libc::STDOUT_FILENO;
 use opcode::Decoded;
 use opcode::Instruction;
@@ -68,7 +69,7 @@ fn write_instruction(i: Instruction, size: usize) {
 // Answer a question on the image check.
 fn answer_image(image: &[u8]) {
     match bytecode::check_image(image) {
-        ImageCheck::Sound => {
+        ImageCheck::Sound(_) => {
             io::write_all(STDOUT_FILENO, b"ok\n");
         }
         ImageCheck::Refused(r) => write_refusal(r.number, r.place),
@@ -118,7 +119,7 @@ fn answer_session(session: &[u8]) {
         Layout::Sound(_) => {
             io::write_all(STDOUT_FILENO, b"ok\n");
         }
-        Layout::Broken => write_refusal(2, 0),
+        Layout::Broken => write_refusal(number::NO_SESSION, 0),
     }
 }
 

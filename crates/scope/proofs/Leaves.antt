@@ -114,9 +114,9 @@ module _ (at : ℕ) {c : Bytes} {w : Walked} {s : State} (q : w ≡ On s) (h : R
 -- A last Pop that is dropped, or not there
 module _ {c : Bytes} {w : Walked} {s : State} {b : Bool} (q : w ≡ On s) (h : Ready c w) (l : b ≡ lastIs opPop c (s .chunk)) where
   -- it is dropped
-  pub drop-on : {s′ : State} → b ≡ true → s′ ≡ withoutLast s → Done c c w (On s′) (λ v. on tt (dropped v))
+  pub drop-on : (p : ℕ) {s′ : State} → b ≡ true → s′ ≡ withoutLast s → Done c c w (On s′) (dropped p)
   unfolding dropped
-  drop-on t d =
+  drop-on p t d =
       let g = fits q h in
       rw (q, d)
       (record {
@@ -126,9 +126,9 @@ module _ {c : Bytes} {w : Walked} {s : State} {b : Bool} (q : w ≡ On s) (h : R
       })
 
   -- the chunk stays as it is
-  pub drop-none : b ≡ false → Done c c w (On s) (λ v. on tt (dropped v))
+  pub drop-none : (p : ℕ) → b ≡ false → Done c c w (On s) (dropped p)
   unfolding dropped
-  drop-none t = let g = fits q h in rw q (record { step = λ e y. rw (sym l ∙ t); ready = record { area = h .area; sound = g }; same = refl })
+  drop-none p t = let g = fits q h in rw q (record { step = λ e y. rw (sym l ∙ t); ready = record { area = h .area; sound = g }; same = refl })
 
   -- the same Pop, at a function's end
   pub return-pop : (p : ℕ) → b ≡ true → Done c (set c (s .chunk .start + s .chunk .last) opReturnValue) w (On s) (returned p)

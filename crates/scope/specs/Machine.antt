@@ -57,8 +57,9 @@ lastIs o c k = both (ltb (k .last) (k .len)) (eqb (byteAt c (k .start + k .last)
 abbrev pub withoutLast : State → State
 withoutLast s = withChunk (chunk (s .chunk .start) (s .chunk .last) (s .chunk .prev) (s .chunk .prev)) s
 
-unfoldable pub dropped : View → View
-dropped v = pick (lastIs opPop (v .code) (v .state .chunk)) (view (v .code) (v .session) (v .symbols) (withoutLast (v .state))) v
+-- a branch's last Pop is dropped
+unfoldable pub dropped : ℕ → Go View
+dropped p v = pick (lastIs opPop (v .code) (v .state .chunk)) (on tt (view (v .code) (v .session) (v .symbols) (withoutLast (v .state)))) (on tt v)
 
 -- the last Pop becomes ReturnValue; where ReturnValue isn't last, Return follows
 unfoldable pub returned : ℕ → Go View
@@ -158,7 +159,7 @@ machine =
       define = define;
       jump = jump;
       patch = patch;
-      dropPop = λ _ v. on tt (dropped v);
+      dropPop = dropped;
       enter = enter;
       leave = leave;
     }

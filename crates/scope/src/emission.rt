@@ -1,9 +1,9 @@
 // Emission and patching on a chunk: by value, then with the chunk record lent by mutable reference.
-use super::CODE_SIZE;
 use super::Chunk;
 use super::instruction::Instruction;
 use super::instruction::write_instruction;
 use super::instruction::write_word;
+use definition::limit::CODE_SIZE;
 ghost use mathlib.Core.Path.{_≡_};
 ghost use Prim.Native.Nat.{_+_, _≤_};
 ghost use Rattle.definition.specs.Limit.{codeSize};

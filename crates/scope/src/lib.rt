@@ -12,11 +12,11 @@ ghost use Rattle.scope.specs.Code.{lengthOf, opcodeOf, jumpAndPatch};
 
 mod emission;
 mod instruction;
-pub mod numbers;
-pub mod opcodes;
+mod operators;
 
-// The size of the code area: the open chunks together.
-pub const CODE_SIZE: usize = 32768;
+use definition::number;
+use opcode::opcodes;
+use opcode::table::NO_INSTRUCTION;
 
 // The target of a jump that is not yet patched.
 const UNPATCHED: usize = 9999;
@@ -152,7 +152,7 @@ fn emit_instruction(
                 let next = e.chunk;
                 return Walked::On(with_chunk(s, next));
             }
-            refuse(w, numbers::CODE, place)
+            refuse(w, number::CODE, place)
         }
         Walked::Stop(r, s) => w,
     }
@@ -246,10 +246,10 @@ pub fn jump_and_patch(code: &mut [u8], w: Walked, place: usize, at: usize) -> Ju
     }
 }
 
-// Drops a branch's last Pop.
-pub fn drop_pop(code: &mut [u8], w: Walked, _place: usize) -> Walked
+// Drops the last Pop of a branch of the if at a place.
+pub fn drop_pop(code: &mut [u8], w: Walked, place: usize) -> Walked
     requires { ⌜ Ready (now code) w ⌝ }
-    ensures { λ r. ⌜ Done (now (code .entry)) (now (code .exit)) w r (λ v. on tt (Machine.dropped v)) ⌝ }
+    ensures { λ r. ⌜ Done (now (code .entry)) (now (code .exit)) w r (Machine.dropped place) ⌝ }
 {
     match w {
         Walked::On(s) => {
@@ -290,7 +290,7 @@ pub fn boolean(code: &mut [u8], w: Walked, place: usize, b: u8) -> Walked
     requires { ⌜ Ready (now code) w ⌝ }
     ensures { λ r. ⌜ Done (now (code .entry)) (now (code .exit)) w r (Machine.machine .boolean place b) ⌝ }
 {
-    emit(code, w, place, opcodes::boolean_opcode(b))
+    emit(code, w, place, operators::boolean_opcode(b))
 }
 
 // Emits an operator's instruction, or refuses where it has none.
@@ -299,8 +299,8 @@ fn operator(code: &mut [u8], w: Walked, place: usize, op: u8) -> Walked
     requires { ⌜ 0 ≡ width op ⌝ }
     ensures { λ r. ⌜ Done (now (code .entry)) (now (code .exit)) w r (operate Machine.machine place (opcodeOf op)) ⌝ }
 {
-    if op == opcodes::NONE {
-        return refuse(w, numbers::OPERATOR, place);
+    if op == NO_INSTRUCTION {
+        return refuse(w, number::OPERATOR, place);
     }
     emit(code, w, place, op)
 }
@@ -310,7 +310,7 @@ pub fn prefix_operator(code: &mut [u8], w: Walked, place: usize, o: u8) -> Walke
     requires { ⌜ Ready (now code) w ⌝ }
     ensures { λ r. ⌜ Done (now (code .entry)) (now (code .exit)) w r (operate Machine.machine place (getD prefixes o none)) ⌝ }
 {
-    operator(code, w, place, opcodes::prefix_opcode(o))
+    operator(code, w, place, operators::prefix_opcode(o))
 }
 
 // Emits the instruction of an infix operator.
@@ -318,5 +318,5 @@ pub fn infix_operator(code: &mut [u8], w: Walked, place: usize, o: u8) -> Walked
     requires { ⌜ Ready (now code) w ⌝ }
     ensures { λ r. ⌜ Done (now (code .entry)) (now (code .exit)) w r (operate Machine.machine place (getD infixes o none)) ⌝ }
 {
-    operator(code, w, place, opcodes::infix_opcode(o))
+    operator(code, w, place, operators::infix_opcode(o))
 }

@@ -5,20 +5,14 @@ pub mod zero;
 
 use definition::Answer;
 use definition::Refusal;
+use definition::limit::SESSION_SIZE;
+use definition::number;
+use definition::tag;
 ghost use mathlib.Core.Path.{_≡_};
 ghost use Prim.Native.Nat.{_+_, _≤_};
 ghost use lib.ListN.{length};
 ghost use Rattle.definition.specs.Call.{made};
 ghost use Rattle.session.specs.Write.{finished};
-
-// The bytes of a session.
-const SESSION_SIZE: usize = 65536;
-
-// Number 1: the session is below its size.
-const SHORT_BUFFER: usize = 1;
-
-// The tag of the global names.
-const TAG_NAMES: u8 = 0x40;
 
 // Makes a fresh session in the first 65,536 bytes, and leaves the others; a shorter buffer is refused, and nothing in it touched.
 pub fn make_session(session: &mut [u8]) -> Answer
@@ -26,13 +20,13 @@ pub fn make_session(session: &mut [u8]) -> Answer
 {
     if session.len() < SESSION_SIZE {
         return Answer::Refused(Refusal {
-            number: SHORT_BUFFER,
+            number: number::SHORT_BUFFER,
             place: 0,
         });
     }
     zero::restore(session, 0, SESSION_SIZE);
-    write::put_head(session, 0, TAG_NAMES, 0);
-    write::put_head(session, 3, write::TAG_POOL, 0);
+    write::put_head(session, 0, tag::NAMES, 0);
+    write::put_head(session, 3, tag::POOL, 0);
     Answer::Length(SESSION_SIZE)
 }
 
@@ -41,6 +35,6 @@ pub fn finish_session(session: &mut [u8], end: usize, pool: &[u8])
     requires { ⌜ (3 ≤ end) × (end + (3 + length (now pool)) ≤ length (now session)) ⌝ }
     ensures { λ _. ⌜ now (session .exit) ≡ finished end (now (pool .entry)) (now (session .entry)) ⌝ }
 {
-    write::put_head(session, 0, TAG_NAMES, end - 3);
-    write::put_field(session, end, write::TAG_POOL, pool);
+    write::put_head(session, 0, tag::NAMES, end - 3);
+    write::put_field(session, end, tag::POOL, pool);
 }

@@ -6,9 +6,6 @@ ghost use lib.Seq.{sets};
 ghost use Rattle.definition.specs.Field.{field};
 ghost use Rattle.session.specs.Write.{heading};
 
-// The tag of a pool.
-pub(crate) const TAG_POOL: u8 = 0x51;
-
 // Copies bytes to an offset.
 pub fn copy(out: &mut [u8], at: usize, from: &[u8])
     requires { ⌜ at + length (now from) ≤ length (now out) ⌝ }

@@ -1,12 +1,12 @@
 // A function is closed over the code outside it.
 use super::Added;
 use super::pool::add_function;
-use scope::CODE_SIZE;
+use definition::limit::CODE_SIZE;
+use definition::number;
 use scope::State;
 use scope::Walked;
 use scope::emit_closure;
 use scope::emit_operand;
-use scope::numbers;
 use scope::refuse;
 use symbol_table::leaving::captures;
 use symbol_table::leaving::definitions;
@@ -113,7 +113,7 @@ pub fn close(
     let c = o.chunk;
     let k = s.chunk;
     if CODE_SIZE < (c.start + c.len + k.len) as usize + loads_size(table, level, n) {
-        return refuse(Walked::On(s), numbers::CODE, place);
+        return refuse(Walked::On(s), number::CODE, place);
     }
     let added = add_function(session, code, s, place, definitions(table, level), params);
     emit_function(code, table, o, added, place, n)

@@ -3,15 +3,17 @@ mod closing;
 pub mod pool;
 
 use closing::close;
+use definition::limit;
+use definition::limit::ARGUMENTS_LIMIT;
+use definition::number;
 use field::after_at;
 use field::content_at;
+use opcode::opcodes;
 use pool::add_constant;
 use scope::Chunk;
 use scope::State;
 use scope::Walked;
 use scope::emit_operand;
-use scope::numbers;
-use scope::opcodes;
 use scope::refuse;
 use scope::returned;
 use symbol_table::Definition;
@@ -29,10 +31,8 @@ ghost use Rattle.step.specs.Memory.{rest, Roomy, Fine, Deeper};
 ghost use Rattle.step.specs.Contract.{Steps, StepsBeside, placedAt, FineBeside, DefinesBeside, HeadAt, EntersBeside, FineFor, LeavesBeside};
 ghost use Rattle.step.specs.Frame.{LeavesAlone};
 
-// The open functions, and the parameters of each.
-const NESTING_LIMIT: u32 = 16;
-
-const ARGUMENTS_LIMIT: usize = 255;
+// The open functions, as a level.
+const NESTING_LIMIT: u32 = limit::NESTING_LIMIT as u32;
 
 // A definition: the walk, and the instruction that will set it.
 pub struct Defining {
@@ -89,8 +89,8 @@ pub fn load(
                     let l = load_of(symbol);
                     emit_operand(code, w, at, l.op, l.operands, l.operand as usize)
                 }
-                Lookup::Undefined => refuse(w, numbers::UNDEFINED, at),
-                Lookup::Full => refuse(w, numbers::CAPTURES, at),
+                Lookup::Undefined => refuse(w, number::UNDEFINED, at),
+                Lookup::Full => refuse(w, number::CAPTURES, at),
             }
         }
         Walked::Stop(r, s) => w,
@@ -113,12 +113,12 @@ fn placed(s: State, place: usize, answer: Definition) -> Defining
             operand: k as usize,
         },
         Definition::GlobalsFull => Defining {
-            walked: refuse(Walked::On(s), numbers::GLOBALS, place),
+            walked: refuse(Walked::On(s), number::GLOBALS, place),
             op: opcodes::SET_GLOBAL,
             operand: 0,
         },
         Definition::LocalsFull => Defining {
-            walked: refuse(Walked::On(s), numbers::LOCALS, place),
+            walked: refuse(Walked::On(s), number::LOCALS, place),
             op: opcodes::SET_LOCAL,
             operand: 0,
         },
@@ -178,10 +178,10 @@ pub fn enter(tree: &[u8], table: &mut [u32], w: Walked, at: usize, n: usize) -> 
     match w {
         Walked::On(s) => {
             if NESTING_LIMIT <= s.level {
-                return refuse(w, numbers::NESTING, at);
+                return refuse(w, number::NESTING, at);
             }
             if ARGUMENTS_LIMIT < n {
-                return refuse(w, numbers::TOO_MANY, at);
+                return refuse(w, number::TOO_MANY, at);
             }
             let row = after_at(tree, at + 3) + 3;
             symbol_table::enter(tree, table, s.level as usize, at + 3, row, n);

@@ -1,8 +1,11 @@
 // Constants behind the pool of the session.
 use super::Added;
+use definition::limit;
+use definition::limit::POOL_LIMIT;
+use definition::number;
+use definition::tag;
 use scope::State;
 use scope::Walked;
-use scope::numbers;
 use scope::refuse;
 use session::write::copy;
 use session::write::put_field;
@@ -21,13 +24,8 @@ ghost use Rattle.scope.specs.declared.Walked.the-variants.{On};
 ghost use Rattle.step.specs.Memory.{Roomy};
 ghost use Rattle.step.specs.Contract.{hasRoom, Adds};
 
-// The constants of a pool, and the bytes of its content.
-const CONSTANTS_LIMIT: u32 = 4096;
-
-const POOL_LIMIT: usize = 28672;
-
-// The tag of a function's constant.
-const TAG_FUNCTION: u8 = 0x62;
+// The constants of a pool, as the state counts them.
+const CONSTANTS_LIMIT: u32 = limit::CONSTANTS_LIMIT as u32;
 
 // Whether the pool has room for a constant of `n` bytes more, and its head.
 fn has_room(s: State, n: usize) -> bool
@@ -78,7 +76,7 @@ pub fn add_constant(session: &mut [u8], w: Walked, place: usize, tag: u8, conten
                 return advance(s, n);
             }
             Added {
-                walked: refuse(w, numbers::POOL, place),
+                walked: refuse(w, number::POOL, place),
                 index: 0,
             }
         }
@@ -107,7 +105,7 @@ fn put_function(out: &mut [u8], at: usize, locals: usize, params: usize, code: &
     requires { ⌜ at + (3 + (3 + length (now code))) ≤ length (now out) ⌝ }
     ensures { λ _. ⌜ now (out .exit) ≡ sets (now (out .entry)) at (field tagFunctionConst (functionContent locals params (now (code .entry)))) ⌝ }
 {
-    put_head(out, at, TAG_FUNCTION, 3 + code.len());
+    put_head(out, at, tag::FUNCTION_CONST, 3 + code.len());
     put_counts(out, at + 3, locals, params);
     copy(out, at + 6, code);
 }
@@ -137,7 +135,7 @@ pub fn add_function(
         return advance(s, n);
     }
     Added {
-        walked: refuse(Walked::On(s), numbers::POOL, place),
+        walked: refuse(Walked::On(s), number::POOL, place),
         index: 0,
     }
 }

@@ -3,10 +3,12 @@ use super::Definition;
 use super::Hit;
 use super::Lookup;
 use super::layout::CODE_UNIT;
+use super::layout::CODES;
 use super::layout::ENTRIES_AT;
 use super::layout::FREE;
 use super::layout::FUNCTION;
 use super::layout::LOCAL;
+use super::layout::LOCALS;
 use super::layout::ORIGINALS_AT;
 use super::layout::TAG_UNIT;
 use super::name::hash_at;
@@ -45,7 +47,7 @@ pub fn find_in(tree: &[u8], part: &[u32], name: &[u8], hash: usize) -> Hit
         let v = part[ENTRIES_AT + k];
         if wide32(v / TAG_UNIT) == tag {
             if same_name(name, name_at(tree, wide32(v % CODE_UNIT))) {
-                return Hit::At(v / CODE_UNIT % 1024);
+                return Hit::At(v / CODE_UNIT % CODES);
             }
         }
     }
@@ -54,7 +56,7 @@ pub fn find_in(tree: &[u8], part: &[u32], name: &[u8], hash: usize) -> Hit
 
 // An entry as a number.
 fn entry(name: usize, code: u32, hash: usize) -> u32
-    requires { ⌜ name < 32768 ⌝ }
+    requires { ⌜ name < treeLimit ⌝ }
     requires { ⌜ code < 1024 ⌝ }
     ensures { λ r. ⌜ r ≡ packed name code hash ⌝ }
 {
@@ -72,7 +74,7 @@ fn is_named(n: usize) -> u32
 fn enter_in(tree: &[u8], part: &mut [u32], name: usize, hash: usize)
     requires { ⌜ length (now part) ≡ partSize ⌝ }
     requires { ⌜ Stands (now tree) name ⌝ }
-    requires { ⌜ name < 32768 ⌝ }
+    requires { ⌜ name < treeLimit ⌝ }
     ensures { λ _. ⌜ now (part .exit) ≡ enteredIn (now (part .entry)) name hash (len (now (tree .entry)) name) ⌝ }
 {
     let own = is_named(field::length_at(tree, name));
@@ -87,7 +89,7 @@ fn enter_in(tree: &[u8], part: &mut [u32], name: usize, hash: usize)
 fn define_in(part: &mut [u32], name: usize, hash: usize) -> u32
     requires { ⌜ Sized (now part) ⌝ }
     requires { ⌜ getD (now part) 1 0 < localsLimit ⌝ }
-    requires { ⌜ name < 32768 ⌝ }
+    requires { ⌜ name < treeLimit ⌝ }
     ensures { λ r. ⌜ r ≡ getD (now (part .entry)) 1 0 ⌝ }
     ensures { λ _. ⌜ now (part .exit) ≡ localIn (now (part .entry)) name hash ⌝ }
 {
@@ -103,7 +105,7 @@ fn define_in(part: &mut [u32], name: usize, hash: usize) -> u32
 fn capture_in(part: &mut [u32], name: usize, hash: usize, code: u32) -> u32
     requires { ⌜ Sized (now part) ⌝ }
     requires { ⌜ getD (now part) 2 0 < freeLimit ⌝ }
-    requires { ⌜ name < 32768 ⌝ }
+    requires { ⌜ name < treeLimit ⌝ }
     ensures { λ r. ⌜ r ≡ 512 + getD (now (part .entry)) 2 0 ⌝ }
     ensures { λ _. ⌜ now (part .exit) ≡ freeIn (now (part .entry)) name hash code ⌝ }
 {
@@ -120,7 +122,7 @@ fn capture_in(part: &mut [u32], name: usize, hash: usize, code: u32) -> u32
 // A lookup comes back through a function: a local or a free symbol becomes a free symbol of its own.
 pub fn cross_in(part: &mut [u32], name: usize, hash: usize, outer: Lookup) -> Lookup
     requires { ⌜ Sized (now part) ⌝ }
-    requires { ⌜ name < 32768 ⌝ }
+    requires { ⌜ name < treeLimit ⌝ }
     ensures { λ r. ⌜ Crosses name hash outer r (now (part .entry)) (now (part .exit)) ⌝ }
 {
     match outer {
@@ -146,11 +148,11 @@ pub fn cross_in(part: &mut [u32], name: usize, hash: usize, outer: Lookup) -> Lo
 // A definition more, if there is room.
 pub fn place_in(part: &mut [u32], name: usize, hash: usize) -> Definition
     requires { ⌜ Sized (now part) ⌝ }
-    requires { ⌜ name < 32768 ⌝ }
+    requires { ⌜ name < treeLimit ⌝ }
     ensures { λ r. ⌜ DefinesLocal name hash r (now (part .entry)) (now (part .exit)) ⌝ }
 {
     let n = part[1];
-    if 256 <= n {
+    if LOCALS <= n {
         return Definition::LocalsFull;
     }
     let d = define_in(part, name, hash);

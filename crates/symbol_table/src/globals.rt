@@ -1,8 +1,10 @@
 // The global names, in the first numbers of the area, and the builtins.
 use super::Definition;
 use super::Hit;
+use super::layout::BUCKETS;
 use super::layout::BUILTIN;
 use super::layout::GLOBAL;
+use super::layout::GLOBALS;
 use super::layout::HEADS_AT;
 use super::layout::IN_TREE;
 use super::layout::LINKS_AT;
@@ -13,7 +15,7 @@ use super::name::wide32;
 ghost use mathlib.Core.Path.{_≡_};
 ghost use Prim.Native.Nat.{ℕ, _+_, _<_, _≤_};
 ghost use lib.ListN.{length, getD};
-ghost use Rattle.definition.specs.Limit.{sessionSize, globalsLimit};
+ghost use Rattle.definition.specs.Limit.{sessionSize, treeLimit, globalsLimit};
 ghost use Rattle.definition.specs.SymbolTable.{Symbol, same, findGlobal, findBuiltin};
 ghost use Rattle.field.specs.Layout.{after};
 ghost use Rattle.symbol_table.specs.Name.{fields, Row, buckets, hashOf};
@@ -88,12 +90,12 @@ fn push_global(globals: &mut [u32], v: u32, hash: usize)
 // A global more, if there is room.
 pub fn place_global(globals: &mut [u32], name: usize, hash: usize) -> Definition
     requires { ⌜ length (now globals) ≡ globalsSize ⌝ }
-    requires { ⌜ name < 32768 ⌝ }
+    requires { ⌜ name < treeLimit ⌝ }
     requires { ⌜ hash < buckets ⌝ }
     ensures { λ r. ⌜ DefinesGlobal name hash r (now (globals .entry)) (now (globals .exit)) ⌝ }
 {
     let k = globals[0];
-    if 1024 <= k {
+    if GLOBALS <= k {
         return Definition::GlobalsFull;
     }
     push_global(globals, (IN_TREE + name) as u32, hash);
@@ -107,7 +109,7 @@ fn clear_heads(globals: &mut [u32])
     ensures { λ _. ⌜ ((h : ℕ) → h < buckets → getD (now (globals .exit)) (headsAt + h) 0 ≡ 0) ⌝ }
 {
     let mut i = 0;
-    while i < 1024 {
+    while i < BUCKETS {
         globals[HEADS_AT + i] = 0;
         i += 1;
     }

@@ -1,17 +1,31 @@
 // The table area. First the globals, 3,073 numbers: their count, 1,024 names, 1,024 links, the latest of each hash.
 // Then a part for each open function, 770 numbers: 1 where it has a name, its definitions, its free symbols, 512 entries, 255 originals.
+use definition::limit;
+use definition::limit::FREE_LIMIT;
+use definition::limit::GLOBALS_LIMIT;
+use definition::limit::LOCALS_LIMIT;
+use definition::limit::SESSION_SIZE;
+use definition::limit::TREE_LIMIT;
 
-pub const GLOBALS_SIZE: usize = 3073;
+// The hashes of names.
+pub const BUCKETS: usize = 1024;
 
-pub const LINKS_AT: usize = 1025;
+pub const LINKS_AT: usize = 1 + GLOBALS_LIMIT;
 
-pub const HEADS_AT: usize = 2049;
+pub const HEADS_AT: usize = LINKS_AT + GLOBALS_LIMIT;
 
-pub const PART_SIZE: usize = 770;
+pub const GLOBALS_SIZE: usize = HEADS_AT + BUCKETS;
 
 pub const ENTRIES_AT: usize = 3;
 
-pub const ORIGINALS_AT: usize = 515;
+pub const ORIGINALS_AT: usize = ENTRIES_AT + 1 + LOCALS_LIMIT + FREE_LIMIT;
+
+pub const PART_SIZE: usize = ORIGINALS_AT + FREE_LIMIT;
+
+// The definitions of a session and of a function, as the area counts them.
+pub const GLOBALS: u32 = limit::GLOBALS_LIMIT as u32;
+
+pub const LOCALS: u32 = limit::LOCALS_LIMIT as u32;
 
 // The codes of symbols: a function's own name is below LOCAL, a local from there on, and so on.
 pub const FUNCTION: u32 = 0;
@@ -24,10 +38,13 @@ pub const BUILTIN: u32 = 768;
 
 pub const GLOBAL: u32 = 1024;
 
-// An entry: the offset of its name, the code of its symbol, and seven bits of its name's hash.
-pub const CODE_UNIT: u32 = 32768;
+// The codes that an entry can have are below this.
+pub const CODES: u32 = 1024;
 
-pub const TAG_UNIT: u32 = 33554432;
+// An entry: the offset of its name, the code of its symbol, and seven bits of its name's hash.
+pub const CODE_UNIT: u32 = TREE_LIMIT as u32;
+
+pub const TAG_UNIT: u32 = CODE_UNIT * CODES;
 
 // A global's name is an offset among the session's names, or that much more than an offset in the tree.
-pub const IN_TREE: usize = 65536;
+pub const IN_TREE: usize = SESSION_SIZE;

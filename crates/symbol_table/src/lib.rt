@@ -1,7 +1,7 @@
 // The symbol tables of the open functions, in the table area: what a name stands for.
 mod enclosed;
 mod globals;
-mod layout;
+pub mod layout;
 pub mod leaving;
 mod name;
 
@@ -13,12 +13,17 @@ use globals::find_builtin;
 use globals::find_global;
 use globals::place_global;
 use globals::start_in;
+use layout::BUILTIN;
+use layout::FREE;
+use layout::GLOBAL;
 use layout::GLOBALS_SIZE;
+use layout::LOCAL;
 use layout::ORIGINALS_AT;
 use layout::PART_SIZE;
 use name::hash_at;
 use name::name_at;
 use name::wide32;
+use opcode::opcodes;
 ghost use mathlib.Core.Path.{_≡_};
 ghost use Prim.Native.Nat.{ℕ, _+_, _<_, _≤_};
 ghost use mathlib.Core.List.{List, []};
@@ -76,7 +81,7 @@ fn find_at(tree: &[u8], table: &[u32], level: usize, name: usize, hash: usize) -
 fn cross_at(table: &mut [u32], level: usize, name: usize, hash: usize, outer: Lookup) -> Lookup
     requires { ⌜ base level + partSize ≤ length (now table) ⌝ }
     requires { ⌜ Sized (part level (now table)) ⌝ }
-    requires { ⌜ name < 32768 ⌝ }
+    requires { ⌜ name < treeLimit ⌝ }
     ensures { λ r. ⌜ Inside (Crosses name hash outer r) level (now (table .entry)) (now (table .exit)) ⌝ }
 {
     let start = GLOBALS_SIZE + PART_SIZE * level;
@@ -128,7 +133,7 @@ pub fn resolve(
     requires { ⌜ base level ≤ length (now table) ⌝ }
     requires { ⌜ Good (now tree) (now names) level (now table) ⌝ }
     requires { ⌜ IsName (now tree) name hash ⌝ }
-    requires { ⌜ name < 32768 ⌝ }
+    requires { ⌜ name < treeLimit ⌝ }
     requires { ⌜ hash < buckets ⌝ }
     ensures { λ r. ⌜ Resolves (fields (now (words .entry)) count 0) (now (tree .entry)) (now (names .entry)) level name r (now (table .entry)) (now (table .exit)) ⌝ }
 {
@@ -163,7 +168,7 @@ pub fn resolve_name(
     requires { ⌜ base level ≤ length (now table) ⌝ }
     requires { ⌜ Good (now tree) (now names) level (now table) ⌝ }
     requires { ⌜ Stands (now tree) name ⌝ }
-    requires { ⌜ name < 32768 ⌝ }
+    requires { ⌜ name < treeLimit ⌝ }
     ensures { λ r. ⌜ Resolves builtins (now (tree .entry)) (now (names .entry)) level name r (now (table .entry)) (now (table .exit)) ⌝ }
 {
     let words =
@@ -176,7 +181,7 @@ pub fn resolve_name(
 fn place_at(table: &mut [u32], level: usize, name: usize, hash: usize) -> Definition
     requires { ⌜ base level + partSize ≤ length (now table) ⌝ }
     requires { ⌜ Sized (part level (now table)) ⌝ }
-    requires { ⌜ name < 32768 ⌝ }
+    requires { ⌜ name < treeLimit ⌝ }
     ensures { λ r. ⌜ Inside (DefinesLocal name hash r) level (now (table .entry)) (now (table .exit)) ⌝ }
 {
     let start = GLOBALS_SIZE + PART_SIZE * level;
@@ -189,7 +194,7 @@ pub fn define(tree: &[u8], table: &mut [u32], level: usize, name: usize) -> Defi
     requires { ⌜ base level ≤ length (now table) ⌝ }
     requires { ⌜ ((names : Bytes) × Good (now tree) names level (now table)) ⌝ }
     requires { ⌜ Stands (now tree) name ⌝ }
-    requires { ⌜ name < 32768 ⌝ }
+    requires { ⌜ name < treeLimit ⌝ }
     ensures { λ r. ⌜ Defines (now (tree .entry)) level name r (now (table .entry)) (now (table .exit)) ⌝ }
 {
     let hash = hash_at(tree, name);
@@ -247,37 +252,37 @@ pub fn load_of(code: u32) -> Load
     ensures is { λ r. ⌜ instr (r .op) (r .operand) 0 ≡ loadOf (symbolOf code) ⌝ }
     ensures sized { λ r. ⌜ r .operands ≡ width (r .op) ⌝ }
 {
-    if code < 256 {
+    if code < LOCAL {
         return Load {
-            op: 0x1D,
+            op: opcodes::CURRENT_CLOSURE,
             operands: 0,
             operand: 0,
         };
     }
-    if code < 512 {
+    if code < FREE {
         return Load {
-            op: 0x18,
+            op: opcodes::GET_LOCAL,
             operands: 1,
-            operand: code - 256,
+            operand: code - LOCAL,
         };
     }
-    if code < 768 {
+    if code < BUILTIN {
         return Load {
-            op: 0x1C,
+            op: opcodes::GET_FREE,
             operands: 1,
-            operand: code - 512,
+            operand: code - FREE,
         };
     }
-    if code < 1024 {
+    if code < GLOBAL {
         return Load {
-            op: 0x1A,
+            op: opcodes::GET_BUILTIN,
             operands: 1,
-            operand: code - 768,
+            operand: code - BUILTIN,
         };
     }
     Load {
-        op: 0x10,
+        op: opcodes::GET_GLOBAL,
         operands: 2,
-        operand: code - 1024,
+        operand: code - GLOBAL,
     }
 }

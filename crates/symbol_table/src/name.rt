@@ -1,4 +1,5 @@
 // Names: a name is known by the offset of its field.
+use super::layout::BUCKETS;
 ghost use mathlib.Core.Path.{_≡_};
 ghost use Prim.Native.Nat.{_<_};
 ghost use Rattle.definition.specs.SymbolTable.{same};
@@ -40,7 +41,7 @@ pub fn hash_name(name: &[u8]) -> usize
     let mut hash: usize = 0;
     let mut i = 0;
     while i < name.len() {
-        hash = (hash * 37 + field::wide(name[i])) % 1024;
+        hash = (hash * 37 + field::wide(name[i])) % BUCKETS;
         i += 1;
     }
     hash

@@ -1,13 +1,11 @@
 // The grammar of a tree: the tags, lengths and own bytes of a kind of field, what kind child k of a tag must be, how many are enough.
-use crate::tag;
+use definition::limit::NAME_LIMIT;
+use definition::tag;
 ghost use mathlib.Core.Path.{_≡_};
 ghost use lib.Dec.{leb};
 ghost use Rattle.definition.specs.Basic.{both};
 ghost use Rattle.definition.specs.Tree.{exprLen};
 ghost use Rattle.tree.specs.Grammar.{goodHead, goodOwn, isLeaf, nthOf, childKind, leastOf, enoughOf};
-
-// The longest name.
-const NAME_LIMIT: usize = 32;
 
 // What a field must be: a statement, a block, an expression, a name of at least so many bytes, parameters, an operator; or that none may stand there.
 pub enum Kind {

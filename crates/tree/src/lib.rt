@@ -1,10 +1,14 @@
 // The tree check: a tree is good, or refused 3 or 4 at its place; and the readers of fields that the compiler uses afterwards.
 use definition::Refusal;
+use definition::limit::LEVEL_LIMIT;
+use definition::limit::TREE_LIMIT;
+use definition::number::BAD_TREE;
+use definition::number::TOO_DEEP;
+use definition::tag;
 use field::length_at;
 use field::wide;
 
 mod grammar;
-pub mod tag;
 
 use grammar::Kind;
 use grammar::child_kind;
@@ -19,17 +23,6 @@ ghost use Rattle.definition.specs.Basic.{byteAt};
 ghost use Rattle.definition.specs.Tree.{readTree};
 ghost use Rattle.tree.specs.Reads.{Some, InRow, Counted};
 ghost use Rattle.tree.specs.Check.{verdict, next, goodField, checkField, checkAll};
-
-// The longest tree.
-const TREE_LIMIT: usize = 32768;
-
-// The levels of fields, Program's being the first.
-const LEVELS: usize = 64;
-
-// The numbers of a refusal: the layout is broken; a field at level 65.
-const BAD_TREE: usize = 3;
-
-const TOO_DEEP: usize = 4;
 
 // What the check of a tree, of a field or of its children comes to.
 pub enum Checked {
@@ -134,7 +127,7 @@ pub fn check(tree: &[u8]) -> Checked
     if after_at(tree, 0) != n {
         return refused(BAD_TREE, 0);
     }
-    check_children(tree, LEVELS - 1, 0, n)
+    check_children(tree, LEVEL_LIMIT - 1, 0, n)
 }
 
 // How many fields stand in a row, from an offset up to an end.

@@ -9,7 +9,11 @@ ghost use Rattle.tree.specs.Reads.{Some, ReadsStmt, ReadsStmts, ReadsExpr, Read
 ghost use Rattle.step.specs.Memory.{rest, Fine, Walks};
 ghost use Rattle.scope.specs.declared.Walked.the-variants.{On};
 ghost use Rattle.walk.specs.Parts.{Standing, walkList, walkBranch, walkOther, walkBranches, ReadsTree};
+use definition::limit::ARGUMENTS_LIMIT;
+use definition::number;
+use definition::tag;
 use field::after_at;
+use opcode::opcodes;
 use scope::State;
 use scope::Walked;
 use scope::boolean;
@@ -19,8 +23,6 @@ use scope::emit_any;
 use scope::infix_operator;
 use scope::jump;
 use scope::jump_and_patch;
-use scope::numbers;
-use scope::opcodes;
 use scope::patch;
 use scope::prefix_operator;
 use scope::refuse;
@@ -30,15 +32,6 @@ use step::leave;
 use step::literal;
 use step::load;
 use tree::count_fields;
-use tree::tag;
-
-// The tags of an integer's and a string's constant.
-const INTEGER_CONSTANT: u8 = 0x60;
-
-const STRING_CONSTANT: u8 = 0x61;
-
-// How many arguments a call can have.
-const ARGUMENTS_LIMIT: usize = 255;
 
 // The operator whose right side is compiled first.
 const LESS_THAN: u8 = 8;
@@ -136,13 +129,13 @@ fn walk_expression(
         tag::IF => walk_if(tree, session, code, table, at, w),
         tag::FUNCTION => walk_function(tree, session, code, table, at, w),
         tag::CALL => walk_call(tree, session, code, table, at, w),
-        tag::INTEGER => literal(tree, session, code, w, at, INTEGER_CONSTANT),
+        tag::INTEGER => literal(tree, session, code, w, at, tag::INTEGER_CONST),
         tag::BOOLEAN => boolean(code, w, at, tree[at + 3]),
-        tag::STRING => literal(tree, session, code, w, at, STRING_CONSTANT),
+        tag::STRING => literal(tree, session, code, w, at, tag::STRING_CONST),
         tag::ARRAY => walk_list(tree, session, code, table, at, opcodes::ARRAY, w),
         tag::INDEX => walk_index(tree, session, code, table, at, w),
         tag::HASH => walk_list(tree, session, code, table, at, opcodes::HASH, w),
-        _ => refuse(w, numbers::MACRO, at),
+        _ => refuse(w, number::MACRO, at),
     }
 }
 
@@ -315,7 +308,7 @@ fn walk_call(
     let n = count_fields(tree, args, end);
     let v = walk_expression(tree, session, code, table, at + 3, w);
     if ARGUMENTS_LIMIT < n {
-        refuse(v, numbers::TOO_MANY, at)
+        refuse(v, number::TOO_MANY, at)
     } else {
         let u = walk_expressions(tree, session, code, table, args, end, v);
         emit_any(code, u, at, opcodes::CALL, n)

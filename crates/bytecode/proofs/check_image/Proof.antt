@@ -20,10 +20,10 @@ returns c =
     let check-main = c .before .before .before .before .before .before .before .before .before .check-main in
     let at = c .before .before .before .before .before .before .before .at in
     let check-pool = c .before .before .before .before .before .check-pool in
-    let next = c .before .before .before .next in
+    let constants = c .before .before .before .constants in
     let if1 = c .before .if1 in
     let bad-image3 = c .bad-image3 in
-    image-follows (now (start .args .image)) (check-main .ensures) (at .given .1) (check-pool .ensures) (next .given .1) (if1 .taken) (bad-image3 .ensures)
+    image-follows (now (start .args .image)) (check-main .ensures) (at .given .1) (check-pool .ensures) (constants .given .1) (if1 .taken) (bad-image3 .ensures)
 
 returns-2 : tie.Need-returns-2
 returns-2 c =
@@ -49,9 +49,9 @@ returns-4 c =
     let check-main = c .before .before .before .before .before .before .before .before .check-main in
     let at = c .before .before .before .before .before .before .at in
     let check-pool = c .before .before .before .before .check-pool in
-    let next = c .before .before .next in
+    let constants = c .before .before .constants in
     let if1 = c .if1 in
-    image-ends (now (start .args .image)) (check-main .ensures) (at .given .1) (check-pool .ensures) (next .given .1) (if1 .left)
+    image-ends (now (start .args .image)) (check-main .ensures) (at .given .1) (check-pool .ensures) (constants .given .1) (if1 .left)
 
 pub check-image-spec : {M : Type 1} → statement M
 check-image-spec =

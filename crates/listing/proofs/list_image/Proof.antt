@@ -7,27 +7,27 @@ use Rattle.listing.proofs.list_image.Tie as tie
 
 put-listing-requires : tie.Need-put-listing-requires
 put-listing-requires c κs =
-    let enum-told = c .before .enum-told in
-    let check-image = c .before .before .before .check-image in
-    let start = c .before .before .before .before .before .before in
-    sound-image (now (start .args .image)) (check-image .ensures) (enum-told .given .1)
+    let constants = c .before .before .constants in
+    let check-image = c .before .before .before .before .check-image in
+    let start = c .before .before .before .before .before .before .before in
+    sound-image (now (start .args .image)) (check-image .ensures) (constants .given .1) .0
 
 returns : tie.Need-returns
 returns c =
     let if1 = c .if1 in
     let put-listing = c .before .before .before .put-listing in
-    let enum-told = c .before .before .before .before .before .enum-told in
-    let check-image = c .before .before .before .before .before .before .before .check-image in
-    let start = c .before .before .before .before .before .before .before .before .before .before in
-    let h = sound-image (now (start .args .image)) (check-image .ensures) (enum-told .given .1) in
-    listing-long (now (start .args .image)) (now (start .args .output)) (h .is) (put-listing .ensures (h .image) (h .is)) (put-listing .last .0) (put-listing .kept .0) (if1 .taken)
+    let constants = c .before .before .before .before .before .before .constants in
+    let check-image = c .before .before .before .before .before .before .before .before .check-image in
+    let start = c .before .before .before .before .before .before .before .before .before .before .before in
+    let h = sound-image (now (start .args .image)) (check-image .ensures) (constants .given .1) in
+    listing-long (now (start .args .image)) (now (start .args .output)) (h .0 .is) (put-listing .ensures (h .0 .image) (h .0 .is) (h .1)) (put-listing .last .0) (put-listing .kept .0) (if1 .taken)
 
 put-listing-requires-2 : tie.Need-put-listing-requires-2
 put-listing-requires-2 c κs =
-    let enum-told = c .before .before .before .before .before .before .enum-told in
-    let check-image = c .before .before .before .before .before .before .before .before .check-image in
-    let start = c .before .before .before .before .before .before .before .before .before .before .before in
-    sound-image (now (start .args .image)) (check-image .ensures) (enum-told .given .1)
+    let constants = c .before .before .before .before .before .before .before .constants in
+    let check-image = c .before .before .before .before .before .before .before .before .before .check-image in
+    let start = c .before .before .before .before .before .before .before .before .before .before .before .before in
+    sound-image (now (start .args .image)) (check-image .ensures) (constants .given .1) .0
 
 returns-2 : tie.Need-returns-2
 returns-2 c =
@@ -41,11 +41,11 @@ returns-3 c =
     let put-listing2 = c .before .before .put-listing2 in
     let if1 = c .before .before .before .before .if1 in
     let put-listing = c .before .before .before .before .before .before .before .put-listing in
-    let enum-told = c .before .before .before .before .before .before .before .before .before .enum-told in
-    let check-image = c .before .before .before .before .before .before .before .before .before .before .before .check-image in
-    let start = c .before .before .before .before .before .before .before .before .before .before .before .before .before .before in
-    let h = sound-image (now (start .args .image)) (check-image .ensures) (enum-told .given .1) in
-    listing-written (now (start .args .image)) (now (start .args .output)) (h .is) (put-listing .ensures (h .image) (h .is)) (put-listing .last .0) (put-listing .kept .0) (if1 .left) (put-listing2 .ensures (h .image) (h .is))
+    let constants = c .before .before .before .before .before .before .before .before .before .before .constants in
+    let check-image = c .before .before .before .before .before .before .before .before .before .before .before .before .check-image in
+    let start = c .before .before .before .before .before .before .before .before .before .before .before .before .before .before .before in
+    let h = sound-image (now (start .args .image)) (check-image .ensures) (constants .given .1) in
+    listing-written (now (start .args .image)) (now (start .args .output)) (h .0 .is) (put-listing .ensures (h .0 .image) (h .0 .is) (h .1)) (put-listing .last .0) (put-listing .kept .0) (if1 .left) (put-listing2 .ensures (h .0 .image) (h .0 .is) (h .1))
 
 pub list-image-spec : {M : Type 1} → statement M
 list-image-spec =

@@ -46,11 +46,11 @@ returns c =
     let put-bytes = c .before .before .before .before .before .before .before .before .before .before .before .before .before .before .before .before .before .before .put-bytes in
     let length-at = c .before .before .before .before .before .before .before .before .before .before .before .before .before .before .before .before .before .before .before .before .before .length-at in
     let start = c .before .before .before .before .before .before .before .before .before .before .before .before .before .before .before .before .before .before .before .before .before .before .before .before in
-    λ m i.
+    λ m i n.
     let k = parts (now (start .args .image)) i (length-at .ensures .0) in
     let sized = reworded (put-field .ensures) (ap (λ n. also (decimal n)) (sym (k .size))) in
     let main = both (both (both (put-bytes .ensures) sized) (put-newline .ensures)) (list-code .ensures (m .code) (k .code)) in
-    wider (reworded (both main (list-pool .ensures (m .pool) (k .pool))) (listing-is m)) (omega (arith, k .code .within, k .small))
+    wider (reworded (both main (list-pool .ensures (m .pool) (k .pool) n)) (listing-is m)) (omega (arith, k .code .within, k .small))
 
 pub put-listing-spec : {M : Type 1} → statement M
 put-listing-spec =

@@ -13,16 +13,14 @@ returns c =
     let put-newline = c .before .before .before .before .before .before .put-newline in
     let put-field = c .before .before .before .before .before .before .before .before .before .before .put-field in
     let put-bytes = c .before .before .before .before .before .before .before .before .before .before .before .before .before .before .put-bytes in
-    let count-constants = c .before .before .before .before .before .before .before .before .before .before .before .before .before .before .before .before .before .count-constants in
-    λ cs k.
-    let counted = reworded (put-field .ensures) (ap (λ n. also (decimal n)) (count-constants .ensures cs k)) in
+    λ cs k n.
+    let counted = reworded (put-field .ensures) (ap (λ m. also (decimal m)) n) in
     both (both (both (put-bytes .ensures) counted) (put-newline .ensures)) (list-constants .ensures cs k)
 
 pub list-pool-spec : {M : Type 1} → statement M
 list-pool-spec =
     tie.close
     (tie.spec
-    (λ c κs. search needs)
     (λ c. search needs)
     (λ c κs. search needs)
     (λ c κs. search needs)

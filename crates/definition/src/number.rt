@@ -1,4 +1,16 @@
-// The numbers sent back by the walk.
+// The numbers sent back, as specs/Number.antt has them.
+
+// A work area below its size, or a session below 65,536.
+pub const SHORT_BUFFER: usize = 1;
+
+// The session's layout is broken.
+pub const NO_SESSION: usize = 2;
+
+// The tree's layout is broken.
+pub const BAD_TREE: usize = 3;
+
+// A field at level 65.
+pub const TOO_DEEP: usize = 4;
 
 // An Identifier without symbol.
 pub const UNDEFINED: usize = 5;
@@ -29,3 +41,12 @@ pub const CODE: usize = 13;
 
 // The 17th open function.
 pub const NESTING: usize = 14;
+
+// The result is longer than the output.
+pub const OUTPUT_SHORT: usize = 15;
+
+// An unknown byte or missing operands.
+pub const BAD_INSTRUCTION: usize = 16;
+
+// A wrong field or instruction of an image.
+pub const BAD_IMAGE: usize = 17;

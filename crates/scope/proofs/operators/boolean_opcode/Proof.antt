@@ -1,8 +1,8 @@
 -- The instruction of a boolean, by its byte.
 use mathlib.Core.Path.{refl}
 use borrow.Author.Tests.{eq-eqb, ne-eqb}
-use Rattle.scope.proofs.opcodes.boolean_opcode.Tie as tie
-use Rattle.scope.proofs.opcodes.boolean_opcode.Statement.{statement}
+use Rattle.scope.proofs.operators.boolean_opcode.Tie as tie
+use Rattle.scope.proofs.operators.boolean_opcode.Statement.{statement}
 
 returns : tie.Need-returns
 returns c = (rw (eq-eqb _ _ (c .if1 .taken)), refl)

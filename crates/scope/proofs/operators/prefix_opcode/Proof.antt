@@ -6,8 +6,8 @@ use mathlib.Core.Path.{sym, refl}
 use lib.ListN.{List·getD-eq-default}
 use Rattle.definition.specs.Walk.{prefixes}
 use Rattle.scope.proofs.Tables.{byteOf, opcode-at, alone-at}
-use Rattle.scope.proofs.opcodes.prefix_opcode.Tie as tie
-use Rattle.scope.proofs.opcodes.prefix_opcode.Statement.{statement}
+use Rattle.scope.proofs.operators.prefix_opcode.Tie as tie
+use Rattle.scope.proofs.operators.prefix_opcode.Statement.{statement}
 
 returns : tie.Need-returns
 returns c = (opcode-at (map byteOf prefixes) _ (c .if1 .taken), alone-at (map byteOf prefixes) _ refl (c .if1 .taken))

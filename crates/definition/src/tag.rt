@@ -1,4 +1,4 @@
-// The tags of a tree's fields.
+// The tags of fields, as specs/Tag.antt has them: those of a tree as numbers to go by, those of sessions and images as bytes.
 
 // A tree: statements.
 pub const PROGRAM: usize = 0x10;
@@ -45,3 +45,21 @@ pub const NAME: usize = 0x30;
 pub const PARAMS: usize = 0x31;
 
 pub const OPERATOR: usize = 0x32;
+
+// A name in a session.
+pub const NAME_BYTE: u8 = NAME as u8;
+
+// A session's global names.
+pub const NAMES: u8 = 0x40;
+
+// An image's main code.
+pub const MAIN: u8 = 0x50;
+
+// Constants.
+pub const POOL: u8 = 0x51;
+
+pub const INTEGER_CONST: u8 = 0x60;
+
+pub const STRING_CONST: u8 = 0x61;
+
+pub const FUNCTION_CONST: u8 = 0x62;

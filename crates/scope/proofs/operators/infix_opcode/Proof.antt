@@ -6,8 +6,8 @@ use mathlib.Core.Path.{sym, refl}
 use lib.ListN.{List·getD-eq-default}
 use Rattle.definition.specs.Walk.{infixes}
 use Rattle.scope.proofs.Tables.{byteOf, opcode-at, alone-at}
-use Rattle.scope.proofs.opcodes.infix_opcode.Tie as tie
-use Rattle.scope.proofs.opcodes.infix_opcode.Statement.{statement}
+use Rattle.scope.proofs.operators.infix_opcode.Tie as tie
+use Rattle.scope.proofs.operators.infix_opcode.Statement.{statement}
 
 returns : tie.Need-returns
 returns c = (opcode-at (map byteOf infixes) _ (c .if1 .taken), alone-at (map byteOf infixes) _ refl (c .if1 .taken))

@@ -1,0 +1,35 @@
+-- Numbers that are in a list: of a list that another has, and below a bound.
+use Prim.Native.Nat.{ℕ, _<_}
+use mathlib.Core.Bool.{Bool, true, false}
+use mathlib.Core.List.{List, [], _∷_}
+use mathlib.Core.Path.{_≡_, refl, sym, subst}
+use lib.Dec.{T, eqb, ltb, ltb→lt}
+use borrow.Author.Tests.{eqb-true}
+use Rattle.definition.specs.Basic.{pick, both}
+use Rattle.definition.specs.Number.{isOneOf}
+
+-- a test holds of each number of a list
+abbrev pub each : (ℕ → Bool) → List ℕ → Bool
+each test [] = true
+each test (x ∷ xs) = both (test x) (each test xs)
+
+both-each : (a b : Bool) → T (both a b) → T a × T b
+both-each true b t = (tt, t)
+both-each false b t = absurd t
+
+-- so it holds of a number in the list
+pub of-each : (test : ℕ → Bool) (xs : List ℕ) → T (each test xs) → (n : ℕ) → T (isOneOf xs n) → T (test n)
+of-each test [] h n t = absurd t
+of-each test (x ∷ xs) h n t = go (λ u. of-each test xs (both-each (test x) (each test xs) h .1) n u) (eqb n x) refl t
+  where
+    go : (T (isOneOf xs n) → T (test n)) → (b : Bool) → eqb n x ≡ b → T (pick b true (isOneOf xs n)) → T (test n)
+    go later true e t = subst (λ k. T (test k)) (sym (eqb-true n x e)) (both-each (test x) (each test xs) h .0)
+    go later false e t = later t
+
+-- a list whose numbers another has
+pub among : (xs ys : List ℕ) → T (each (isOneOf ys) xs) → (n : ℕ) → T (isOneOf xs n) → T (isOneOf ys n)
+among xs ys h n t = of-each (isOneOf ys) xs h n t
+
+-- and one whose numbers are below a bound
+pub below : (xs : List ℕ) (bound : ℕ) → T (each (λ x. ltb x bound) xs) → (n : ℕ) → T (isOneOf xs n) → n < bound
+below xs bound h n t = ltb→lt n bound (of-each (λ x. ltb x bound) xs h n t)
