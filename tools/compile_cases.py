@@ -61,18 +61,18 @@ def records(lines):
             out += call(sizes, lend, tree, b"\x00" + word(len(image)) + image)
         elif key == "refused":
             out += call(sizes, lend, tree, bytes([int(values[0])]) + word(int(values[1])))
-        elif key == "session":
+        elif key in ("session", "state"):
             session = expand(values[0])
             out += b"\x04" + word(len(session)) + session
     return out
 
 
 def second(lines):
-    """The second series of each pair: its trees, images and sessions, each after the first one's; none where there are no pairs."""
-    if not any(line.startswith("twin ") for line in lines):
-        return []
-    return [line.removeprefix("twin") if line.startswith(("twinok", "twinsession")) else line.replace("twin ", "tree ")
-            for line in lines if line.split()[0] not in ("tree", "ok", "session")]
+    """The second series of each case that has one: its trees, images and sessions; a refusal is that of both."""
+    starts = [k for k, line in enumerate(lines) if line.startswith("case ")] + [len(lines)]
+    pairs = [lines[a:b] for a, b in zip(starts, starts[1:]) if any(line.startswith("twin ") for line in lines[a:b])]
+    return [line.removeprefix("twin") if line.startswith(("twinok", "twinsession", "twinstate")) else line.replace("twin ", "tree ")
+            for case in pairs for line in case if line.split()[0] not in ("tree", "ok", "session", "state")]
 
 
 def main(cases, data, topics):

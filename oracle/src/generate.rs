@@ -19,6 +19,8 @@ pub struct Style {
     pub operators: usize,
     /// Names of any bytes and up to 33 of them.
     pub odd_names: usize,
+    /// Per mille of the function literals that are no value of a `let` and have a name all the same.
+    pub named: usize,
     pub longest_string: usize,
     pub most_children: usize,
 }
@@ -31,8 +33,8 @@ const MACROS: [usize; 13] = [24, 5, 14, 8, 8, 8, 12, 6, 6, 4, 3, 3, 1];
 
 impl Style {
     fn new(budget: usize, depth: usize, names: usize, weights: [usize; 13]) -> Self {
-        let (undefined, operators, odd_names) = (0, 0, 5);
-        Style { budget, depth, names, weights, undefined, operators, odd_names, longest_string: 12, most_children: 4 }
+        let (undefined, operators, odd_names, named) = (0, 0, 5, 200);
+        Style { budget, depth, names, weights, undefined, operators, odd_names, named, longest_string: 12, most_children: 4 }
     }
 
     /// One of the styles.
@@ -40,10 +42,11 @@ impl Style {
         let small = random.between(2, 60);
         let mut style = match random.below(100) {
             0..=29 => Style::new(small, 12, 6, PLAIN),
-            30..=49 => Style::new(small * 2, 24, random.between(2, 40), CLOSURES),
+            30..=39 => Style::new(small * 2, 24, random.between(2, 40), CLOSURES),
+            40..=49 => Style { named: 700, ..Style::new(small * 2, 24, random.between(2, 12), CLOSURES) },
             50..=59 => Style::new(small, 12, 3, BRANCHES),
             60..=69 => Style::new(small, 10, 4, DATA),
-            70..=76 => Style::new(small, 14, 2, CLOSURES),
+            70..=76 => Style { named: 800, ..Style::new(small, 14, 2, CLOSURES) },
             77..=86 => Style { undefined: 40, operators: 30, ..Style::new(small, 12, 6, MACROS) },
             87..=94 => Style { odd_names: 300, longest_string: 60, ..Style::new(small, 12, 6, PLAIN) },
             95..=97 => Style { most_children: 40, ..Style::new(600, 30, 200, CLOSURES) },
@@ -141,7 +144,7 @@ impl<'a> Grammar<'a> {
     fn function(&mut self, depth: usize, let_name: Option<Vec<u8>>) -> Node {
         let name = match let_name {
             Some(name) if self.random.often(800) => name,
-            _ if self.random.often(200) => self.new_name(),
+            _ if self.random.often(self.style.named) => self.new_name(),
             _ => Vec::new(),
         };
         let mut scope = Vec::new();

@@ -34,6 +34,15 @@ struct Walk<'a> {
     pool: usize,
 }
 
+/// How many bytes the load of a symbol has; its type has no public name.
+fn load_bytes(symbol: &impl std::fmt::Debug) -> usize {
+    match format!("{symbol:?}").split(' ').next() {
+        Some("Global") => 3,
+        Some("Function") => 1,
+        _ => 2,
+    }
+}
+
 /// The offsets of the fields in the content of the field at this offset.
 fn children(tree: &[u8], at: usize) -> Vec<usize> {
     let length = |at: usize| 3 + usize::from(u16::from_be_bytes([tree[at + 1], tree[at + 2]]));
@@ -108,12 +117,7 @@ impl Walk<'_> {
         let table = Rc::clone(&self.table);
         let found = catch_unwind(AssertUnwindSafe(|| table.borrow_mut().resolve(&name)));
         let symbol = found.map_err(|_| (10, at))?.ok_or((5, at))?;
-        let shown = format!("{:?}", symbol.borrow());
-        let bytes = match shown.split(' ').next() {
-            Some("Global") => 3,
-            Some("Function") => 1,
-            _ => 2,
-        };
+        let bytes = load_bytes(&*symbol.borrow());
         self.emit(bytes, Last::Other, at)
     }
 
@@ -180,13 +184,13 @@ impl Walk<'_> {
 
     /// Loads what the closing function captured, adds its constant and emits Closure.
     fn close(&mut self, at: usize) -> Walked {
-        let captured = self.table.borrow().free_symbols.len();
+        let captured: Vec<_> = self.table.borrow().free_symbols.iter().map(|symbol| load_bytes(&*symbol.borrow())).collect();
         let outer = self.table.borrow_mut().outer.take().expect("a function's table");
         self.table = outer;
         let closing = self.chunks.pop().expect("a function's chunk");
         let code = closing.length;
         self.chunks.insert(0, closing);
-        (0..captured).try_for_each(|_| self.emit(2, Last::Other, at))?;
+        captured.into_iter().try_for_each(|bytes| self.emit(bytes, Last::Other, at))?;
         self.add_constant(6 + code, at)?;
         self.chunks.remove(0);
         self.emit(4, Last::Other, at)

@@ -37,7 +37,7 @@ capture-looked n y t ts e = looked-pick (leb freeLimit (length (t .originals))) 
 cross-looked : {k : ℕ} (n : Bytes) (t : Table) {x : Resolved} → Looked k x → Looked (suc k) (cross n t x)
 cross-looked n t (Looked.found {y = Symbol.global k} e) = Looked.found (ap suc e)
 cross-looked n t (Looked.found {y = Symbol.builtin k} e) = Looked.found (ap suc e)
-cross-looked n t (Looked.found {y = Symbol.function} e) = Looked.found (ap suc e)
+cross-looked n t (Looked.found {y = Symbol.function} {ts = ts} e) = capture-looked n Symbol.function t ts e
 cross-looked n t (Looked.found {y = Symbol.local k} {ts = ts} e) = capture-looked n (Symbol.local k) t ts e
 cross-looked n t (Looked.found {y = Symbol.free k} {ts = ts} e) = capture-looked n (Symbol.free k) t ts e
 cross-looked n t Looked.undefined = Looked.undefined

@@ -25,22 +25,19 @@ module _ (n : Bytes) (t : Table) (ts : List Table) (x y : ℕ) where
   far true = refl
   far false = refl
 
-  near : (b : Bool) → cross n t (Resolved.found (pick b (Symbol.local x) (Symbol.free y)) ts) ≡ capture n (pick b (Symbol.local x) (Symbol.free y)) t ts
-  near true = refl
-  near false = refl
+  near : (a b : Bool) → cross n t (Resolved.found (pick a Symbol.function (pick b (Symbol.local x) (Symbol.free y))) ts) ≡ capture n (pick a Symbol.function (pick b (Symbol.local x) (Symbol.free y))) t ts
+  near true b = refl
+  near false true = refl
+  near false false = refl
 
 module _ (n : Bytes) (t : Table) (ts : List Table) (c : ℕ) where
-  function-crosses : c < 256 → cross n t (Resolved.found (symbolOf c) ts) ≡ Resolved.found (symbolOf c) (t ∷ ts)
-  unfolding symbolOf
-  function-crosses h = rw (lt-ltb c 256 h)
-
   far-crosses : 768 ≤ c → cross n t (Resolved.found (symbolOf c) ts) ≡ Resolved.found (symbolOf c) (t ∷ ts)
   unfolding symbolOf
   far-crosses h = rw (le-ltb c 256 (omega arith), le-ltb c 512 (omega arith), le-ltb c 768 h) (far n t ts (c - 768) (c - 1024) (ltb c 1024))
 
-  near-crosses : 256 ≤ c → c < 768 → cross n t (Resolved.found (symbolOf c) ts) ≡ capture n (symbolOf c) t ts
+  near-crosses : c < 768 → cross n t (Resolved.found (symbolOf c) ts) ≡ capture n (symbolOf c) t ts
   unfolding symbolOf
-  near-crosses h k = rw (le-ltb c 256 h, lt-ltb c 768 k) (near n t ts (c - 256) (c - 512) (ltb c 512))
+  near-crosses k = rw (lt-ltb c 768 k) (near n t ts (c - 256) (c - 512) (ltb c 256) (ltb c 512))
 
 originals : (tree : Bytes) (r : List ℕ) → length (tableOf tree r .originals) ≡ getD r 2 0
 unfolding tableOf
@@ -53,23 +50,20 @@ module _ (r : List ℕ) (name hash : ℕ) where
   pub crosses-full : Crosses name hash Full Full r r
   crosses-full = record { resolved = λ tree ts. refl; good = λ tree n g. g }
 
-  pub crosses-function : (c : ℕ) → c < 256 → Crosses name hash (Found c) (Found c) r r
-  crosses-function c h = record { resolved = λ tree ts. sym (function-crosses (content tree name) (tableOf tree r) ts c h); good = λ tree n g. g }
-
   pub crosses-far : (c : ℕ) → 768 ≤ c → Crosses name hash (Found c) (Found c) r r
   crosses-far c h = record { resolved = λ tree ts. sym (far-crosses (content tree name) (tableOf tree r) ts c h); good = λ tree n g. g }
 
-  pub crosses-none : (c : ℕ) → 256 ≤ c → c < 768 → freeLimit ≤ getD r 2 0 → Crosses name hash (Found c) Full r r
-  crosses-none c h k full =
-      record { resolved = λ tree ts. sym (near-crosses (content tree name) (tableOf tree r) ts c h k ∙ rw (originals tree r, le-leb freeLimit (getD r 2 0) full)); good = λ tree n g. g }
+  pub crosses-none : (c : ℕ) → c < 768 → freeLimit ≤ getD r 2 0 → Crosses name hash (Found c) Full r r
+  crosses-none c k full =
+      record { resolved = λ tree ts. sym (near-crosses (content tree name) (tableOf tree r) ts c k ∙ rw (originals tree r, le-leb freeLimit (getD r 2 0) full)); good = λ tree n g. g }
 
-  pub crosses-free : (c : ℕ) → 256 ≤ c → c < 768 → getD r 2 0 < freeLimit → Sized r → name < 32768 → Crosses name hash (Found c) (Found (512 + getD r 2 0)) r (freeIn r name hash c)
-  crosses-free c h k room s below =
+  pub crosses-free : (c : ℕ) → c < 768 → getD r 2 0 < freeLimit → Sized r → name < 32768 → Crosses name hash (Found c) (Found (512 + getD r 2 0)) r (freeIn r name hash c)
+  crosses-free c k room s below =
       record {
         resolved = λ tree ts.
             rw (
               free-table r name hash c s room below tree,
-              near-crosses (content tree name) (tableOf tree r) ts c h k,
+              near-crosses (content tree name) (tableOf tree r) ts c k,
               originals tree r,
               lt-leb freeLimit (getD r 2 0) room,
               symbol-free (getD r 2 0) (omega arith),

@@ -119,7 +119,7 @@ fn capture_in(part: &mut [u32], name: usize, hash: usize, code: u32) -> u32
     FREE + f
 }
 
-// A lookup comes back through a function: a local or a free symbol becomes a free symbol of its own.
+// A lookup comes back through a function: its own name, a local or a free symbol becomes a free symbol there.
 pub fn cross_in(part: &mut [u32], name: usize, hash: usize, outer: Lookup) -> Lookup
     requires { ⌜ Sized (now part) ⌝ }
     requires { ⌜ name < treeLimit ⌝ }
@@ -127,9 +127,6 @@ pub fn cross_in(part: &mut [u32], name: usize, hash: usize, outer: Lookup) -> Lo
 {
     match outer {
         Lookup::Found(code) => {
-            if code < 256 {
-                return Lookup::Found(code);
-            }
             if 768 <= code {
                 return Lookup::Found(code);
             }
