@@ -2,6 +2,8 @@
 use super::Definition;
 use super::Hit;
 use super::Lookup;
+use super::layout::BUILTIN;
+use super::layout::CAPTURES;
 use super::layout::CODE_UNIT;
 use super::layout::CODES;
 use super::layout::ENTRIES_AT;
@@ -127,11 +129,11 @@ pub fn cross_in(part: &mut [u32], name: usize, hash: usize, outer: Lookup) -> Lo
 {
     match outer {
         Lookup::Found(code) => {
-            if 768 <= code {
+            if BUILTIN <= code {
                 return Lookup::Found(code);
             }
             let f = part[2];
-            if 255 <= f {
+            if CAPTURES <= f {
                 return Lookup::Full;
             }
             let free = capture_in(part, name, hash, code);

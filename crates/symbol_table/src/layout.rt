@@ -22,10 +22,12 @@ pub const ORIGINALS_AT: usize = ENTRIES_AT + 1 + LOCALS_LIMIT + FREE_LIMIT;
 
 pub const PART_SIZE: usize = ORIGINALS_AT + FREE_LIMIT;
 
-// The definitions of a session and of a function, as the area counts them.
+// The definitions of a session and of a function, and a function's free symbols, as the area counts them.
 pub const GLOBALS: u32 = limit::GLOBALS_LIMIT as u32;
 
 pub const LOCALS: u32 = limit::LOCALS_LIMIT as u32;
+
+pub const CAPTURES: u32 = limit::FREE_LIMIT as u32;
 
 // The codes of symbols: a function's own name is below LOCAL, a local from there on, and so on.
 pub const FUNCTION: u32 = 0;
