@@ -24,3 +24,4 @@ pub mod Literal
 pub mod Series
 pub mod Values
 pub mod Examples
+pub mod Shapes

@@ -27,7 +27,7 @@ pub data Given : Type 0 where
 abbrev pub image : Bytes → Bytes → Given
 image main pool = bytes (field tagMain main ++ field tagPool pool)
 
-abbrev given : Outcome → Given
+abbrev pub given : Outcome → Given
 given (Outcome.accepted m) = bytes (imageBytes m)
 given (Outcome.refused r) = refused (r .number) (r .place)
 
