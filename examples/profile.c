@@ -48,6 +48,15 @@ static const uint8_t unknown[] = {
         0x20, 0, 1, 'x',     /*     Identifier */
 };
 
+/* if (true) { }: the branch yields no value */
+static const uint8_t empty_branch[] = {
+    0x10, 0, 13,             /* Program */
+      0x11, 0, 10,           /*   ExprStmt */
+        0x23, 0, 7,          /*     If */
+          0x27, 0, 1, 1,     /*       Boolean */
+          0x12, 0, 0,        /*       Block */
+};
+
 static uint8_t session[MONKEY_SESSION_SIZE];
 static uint8_t output[MONKEY_IMAGE_LIMIT];
 static uint8_t code[MONKEY_CODE_SIZE];
@@ -95,6 +104,7 @@ static void show_own(void) {
 
     memcpy(before, session, sizeof session);
     show("unknown", unknown, sizeof unknown);
+    show("empty branch", empty_branch, sizeof empty_branch);
     show("cut", limit, sizeof limit - 1);
     printf("session as it was: %s\n", memcmp(before, session, sizeof session) == 0 ? "yes" : "no");
 

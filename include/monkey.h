@@ -10,7 +10,7 @@
  *
  * Answers
  *   Each function answers one 64-bit number. Where the high half is 0, the low half is a length, of what was written. Otherwise the
- *   call was refused: the high half is the number of the refusal, 1 to 17, the low half its place, an offset.
+ *   call was refused: the high half is the number of the refusal, 1 to 17 or 22, the low half its place, an offset.
  *   monkey_number and monkey_value take the halves. Every call ends with an answer, whatever bytes the buffers hold.
  */
 #ifndef MONKEY_H
@@ -47,11 +47,12 @@ enum monkey_refusal {
     MONKEY_CAPTURES = 10,        /* the 256th free symbol of a function; place: the Identifier */
     MONKEY_GLOBALS = 11,         /* the session's 1,025th definition; place: the Let */
     MONKEY_POOL = 12,            /* a constant would pass 4,096 constants or 28,672 bytes; place: its expression */
-    MONKEY_CODE = 13,            /* open code would pass 32,768 bytes; place: the expression or statement */
+    MONKEY_CODE = 13,            /* open code would pass 32,768 bytes; place: the expression or statement; beside 22 no tree reaches it */
     MONKEY_NESTING = 14,         /* the 17th open function; place: the Function */
     MONKEY_OUTPUT_SHORT = 15,    /* the result is longer than the output */
     MONKEY_BAD_INSTRUCTION = 16, /* an unknown byte or missing operands; none of these functions answers it */
-    MONKEY_BAD_IMAGE = 17        /* place: the offset in the image of its first wrong field or instruction */
+    MONKEY_BAD_IMAGE = 17,       /* place: the offset in the image of its first wrong field or instruction */
+    MONKEY_NO_VALUE = 22         /* a branch that yields no value: it is empty or ends in a let; place: the If */
 };
 
 /* The number of a refusal, 0 where there is none. */
@@ -69,7 +70,7 @@ uint64_t monkey_make_session(uint8_t *session, size_t session_length);
  * Compiles a tree in a session.
  *   Accepted: the answer is the image's length, and the image stands at the front of the output, whose other bytes stay as they were.
  *     The tree's definitions and constants are added to the session, so that the next tree is compiled with them.
- *   Refused, 1 to 15: session and output are as they were. An output of any length is taken; MONKEY_IMAGE_LIMIT bytes are enough for
+ *   Refused, 1 to 15 or 22: session and output are as they were. An output of any length is taken; MONKEY_IMAGE_LIMIT bytes are enough for
  *     every image.
  *   Work areas may hold anything before. They are zero afterwards, over their sizes, after every call but one that is refused 1, which
  *     writes nothing at all.

@@ -23,8 +23,8 @@ uint64_t monkey_compile(uint8_t *session, size_t session_length, const uint8_t *
     case 2: /* a byte of the session's first name */
         if (accepted && tree_length > 40 && session[2]) session[6] ^= 1;
         break;
-    case 3: /* the place of 13 */
-        if (number == 13) answer += 1;
+    case 3: /* the place of 22 */
+        if (number == 22) answer += 1;
         break;
     case 4: /* 9 in place of 10 */
         if (number == 10) answer = ((uint64_t)9 << 32) + low;

@@ -8,7 +8,8 @@ use crate::series::Call;
 
 const HEADER: &str = "\
 # Series over one session, made by `compare cases` (oracle/README.md). Images, sessions and whether a tree is refused are the
-# Rust's; the place of a refusal is not in the Rust: it is the proved compiler's. No limit of the port's own decides here.
+# Rust's; the place of a refusal is not in the Rust: it is the proved compiler's. No limit of the port's own decides here, and of its
+# rules 22 alone: the Rust accepts a branch without a value.
 # Lines: case NAME; for each call tree BYTES, then ok IMAGE or refused NUMBER PLACE; session BYTES (zeros follow); end.
 # Bytes are hexadecimal, - is none, {2900}12. is 2900 twelve times over.
 ";
@@ -71,7 +72,7 @@ fn case(both: &mut Both, name: &str, trees: &[Vec<u8>]) -> Result<Option<Case>, 
                 bytes += length;
                 format!("ok {}", text(both.latest_image()))
             }
-            Answer::Refused(number @ (3 | 5..=10), place) => {
+            Answer::Refused(number @ (3 | 5..=10 | 22), place) => {
                 numbers.push(number);
                 format!("refused {number} {place}")
             }
@@ -98,7 +99,7 @@ fn choices(seed: u64) -> impl Iterator<Item = (String, Vec<Vec<u8>>, usize)> {
 pub fn write(seed: u64, bytes: usize) -> bool {
     let mut both = Both::default();
     let mut out = HEADER.to_string();
-    let mut taken = [0; 11];
+    let mut taken = [0; 23];
     for (name, trees, longest) in choices(seed) {
         let case = match case(&mut both, &format!("compared/{name}"), &trees) {
             Ok(Some(case)) => case,

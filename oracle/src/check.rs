@@ -14,9 +14,9 @@ pub struct Counts {
     pub trees: u64,
     pub accepted: u64,
     /// By number, where the Rust or reading decides.
-    pub refused: [u64; 18],
-    /// By number, where a limit of the port decides.
-    pub limits: [u64; 18],
+    pub refused: [u64; 23],
+    /// By number, where a limit or a rule of the port decides. At 22 the Rust was not run: it accepts branches without a value.
+    pub limits: [u64; 23],
     /// Images checked and listed, sound and damaged ones.
     pub images: u64,
     /// Damaged sessions.
@@ -132,6 +132,11 @@ impl Both {
             return self.unchanged();
         }
         let reading = read::tree(&call.tree);
+        let due = if reading.refused().is_none() { walk::refusal(&self.state, &call.tree) } else { None };
+        if let Some((22, place)) = due {
+            self.limit(answer, 22, place)?;
+            return self.unchanged();
+        }
         let outcome = reference::compile(&self.state, &call.tree);
         if matches!(outcome, Outcome::BadTree) != reading.bad.is_some() {
             return Err("the two readings of the tree differ".into());
@@ -147,7 +152,7 @@ impl Both {
                 self.unchanged()
             }
             (None, outcome) => {
-                self.placed(call, answer)?;
+                self.placed(due, answer)?;
                 self.walked(call, &reading, answer, outcome)
             }
         }
@@ -166,8 +171,8 @@ impl Both {
     }
 
     /// Number and place of the walk's refusal, against the reading in walk.rs.
-    fn placed(&self, call: &Call, answer: Answer) -> Compared {
-        match (walk::refusal(&self.state, &call.tree), answer) {
+    fn placed(&self, due: Option<walk::Refused>, answer: Answer) -> Compared {
+        match (due, answer) {
             (Some((number, place)), _) => self.expect(answer, Answer::Refused(number, place)),
             (None, Answer::Length(_) | Answer::Refused(15, 0)) => Ok(()),
             (None, _) => Err(format!("{answer:?}, but no refusal of the walk is due")),

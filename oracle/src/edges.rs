@@ -36,6 +36,11 @@ fn lets(names: &[Vec<u8>]) -> Vec<Node> {
     names.iter().map(|n| node::let_stmt(n, empty())).collect()
 }
 
+/// A branch that yields a value.
+fn value() -> Vec<Node> {
+    vec![node::expr_stmt(node::boolean(true))]
+}
+
 fn uses(names: &[Vec<u8>]) -> Node {
     node::expr_stmt(node::array(names.iter().map(|n| node::identifier(n)).collect()))
 }
@@ -101,7 +106,7 @@ fn nested(kind: usize, levels: usize) -> Node {
             0 => (node::array(vec![expr]), 1),
             1 => (node::prefix(3, expr), 1),
             2 => (node::index(expr, node::integer(1)), 1),
-            3 => (node::if_expr(expr, Vec::new(), Some(Vec::new())), 1),
+            3 if level > 4 => (node::if_expr(expr, value(), None), 1),
             4 if level + 3 <= levels => (node::if_expr(empty(), vec![node::expr_stmt(expr)], None), 3),
             _ => (node::call(expr, Vec::new()), 1),
         };
@@ -142,34 +147,38 @@ fn constants() -> Vec<Edge> {
     all
 }
 
-/// Elements that together emit just this many bytes, in fewer bytes of tree: chains of 50 branches emit 353 in 303.
-fn emitting(mut bytes: usize) -> Vec<Node> {
-    let mut list = Vec::new();
-    while bytes > 12_000 {
-        let chain = (0..50).fold(empty(), |inner, _| node::if_expr(inner, Vec::new(), None));
-        list.push(chain);
-        bytes -= 353;
-    }
-    list.extend(vec![empty(); bytes / 3]);
-    list.extend(vec![node::boolean(true); bytes % 3]);
-    list
+/// The trees with the most code: arrays in an array. No tree has more than 32,761 bytes of code, so 13 is not reached.
+fn code() -> Vec<Edge> {
+    let arrays = |count| vec![node::expr_stmt(node::array(vec![empty(); count]))];
+    [10_918, 10_919, 10_920].map(|count| counted("arrays in an array", count, 10_919, 3, arrays(count))).to_vec()
 }
 
-fn code() -> Vec<Edge> {
+/// What a branch may be: empty, a definition, a value, a result, each alone or behind another, or in a block.
+fn branches() -> Vec<Edge> {
+    let definition = || node::let_stmt(b"a", empty());
+    let result = || node::return_stmt(empty());
+    let bodies = [
+        (Vec::new(), false),
+        (vec![definition()], false),
+        (value(), true),
+        (vec![result()], true),
+        ([value(), vec![definition()]].concat(), false),
+        (vec![result(), definition()], false),
+        ([vec![definition()], value()].concat(), true),
+        (vec![node::block(Vec::new())], false),
+        (vec![node::block(vec![definition()])], false),
+        (vec![node::block(value())], true),
+        ([value(), vec![node::block(Vec::new())]].concat(), true),
+        (vec![function(&[], vec![definition()])], true),
+    ];
     let mut all = Vec::new();
-    for count in 32_764..=32_772 {
-        let array = node::expr_stmt(node::array(emitting(count - 4)));
-        all.push(counted("code", count, 32_768, 13, vec![array]));
-        let inside = node::function(b"", &[], vec![node::expr_stmt(node::array(emitting(96)))]);
-        let elements = [emitting(count - 100), vec![inside]].concat();
-        all.push(counted("code and an open chunk's", count, 32_768, 13, vec![node::expr_stmt(node::array(elements))]));
-        let definition = node::let_stmt(b"a", node::array(emitting(count - 6)));
-        all.push(counted("code and a definition", count, 32_768, 13, vec![definition]));
-        let result = node::return_stmt(node::array(emitting(count - 4)));
-        all.push(counted("code and a return", count, 32_768, 13, vec![result]));
-        let branch = node::if_expr(empty(), Vec::new(), None);
-        let last = [emitting(count - 14), vec![branch]].concat();
-        all.push(counted("code and a branch", count, 32_768, 13, vec![node::expr_stmt(node::array(last))]));
+    for (n, (body, yields)) in bodies.into_iter().enumerate() {
+        let refused = (!yields).then_some(22);
+        let tree = |e| vec![node::program(vec![node::expr_stmt(node::boolean(true)), node::expr_stmt(e)])];
+        let consequence = node::if_expr(empty(), body.clone(), None);
+        all.push(edge(format!("a consequence of kind {n}"), tree(consequence), refused));
+        let alternative = node::if_expr(empty(), value(), Some(body));
+        all.push(edge(format!("an alternative of kind {n}"), tree(alternative), refused));
     }
     all
 }
@@ -241,11 +250,12 @@ pub fn near(random: &mut Random) -> Node {
         7 => node::block(lets(&names(random.between(1000, 1030)))),
         8 => node::expr_stmt(node::string(&vec![0x61; random.between(28_000, 28_700)])),
         9 => node::expr_stmt(node::array(vec![node::string(b""); random.between(4000, 4100)])),
-        _ => node::expr_stmt(node::array(emitting(random.between(32_500, 32_770)))),
+        _ => node::expr_stmt(node::array(vec![empty(); random.between(10_800, 10_920)])),
     }
 }
 
 /// All edges.
 pub fn all() -> Vec<Edge> {
-    [locals(), captures(), arguments(), levels(), constants(), code(), globals(), nesting(), sizes()].concat()
+    [locals(), captures(), arguments(), levels(), constants(), code(), branches(), globals(), nesting(), sizes()]
+        .concat()
 }

@@ -37,6 +37,11 @@ pub fn strings(step: usize) -> impl Iterator<Item = Vec<u8>> {
     })
 }
 
+/// A branch that yields a value; it is not counted, and neither is a condition that is a literal.
+fn value() -> Vec<Node> {
+    vec![node::expr_stmt(node::boolean(true))]
+}
+
 /// All expressions of just this many statements and expressions.
 fn expressions(size: usize) -> Vec<Node> {
     if size == 0 {
@@ -53,13 +58,13 @@ fn expressions(size: usize) -> Vec<Node> {
         all.push(node::prefix(2, inner.clone()));
         all.push(node::call(inner.clone(), Vec::new()));
         all.push(node::if_expr(inner.clone(), Vec::new(), None));
-        all.push(node::if_expr(inner, Vec::new(), Some(Vec::new())));
+        all.push(node::if_expr(inner, value(), Some(value())));
     }
     for body in lists(size - 1) {
         all.push(node::function(b"", &[], body.clone()));
         all.push(node::function(b"a", &[b"b".to_vec()], body.clone()));
         all.push(node::if_expr(node::boolean(true), body.clone(), None));
-        all.push(node::if_expr(node::boolean(false), Vec::new(), Some(body)));
+        all.push(node::if_expr(node::boolean(false), value(), Some(body)));
     }
     for left in 1..size - 1 {
         for (a, b) in

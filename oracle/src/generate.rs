@@ -122,6 +122,16 @@ impl<'a> Grammar<'a> {
         list
     }
 
+    /// The statements of a branch, most often with a value at their end.
+    fn branch(&mut self, depth: usize) -> Vec<Node> {
+        let mut list = self.statements(depth);
+        let yields = list.last().is_some_and(|last| matches!(last.tag, 0x11 | 0x14));
+        if !yields && self.random.often(970) {
+            list.push(node::expr_stmt(self.leaf()));
+        }
+        list
+    }
+
     fn statement(&mut self, depth: usize) -> Node {
         self.left = self.left.saturating_sub(1);
         match self.random.below(20) {
@@ -218,8 +228,8 @@ impl<'a> Grammar<'a> {
                 node::infix(left, self.operator(&[1, 2, 4, 5, 6, 7, 8, 9]), self.expression(d))
             }
             0x23 => {
-                let (condition, consequence) = (self.expression(d), self.statements(d + 1));
-                let alternative = self.random.often(500).then(|| self.statements(d + 1));
+                let (condition, consequence) = (self.expression(d), self.branch(d + 1));
+                let alternative = self.random.often(500).then(|| self.branch(d + 1));
                 node::if_expr(condition, consequence, alternative)
             }
             0x24 => self.function(d, None),

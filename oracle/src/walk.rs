@@ -1,5 +1,5 @@
-//! Numbers 5 to 14 with their places: document 01 read once more, over the Rust's own symbol table. No code is made here,
-//! only counted.
+//! Numbers 5 to 14 and 22 with their places: documents 01 and 02 read once more, over the Rust's own symbol table. No code is
+//! made here, only counted.
 use std::cell::RefCell;
 use std::panic::{catch_unwind, AssertUnwindSafe};
 use std::rc::Rc;
@@ -79,11 +79,20 @@ impl Walk<'_> {
         Ok(())
     }
 
-    fn drop_pop(&mut self) {
+    /// A branch of the If at this place: its Block, which must emit something and end in Pop or ReturnValue; then without its Pop.
+    fn branch(&mut self, block: usize, at: usize) -> Walked {
+        let before = self.chunk().length;
+        self.field(block)?;
         let chunk = self.chunk();
-        if chunk.last == Last::Pop {
-            (chunk.length, chunk.last) = (chunk.length - 1, Last::Other);
+        if chunk.length == before {
+            return Err((22, at));
         }
+        match chunk.last {
+            Last::Pop => (chunk.length, chunk.last) = (chunk.length - 1, Last::Other),
+            Last::ReturnValue => {}
+            Last::Other => return Err((22, at)),
+        }
+        Ok(())
     }
 
     fn add_constant(&mut self, bytes: usize, place: usize) -> Walked {
@@ -146,15 +155,10 @@ impl Walk<'_> {
         let list = children(self.tree, at);
         self.field(list[0])?;
         self.emit(3, Last::Other, at)?;
-        self.field(list[1])?;
-        self.drop_pop();
+        self.branch(list[1], at)?;
         self.emit(3, Last::Other, at)?;
         match list.get(2) {
-            Some(alternative) => {
-                self.field(*alternative)?;
-                self.drop_pop();
-                Ok(())
-            }
+            Some(alternative) => self.branch(*alternative, at),
             None => self.emit(1, Last::Other, at),
         }
     }

@@ -21,7 +21,8 @@ fn print_walk_word(number: usize) -> bool {
         number::GLOBALS => io::write_all(STDERR_FILENO, b"too many globals"),
         number::POOL => io::write_all(STDERR_FILENO, b"pool full"),
         number::CODE => io::write_all(STDERR_FILENO, b"code full"),
-        _ => io::write_all(STDERR_FILENO, b"functions nested too deep"),
+        number::NESTING => io::write_all(STDERR_FILENO, b"functions nested too deep"),
+        _ => io::write_all(STDERR_FILENO, b"branch without a value"),
     }
 }
 

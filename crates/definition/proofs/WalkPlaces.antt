@@ -156,7 +156,7 @@ module _ {bound p : ℕ} (h : p ≤ bound) where
 
   drops : (s : State) → Refuses bound (dropped p s)
   unfolding dropped
-  drops s = refuses-pick (lastIs opPop (s .code)) Refuses.on Refuses.on
+  drops s = refuses-pick (lastIs opPop (s .code)) Refuses.on (refuses-pick (lastIs opReturnValue (s .code)) Refuses.on (refuses-at tt h))
 
   loads-all : (d : ℕ) (ys : List Symbol) (s : State) → Refuses bound (loads d p ys s)
   unfolding loads

@@ -80,9 +80,11 @@ abbrev pub withoutLast : Code → Code
 withoutLast [] = []
 withoutLast (i ∷ is) = is
 
--- a branch's last Pop is dropped
+-- a branch's last Pop is dropped, a last ReturnValue stays; a branch with neither yields no value (behind an empty one, its jump is last)
 unfoldable pub dropped : ℕ → Go State
-dropped p s = pick (lastIs opPop (s .code)) (on tt (withCode (withoutLast (s .code)) s)) (on tt s)
+dropped p s =
+    pick (lastIs opPop (s .code)) (on tt (withCode (withoutLast (s .code)) s))
+    (pick (lastIs opReturnValue (s .code)) (on tt s) (refuse Number.noValue p s))
 
 -- the target of a jump that is not yet patched
 abbrev pub unpatched : ℕ

@@ -77,6 +77,10 @@ badInstruction = 16
 abbrev pub badImage : ℕ
 badImage = 17
 
+-- a branch of an If that yields no value
+abbrev pub noValue : ℕ
+noValue = 22
+
 -- a number is in a list
 abbrev pub isOneOf : List ℕ → ℕ → Bool
 isOneOf [] n = false
@@ -88,7 +92,7 @@ treeNumbers = badTree ∷ tooDeep ∷ []
 
 -- the numbers of the walk
 abbrev pub walkNumbers : List ℕ
-walkNumbers = undefined ∷ operator ∷ macro ∷ tooMany ∷ locals ∷ captures ∷ globals ∷ pool ∷ code ∷ nesting ∷ []
+walkNumbers = undefined ∷ operator ∷ macro ∷ tooMany ∷ locals ∷ captures ∷ globals ∷ pool ∷ code ∷ nesting ∷ noValue ∷ []
 
 abbrev pub walkNumber : ℕ → Bool
 walkNumber n = isOneOf walkNumbers n

@@ -50,3 +50,6 @@ pub const BAD_INSTRUCTION: usize = 16;
 
 // A wrong field or instruction of an image.
 pub const BAD_IMAGE: usize = 17;
+
+// A branch of an If that yields no value.
+pub const NO_VALUE: usize = 22;

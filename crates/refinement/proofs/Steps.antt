@@ -8,7 +8,7 @@ use lib.ListN.{length}
 use lib.Dec.{T}
 use Rattle.definition.specs.Basic.{Bytes, pick}
 use Rattle.definition.specs.Limit.{codeSize}
-use Rattle.definition.specs.Opcode.{Instr, instr, size, opConstant, opPop, opJumpNotTruthy, opJump}
+use Rattle.definition.specs.Opcode.{Instr, instr, size, opConstant, opPop, opJumpNotTruthy, opJump, opReturnValue}
 use Rattle.definition.specs.Bytecode.{Code, Const, sizeOf, content, tagOf}
 use Rattle.definition.specs.Session.{Session}
 use Rattle.definition.specs.Valid.{All, ValidInstr, ValidSession}
@@ -155,11 +155,12 @@ module _ {z : Session} {e : Bytes} {n : ℕ} where
   patch-droppable {s = s} j h d =
       record { refines = patch-refines j h (d .refines); prev = rw (patch-fits (d .refines .code) j h) (d .prev ∙ sym (prev-changed j _ (s .code))) }
 
-  -- a last Pop that is dropped
+  -- a branch's end
   pub drop-refines : {w : Context} {s : State} {v : View} → Droppable z e n w s v → (p : ℕ) → Both (λ _. Stopped z e n) (λ (_ : Unit {0}). Refines z e n w) (Structured.dropped p s) (Machine.dropped p v)
   unfolding Structured.dropped Machine.dropped
   drop-refines {w} {s} {v} d p =
       let r = d .refines in
       forked (Both (λ _. Stopped z e n) (λ (_ : Unit {0}). Refines z e n w)) (Structured.lastIs opPop (s .code)) (lastIs opPop (v .code) (v .state .chunk)) (last-is (r .code) opPop)
       (λ t. Both.on tt (record { code = drop-coded (r .code) (d .prev); pool = r .pool; symbols = r .symbols; globals = r .globals; level = r .level; depth = r .depth; pending = still (Jumps.less (s .code) t) (r .pending) }))
-      (λ _. Both.on tt r)
+      (λ _. forked (Both (λ _. Stopped z e n) (λ (_ : Unit {0}). Refines z e n w)) (Structured.lastIs opReturnValue (s .code)) (lastIs opReturnValue (v .code) (v .state .chunk)) (last-is (r .code) opReturnValue)
+      (λ _. Both.on tt r) (λ _. Both.stop _ tt (halted r)))

@@ -310,6 +310,7 @@ fn main() {
     run_topic(b"wrong-turns");
     run_topic(b"symbols");
     run_topic(b"enclosing-names");
+    run_topic(b"branches");
     run_topic(b"operators");
     run_topic(b"series");
     run_topic(b"output-short");

@@ -111,7 +111,7 @@ module _ (at : ℕ) {c : Bytes} {w : Walked} {s : State} (q : w ≡ On s) (h : R
       go true t = patch-on (ltb-true (s .chunk .start + at + 2) codeSize t) (d .code ∙ rw t)
       go false t = rw (d .code, t) (patch-past (ltb-false (s .chunk .start + at + 2) codeSize t))
 
--- A last Pop that is dropped, or not there
+-- A last Pop, or none
 module _ {c : Bytes} {w : Walked} {s : State} {b : Bool} (q : w ≡ On s) (h : Ready c w) (l : b ≡ lastIs opPop c (s .chunk)) where
   -- it is dropped
   pub drop-on : (p : ℕ) {s′ : State} → b ≡ true → s′ ≡ withoutLast s → Done c c w (On s′) (dropped p)
@@ -125,11 +125,6 @@ module _ {c : Bytes} {w : Walked} {s : State} {b : Bool} (q : w ≡ On s) (h : R
         same = refl;
       })
 
-  -- the chunk stays as it is
-  pub drop-none : (p : ℕ) → b ≡ false → Done c c w (On s) (dropped p)
-  unfolding dropped
-  drop-none p t = let g = fits q h in rw q (record { step = λ e y. rw (sym l ∙ t); ready = record { area = h .area; sound = g }; same = refl })
-
   -- the same Pop, at a function's end
   pub return-pop : (p : ℕ) → b ≡ true → Done c (set c (s .chunk .start + s .chunk .last) opReturnValue) w (On s) (returned p)
   unfolding returned
@@ -141,6 +136,16 @@ module _ {c : Bytes} {w : Walked} {s : State} {b : Bool} (q : w ≡ On s) (h : R
     pub return-value : b′ ≡ true → Done c c w (On s) (returned p)
     unfolding returned
     return-value t = let g = fits q h in rw q (record { step = λ e y. rw (sym l ∙ n, sym l′ ∙ t); ready = record { area = h .area; sound = g }; same = refl })
+
+    -- and stays at a branch's end
+    pub drop-value : b′ ≡ true → Done c c w (On s) (dropped p)
+    unfolding dropped
+    drop-value t = let g = fits q h in rw q (record { step = λ e y. rw (sym l ∙ n, sym l′ ∙ t); ready = record { area = h .area; sound = g }; same = refl })
+
+    -- neither is last: a branch yields no value
+    pub drop-refused : {r : Walked} → b′ ≡ false → Refuses (On s) r Number.noValue p → Done c c w r (dropped p)
+    unfolding dropped
+    drop-refused t f = rw q (refused (ready-on q h) f (λ e y. rw (sym l ∙ n, sym l′ ∙ t)))
 
     -- Return follows
     pub return-more : {c′ : Bytes} {r : Walked} → b′ ≡ false → Done c c′ (On s) r (emit p (plain opReturn)) → Done c c′ w r (returned p)

@@ -57,9 +57,11 @@ lastIs o c k = both (ltb (k .last) (k .len)) (eqb (byteAt c (k .start + k .last)
 abbrev pub withoutLast : State → State
 withoutLast s = withChunk (chunk (s .chunk .start) (s .chunk .last) (s .chunk .prev) (s .chunk .prev)) s
 
--- a branch's last Pop is dropped
+-- a branch's last Pop is dropped, a last ReturnValue stays; a branch with neither yields no value
 unfoldable pub dropped : ℕ → Go View
-dropped p v = pick (lastIs opPop (v .code) (v .state .chunk)) (on tt (view (v .code) (v .session) (v .symbols) (withoutLast (v .state)))) (on tt v)
+dropped p v =
+    pick (lastIs opPop (v .code) (v .state .chunk)) (on tt (view (v .code) (v .session) (v .symbols) (withoutLast (v .state))))
+    (pick (lastIs opReturnValue (v .code) (v .state .chunk)) (on tt v) (refuse Number.noValue p v))
 
 -- the last Pop becomes ReturnValue; where ReturnValue isn't last, Return follows
 unfoldable pub returned : ℕ → Go View

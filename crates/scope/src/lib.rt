@@ -246,7 +246,7 @@ pub fn jump_and_patch(code: &mut [u8], w: Walked, place: usize, at: usize) -> Ju
     }
 }
 
-// Drops the last Pop of a branch of the if at a place.
+// Ends a branch of the if at a place: its last Pop is dropped, a last ReturnValue stays; without either it yields no value.
 pub fn drop_pop(code: &mut [u8], w: Walked, place: usize) -> Walked
     requires { ⌜ Ready (now code) w ⌝ }
     ensures { λ r. ⌜ Done (now (code .entry)) (now (code .exit)) w r (Machine.dropped place) ⌝ }
@@ -257,7 +257,10 @@ pub fn drop_pop(code: &mut [u8], w: Walked, place: usize) -> Walked
             if last_is(code, c, opcodes::POP) {
                 return Walked::On(without_last(s));
             }
-            w
+            if last_is(code, c, opcodes::RETURN_VALUE) {
+                return w;
+            }
+            refuse(w, number::NO_VALUE, place)
         }
         Walked::Stop(r, s) => w,
     }

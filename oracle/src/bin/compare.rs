@@ -127,8 +127,10 @@ impl Run {
             some.map(|(number, n)| format!("{number} {n}")).collect::<Vec<_>>().join(", ")
         };
         println!(
-            "compared {} trees: accepted {}, refused {}; own limits {}; images listed {}; damaged sessions {}; pairs {}; differ {}",
+            "compared {} trees, {} with the Rust and {} refused 22 without it: accepted {}, refused {}; own limits {}; images listed {}; damaged sessions {}; pairs {}; differ {}",
             counts.trees,
+            counts.trees - counts.limits[22],
+            counts.limits[22],
             counts.accepted,
             listed(&counts.refused),
             listed(&counts.limits),
