@@ -1,3 +1,4 @@
 pub mod Put
 pub mod Reads
 pub mod Measured
+pub mod CheckThenList

@@ -5,7 +5,7 @@ use field::word;
 ghost use mathlib.Core.Path.{_≡_};
 ghost use Prim.Native.Nat.{_+_, _*_, _≤_, _<_};
 ghost use lib.ListN.{length};
-ghost use Rattle.definition.specs.Basic.{byteAt};
+ghost use Rattle.definition.specs.Basic.{Bytes, byteAt};
 ghost use Rattle.definition.specs.Opcode.{instrAt};
 ghost use Rattle.definition.specs.Field.{bytes};
 ghost use Rattle.definition.specs.Text.{decimal, padded, signed};
@@ -17,7 +17,36 @@ ghost use Rattle.listing.specs.Measured.{AreLengths, InstrAt, operandsOf
 
 // The length of the word of each instruction byte.
 pub const WORD_LENGTHS: [u8; 30] = [
-    8, 3, 3, 3, 3, 3, 4, 5, 5, 8, 11, 5, 4, 13, 4, 4, 9, 9, 5, 4, 5, 4, 11, 6, 8, 8, 10, 7, 7, 14,
+    8,
+    3,
+    3,
+    3,
+    3,
+    3,
+    4,
+    5,
+    5,
+    8,
+    11,
+    5,
+    4,
+    13,
+    4,
+    4,
+    9,
+    9,
+    5,
+    4,
+    5,
+    4,
+    11,
+    6,
+    8,
+    8,
+    10,
+    7,
+    7,
+    14,
 ];
 
 // How many digits a number has in decimal.
