@@ -1,5 +1,5 @@
 /*
- * Compiles profiles in one session, checks and lists their images, and shows refusals: two profiles and damaged ones of its own, or the
+ * Compiles profiles in one session, checks and lists their images in one call, and shows refusals: two profiles and damaged ones of its own, or the
  * trees in the files that it is given. examples/run compares what it prints.
  */
 #include <stdio.h>
@@ -72,7 +72,7 @@ static void print_answer(const char *what, uint64_t answer) {
     }
 }
 
-/* Lists an image. */
+/* Checks and lists an image. */
 static void list(const uint8_t *image, size_t length) {
     uint64_t answer = monkey_list_image(image, length, text, sizeof text);
     print_answer("listing", answer);
@@ -90,9 +90,14 @@ static void show(const char *what, const uint8_t *tree, size_t length) {
     uint64_t answer = compile(tree, length);
     print_answer(what, answer);
     if (monkey_number(answer) == 0) {
-        print_answer("image", monkey_check_image(output, monkey_value(answer)));
         list(output, monkey_value(answer));
     }
+}
+
+/* Checks an image alone: an empty output, into which no listing fits. */
+static void check(const uint8_t *image, size_t length) {
+    print_answer("check", monkey_list_image(image, length, text, 0));
+    printf("sound: %s\n", monkey_image_is_sound(image, length) ? "yes" : "no");
 }
 
 /* The profiles of this file, and what is refused. */
@@ -109,8 +114,9 @@ static void show_own(void) {
     printf("session as it was: %s\n", memcmp(before, session, sizeof session) == 0 ? "yes" : "no");
 
     print_answer("listing too long", monkey_list_image(output, 68, text, 10));
+    check(output, 68);
     output[7] = 0xff; /* where limit's image has its second instruction */
-    print_answer("damaged image", monkey_check_image(output, 68));
+    check(output, 68);
     list(output, 68);
 }
 

@@ -82,16 +82,21 @@ uint64_t monkey_compile(uint8_t *session, size_t session_length,
                         uint32_t *table, size_t table_length);
 
 /*
- * Checks an image: 0 where it is sound, or 17 and the place. The length is the image's own: bytes that follow it are refused.
- */
-uint64_t monkey_check_image(const uint8_t *image, size_t image_length);
-
-/*
- * Lists an image as text: the answer is the listing's length, and the text stands at the front of the output, each line ended by 0A and no
- * 0 behind the last. The other bytes of the output stay as they were.
- *   Refused, and the output is as it was: 17 as by monkey_check_image; then 15, where the listing is longer than the output.
+ * Checks an image and lists it as text: the answer is the listing's length, and the text stands at the front of the output, each line ended by 0A
+ * and no 0 behind the last. The other bytes of the output stay as they were.
+ *   Refused, and the output is as it was: 17 and the place, where the image is wrong, whose length is its own (bytes that follow it are
+ *     refused); then 15, where the listing is longer than the output.
+ *   The check alone: an empty output. No listing fits there, so that a sound image answers 15, and any other its 17. No image answers 0 there.
  */
 uint64_t monkey_list_image(const uint8_t *image, size_t image_length, uint8_t *output, size_t output_length);
+
+/*
+ * Whether an image is sound: 1 or 0. (monkey_check_image, which answered 0 for a sound image, is gone: what still calls it does not link.)
+ */
+static inline int monkey_image_is_sound(const uint8_t *image, size_t image_length) {
+    uint8_t none;
+    return monkey_number(monkey_list_image(image, image_length, &none, 0)) == MONKEY_OUTPUT_SHORT;
+}
 
 #ifdef __cplusplus
 }

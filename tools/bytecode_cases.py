@@ -3,7 +3,7 @@
 
 usage: bytecode_cases.py CASES CRATE
 
-CASES is the folder of image17.txt, instruction16.txt, listing.txt and session-broken.txt. Each question goes to data/cases as it stands
+CASES is the folder of image17.txt, instruction16.txt, listing.txt, check-and-list.txt and session-broken.txt. Each question goes to data/cases as it stands
 there, but that the length of a listing's output stands in three bytes before its image. Its answer goes to stdout: of a session only whether
 its layout is sound, and a listing as text behind its answer.
 """
@@ -11,7 +11,7 @@ import sys
 
 folder, crate = sys.argv[1], sys.argv[2] + "/"
 questions, answers = [], []
-for topic, word in ("instruction16", "decode"), ("image17", "image"), ("listing", "list"), ("session-broken", "start"):
+for topic, word in ("instruction16", "decode"), ("image17", "image"), ("listing", "list"), ("check-and-list", "list"), ("session-broken", "start"):
     asked = False
     for line in open(f"{folder}/{topic}.txt"):
         first = line.split(" ")[0].strip()

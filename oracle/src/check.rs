@@ -324,7 +324,7 @@ impl Both {
 
     /// The image check and the listing, on the image and on a damaged copy of it.
     fn image(&mut self, mut image: Vec<u8>) -> Compared {
-        self.expect(port::check_image(&image), Answer::Length(0))?;
+        self.expect(port::check_image(&image), port::SOUND)?;
         if image.len() > 600 {
             return Ok(());
         }
@@ -342,7 +342,7 @@ impl Both {
     /// The image check and the listing of one image, now and then into too short an output.
     fn listed(&mut self, image: &[u8]) -> Compared {
         let (checked, listed) = match listing::listing(image) {
-            Ok(text) => (Answer::Length(0), text.into_bytes()),
+            Ok(text) => (port::SOUND, text.into_bytes()),
             Err(image::Wrong(place)) => (Answer::Refused(17, place), Vec::new()),
         };
         self.counts.images += 1;
@@ -350,11 +350,7 @@ impl Both {
         let short = self.damage.often(100) && !listed.is_empty();
         let mut output = vec![0xA5; if short { self.damage.below(listed.len()) } else { listed.len() + 8 }];
         let answer = port::list_image(image, &mut output);
-        let due = match checked {
-            Answer::Length(_) if short => Answer::Refused(15, 0),
-            Answer::Length(_) => Answer::Length(listed.len()),
-            refused => refused,
-        };
+        let due = if checked == port::SOUND && !short { Answer::Length(listed.len()) } else { checked };
         self.expect(answer, due)?;
         let written = if let Answer::Length(length) = due { length } else { 0 };
         if output[..written] != listed[..written] || output[written..].iter().any(|b| *b != 0xA5) {

@@ -9,8 +9,6 @@ use lib.ListN.{length}
 use borrow.Author.Tests.{eq-eqb, ne-eqb, eqb-true}
 use Rattle.definition.specs.Basic.{pick}
 use Rattle.definition.specs.Decode.{Decoded, decoded, malformed, then, items}
-use Rattle.bytecode.specs.declared.Checked.the-variants.{Good, Wrong}
-use Rattle.bytecode.specs.Checked.{checked}
 
 -- what was read is not wrong
 pub unlike : {A : Type 0} {p n : ℕ} {x : A} → _≡_ {A = Decoded A} (malformed p) (decoded x n) → ⊥
@@ -34,33 +32,31 @@ module _ {A : Type 0} (f : ℕ → ℕ → Decoded A) (end : ℕ) where
   unfolding items
   one-more rest xs at n = rw (ne-eqb at end n)
 
-  -- the loop stands at an offset, after so many items
-  pub record Reading (most start at count : ℕ) : Type 0 where
+  -- the loop stands at an offset, behind some items
+  pub record Reading (most start at : ℕ) (xs : List A) : Type 0 where
     pub rest : ℕ
-    pub xs : List A
-    pub counted : length xs ≡ count
-    pub left : count + rest ≡ most
+    pub left : length xs + rest ≡ most
     pub same : items f most [] start end ≡ items f rest xs at end
 
-  pub begin : (most start : ℕ) → Reading most start start 0
-  begin most start = record { rest = most; xs = []; counted = refl; left = omega arith; same = refl }
+  pub begin : (most start : ℕ) → Reading most start start []
+  begin most start = record { rest = most; left = omega arith; same = refl }
 
-  module _ {most start at count : ℕ} (r : Reading most start at count) where
-    pub ends : at ≡ end → Good count at ≡ checked (items f most [] start end)
-    ends e = sym (ap checked (r .same ∙ at-end (r .rest) (r .xs) at e) ∙ ap (λ (n : ℕ). Good n at) (r .counted))
+  module _ {most start at : ℕ} {xs : List A} (r : Reading most start at xs) where
+    pub ends : at ≡ end → items f most [] start end ≡ decoded xs at
+    ends e = r .same ∙ at-end (r .rest) xs at e
 
-    pub full : (at ≡ end → ⊥) → count ≡ most → Wrong at ≡ checked (items f most [] start end)
+    pub full : (at ≡ end → ⊥) → length xs ≡ most → items f most [] start end ≡ malformed at
     full n e =
         let z : r .rest ≡ 0 = omega (arith, r .left) in
-        sym (ap checked (r .same ∙ ap (λ (k : ℕ). items f k (r .xs) at end) z ∙ too-many (r .xs) at n))
+        r .same ∙ ap (λ (k : ℕ). items f k xs at end) z ∙ too-many xs at n
 
     -- the next item decides, where one may follow
     record Next : Type 0 where
       fewer : ℕ
-      left : count + 1 + fewer ≡ most
-      decides : items f most [] start end ≡ then (f at end) (λ x at₁. items f fewer (x ∷ r .xs) at₁ end)
+      left : length xs + 1 + fewer ≡ most
+      decides : items f most [] start end ≡ then (f at end) (λ x at₁. items f fewer (x ∷ xs) at₁ end)
 
-    next : (at ≡ end → ⊥) → count < most → Next
+    next : (at ≡ end → ⊥) → length xs < most → Next
     next n h = go (r .rest) refl
       where
         go : (m : ℕ) → r .rest ≡ m → Next
@@ -69,23 +65,21 @@ module _ {A : Type 0} (f : ℕ → ℕ → Decoded A) (end : ℕ) where
             record {
               fewer = k;
               left = omega (arith, r .left);
-              decides = r .same ∙ ap (λ (m : ℕ). items f m (r .xs) at end) e ∙ one-more k (r .xs) at n;
+              decides = r .same ∙ ap (λ (m : ℕ). items f m xs at end) e ∙ one-more k xs at n;
             }
 
-    pub wrong : {p : ℕ} → (at ≡ end → ⊥) → count < most → f at end ≡ malformed p → Wrong p ≡ checked (items f most [] start end)
+    pub wrong : {p : ℕ} → (at ≡ end → ⊥) → length xs < most → f at end ≡ malformed p → items f most [] start end ≡ malformed p
     wrong n h e =
         let k = next n h in
-        sym (ap checked (k .decides ∙ ap (λ (d : Decoded A). then d (λ x at₁. items f (k .fewer) (x ∷ r .xs) at₁ end)) e))
+        k .decides ∙ ap (λ (d : Decoded A). then d (λ x at₁. items f (k .fewer) (x ∷ xs) at₁ end)) e
 
-    pub again : {x : A} {at₁ : ℕ} → (at ≡ end → ⊥) → count < most → f at end ≡ decoded x at₁ → Reading most start at₁ (count + 1)
+    pub again : {x : A} {at₁ : ℕ} → (at ≡ end → ⊥) → length xs < most → f at end ≡ decoded x at₁ → Reading most start at₁ (x ∷ xs)
     again {x} {at₁} n h e =
         let k = next n h in
         record {
           rest = k .fewer;
-          xs = x ∷ r .xs;
-          counted = omega (arith, r .counted);
-          left = k .left;
-          same = k .decides ∙ ap (λ (d : Decoded A). then d (λ y at₂. items f (k .fewer) (y ∷ r .xs) at₂ end)) e;
+          left = omega (arith, k .left);
+          same = k .decides ∙ ap (λ (d : Decoded A). then d (λ y at₂. items f (k .fewer) (y ∷ xs) at₂ end)) e;
         }
 
 -- items that were read go up to the end, and are as many as may be at most

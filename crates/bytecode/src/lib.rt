@@ -52,7 +52,7 @@ pub enum Layout {
 }
 
 // The head of the field at `at`, if the field stands whole before `end`.
-fn head_at(bytes: &[u8], at: usize, end: usize) -> FieldHead
+pub fn head_at(bytes: &[u8], at: usize, end: usize) -> FieldHead
     requires { ⌜ Part (now bytes) at end ⌝ }
     ensures { λ r. ⌜ r ≡ headAnswer (byteAt (now (bytes .entry))) at end ⌝ }
 {
@@ -86,7 +86,7 @@ fn check_code(bytes: &[u8], start: usize, end: usize) -> Checked
 }
 
 // Whether a head is a constant's.
-fn constant_head(tag: u8, len: usize) -> bool
+pub fn constant_head(tag: u8, len: usize) -> bool
     ensures { λ r. ⌜ r ≡ isConstant (headOf tag len) ⌝ }
 {
     if tag == tag::INTEGER_CONST {
@@ -146,7 +146,7 @@ pub fn check_constants(bytes: &[u8], start: usize, end: usize) -> Checked
 }
 
 // Whether a head is a pool's.
-fn pool_head(tag: u8, len: usize) -> bool
+pub fn pool_head(tag: u8, len: usize) -> bool
     ensures { λ r. ⌜ r ≡ isPool (headOf tag len) ⌝ }
 {
     if tag != tag::POOL {
@@ -172,7 +172,7 @@ fn check_pool(bytes: &[u8], at: usize, end: usize) -> Checked
 }
 
 // Whether a head is that of an image's main code.
-fn main_head(tag: u8, len: usize) -> bool
+pub fn main_head(tag: u8, len: usize) -> bool
     ensures { λ r. ⌜ r ≡ isMain (headOf tag len) ⌝ }
 {
     if tag != tag::MAIN {

@@ -1,15 +1,14 @@
 -- Every answer fits its two halves, and its number has them.
 use Prim.Native.Nat.{ℕ, _+_, _*_, _≤_, _<_}
 use native.Mathlib.Omega.{arith}
-use mathlib.Core.Path.{_≡_, refl, sym, ap, subst}
+use mathlib.Core.Path.{_≡_, sym, ap, subst}
 use mathlib.Core.List.{List}
 use lib.Dec.{T, ltb}
 use lib.ListN.{take}
 use Rattle.definition.specs.Basic.{Bytes}
-use Rattle.definition.specs.Limit.{sessionSize, imageLimit}
+use Rattle.definition.specs.Limit.{sessionSize}
 use Rattle.definition.specs.Number.{callNumbers, makeNumbers, listNumbers}
-use Rattle.definition.specs.Bytecode.{Image}
-use Rattle.definition.specs.Decode.{Decoded, decoded, malformed, readImage}
+use Rattle.definition.specs.Decode.{readImage}
 use Rattle.definition.specs.Call.{Lent, call, made}
 use Rattle.definition.specs.Listing.{listAnswer}
 use Rattle.definition.specs.Valid.{AreBytes}
@@ -18,10 +17,8 @@ use Rattle.definition.specs.declared.Answer.{Answer}
 use Rattle.definition.specs.declared.Answer.the-variants.{Length, Refused}
 use Rattle.definition.proofs.Numbers.{each, below}
 use Rattle.definition.proofs.Places.{Within, made-within, call-within-limit}
-use Rattle.definition.proofs.ImagePlaces.{image-place}
 use Rattle.definition.proofs.ListingLength.{list-within}
-use Rattle.bytecode.specs.Checked.{imageAnswer}
-use Rattle.capi.specs.Packed.{halfBound, packed, Fits, Packs, checkAnswer}
+use Rattle.capi.specs.Packed.{halfBound, packed, Fits, Packs}
 
 -- the halves of a number whose halves fit
 pub packs : {a : Answer} {r : ℕ} → Fits a → r ≡ packed a → Packs a r
@@ -55,13 +52,6 @@ made-fits s = within-fits makeNumbers tt (omega arith) (omega arith) (made-withi
 
 pub call-fits : (tree : Bytes) (l : Lent) → AreBytes (take sessionSize (l .session)) → Fits (call tree l .answer)
 call-fits tree l a = within-fits callNumbers tt (omega arith) (omega arith) (call-within-limit tree l a)
-
-pub image-fits : (b : Bytes) → Fits (checkAnswer (imageAnswer (readImage b)))
-image-fits b = go (readImage b) (image-place b)
-  where
-    go : (d : Decoded Image) → ((p : ℕ) → d ≡ malformed p → p ≤ imageLimit) → Fits (checkAnswer (imageAnswer d))
-    go (decoded m n) h = record { number = omega arith; value = omega arith }
-    go (malformed p) h = record { number = omega arith; value = omega (arith, h p refl) }
 
 pub list-fits : (b : Bytes) → AreBytes b → (room : ℕ) → Fits (listAnswer (readImage b) room)
 list-fits b a room = within-fits listNumbers tt (omega arith) (omega arith) (list-within b a room)

@@ -3,14 +3,12 @@ use Prim.Native.Nat.{ℕ, _+_, _*_, _/_, _%_, _<_}
 use mathlib.Core.Path.{_≡_}
 use lib.ListN.{length}
 use Rattle.definition.specs.Basic.{Bytes}
+use Rattle.definition.specs.Number.{outputShort}
 use Rattle.definition.specs.Decode.{readImage}
 use Rattle.definition.specs.Call.{Lent, call, made}
 use Rattle.definition.specs.Listing.{listAnswer, listInto}
 use Rattle.definition.specs.declared.Answer.{Answer}
 use Rattle.definition.specs.declared.Answer.the-variants.{Length, Refused}
-use Rattle.bytecode.specs.Checked.{imageAnswer}
-use Rattle.bytecode.specs.declared.ImageCheck.{ImageCheck}
-use Rattle.bytecode.specs.declared.ImageCheck.the-variants.{Sound, Refused as Bad}
 
 -- what the numbers of a half are below: 2 to the 32nd
 abbrev pub halfBound : ℕ
@@ -41,10 +39,9 @@ pub record Packs (a : Answer) (r : ℕ) : Type 0 where
   pub number : r / halfBound ≡ high a
   pub value : r % halfBound ≡ low a
 
--- the check of an image writes nothing: length 0, or its refusal
-abbrev pub checkAnswer : ImageCheck → Answer
-checkAnswer (Sound n) = Length 0
-checkAnswer (Bad r) = Refused r
+-- the number that says of an image, listed into an empty output, that it is sound
+abbrev pub soundNumber : ℕ
+soundNumber = outputShort
 
 -- making a session: answer and buffer are the definition's
 pub record MakesPacked (s : Bytes) (r : ℕ) (s′ : Bytes) : Type 0 where
@@ -56,11 +53,7 @@ pub record CompilesPacked (tree : Bytes) (l : Lent) (r : ℕ) (l′ : Lent) : Ty
   pub answer : Packs (call tree l .answer) r
   pub lent : l′ ≡ call tree l .lent
 
--- checking an image: the answer is the definition's
-pub record ChecksPacked (image : Bytes) (r : ℕ) : Type 0 where
-  pub answer : Packs (checkAnswer (imageAnswer (readImage image))) r
-
--- listing an image: answer and output are the definition's
+-- checking and listing an image: answer and output are the definition's
 pub record ListsPacked (image o : Bytes) (r : ℕ) (o′ : Bytes) : Type 0 where
   pub answer : Packs (listAnswer (readImage image) (length o)) r
   pub output : o′ ≡ listInto (readImage image) o

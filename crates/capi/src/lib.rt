@@ -1,9 +1,7 @@
 // What a C program links: each function answers one 64-bit number. include/monkey.h declares them.
-use bytecode::ImageCheck;
 use definition::Answer;
-ghost use mathlib.Core.Path.{_≡_};
 ghost use Rattle.compiler.specs.Stage.{lentOf};
-ghost use Rattle.capi.specs.Packed.{Fits, Packs, checkAnswer, MakesPacked, CompilesPacked, ChecksPacked, ListsPacked};
+ghost use Rattle.capi.specs.Packed.{Fits, Packs, MakesPacked, CompilesPacked, ListsPacked};
 
 // What the numbers of a half are below: 2 to the 32nd.
 const HALF_BOUND: u64 = 4294967296;
@@ -43,26 +41,8 @@ pub extern "C" fn monkey_compile(
     pack(answer)
 }
 
-// What the check of an image answers.
-fn check_answer(check: ImageCheck) -> Answer
-    ensures { λ r. ⌜ r ≡ checkAnswer check ⌝ }
-{
-    match check {
-        ImageCheck::Sound(_) => Answer::Length(0),
-        ImageCheck::Refused(r) => Answer::Refused(r),
-    }
-}
-
-// Checks an image: 0, or 17 and the place of its first wrong field or instruction.
-#[no_mangle]
-pub extern "C" fn monkey_check_image(image: &[u8]) -> u64
-    ensures { λ r. ⌜ ChecksPacked (now (image .entry)) r ⌝ }
-{
-    let answer = check_answer(bytecode::check_image(image));
-    pack(answer)
-}
-
-// Lists an image as text: the listing's length; or 17 and the place, or 15 where the output is too short, and the output stays.
+// Checks an image and lists it as text: the listing's length; or 17 and the place, or 15 where the output is too short, and the output stays. An
+// empty output is always too short, so that 15 says there that the image is sound.
 #[no_mangle]
 pub extern "C" fn monkey_list_image(image: &[u8], output: &mut [u8]) -> u64
     ensures { λ r. ⌜ ListsPacked (now (image .entry)) (now (output .entry)) r (now (output .exit)) ⌝ }

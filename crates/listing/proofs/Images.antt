@@ -2,12 +2,10 @@
 use Prim.Native.Nat.{ℕ, _+_, _-_, _≤_, _<_}
 use mathlib.Core.Path.{_≡_, _∙_, ap, sym, refl, subst}
 use mathlib.Core.Bool.{Bool, true, false}
-use mathlib.Core.List.{List, [], _∷_, _++_, append-assoc}
+use mathlib.Core.List.{List, [], _++_, append-assoc}
 use native.Mathlib.Omega.{arith}
-use native.Mathlib.Nat.{zero-add}
 use lib.Dec.{eqb, leb}
 use lib.ListN.{length}
-use lib.Seq.{sets}
 use borrow.Author.Tests.{eqb-true, leb-true, le-leb, lt-leb}
 use Rattle.definition.specs.Basic.{Bytes, byteAt}
 use Rattle.definition.specs.Limit.{poolLimit, constantsLimit, codeSize}
@@ -17,17 +15,17 @@ use Rattle.definition.specs.Field.{Head, head, tagged}
 use Rattle.definition.specs.Text.{ascii, decimal}
 use Rattle.definition.specs.Bytecode.{Code, Const, Image, sizeOf}
 use Rattle.definition.specs.Decode.{Decoded, decoded, malformed, then, ending, mainHead, poolHead, readInstr, readConst, readCode, readPool, readImageOf, readImage}
-use Rattle.definition.specs.Output.{over}
 use Rattle.definition.specs.Listing.{also, newline, codeLines, constantLines, listing, listAnswer, listInto}
 use Rattle.definition.specs.declared.Refusal.{Refusal}
 use Rattle.definition.specs.declared.Answer.the-variants.{Length, Refused}
 use Rattle.session.proofs.Stores.{sets-over}
-use Rattle.bytecode.specs.declared.ImageCheck.{ImageCheck}
-use Rattle.bytecode.specs.declared.ImageCheck.the-variants.{Sound, Refused as Wrong}
-use Rattle.bytecode.specs.Checked.{constants, imageAnswer}
+use Rattle.bytecode.specs.Checked.{constants}
 use Rattle.bytecode.proofs.Heads.{both-true}
 use Rattle.bytecode.proofs.Items.{ended, unlike}
 use Rattle.bytecode.proofs.Fields.{mainContent, poolContent, head-read, then-read}
+use Rattle.listing.specs.declared.measure.MeasuredImage.{MeasuredImage}
+use Rattle.listing.specs.declared.measure.MeasuredImage.the-variants.{Sound, Refused as Wrong}
+use Rattle.listing.specs.Measured.{imageMeasured}
 use Rattle.listing.specs.Put.{Puts, textLimit}
 use Rattle.listing.specs.Reads.{CodeAt, PoolAt, ImageAt, HasImage, poolText}
 use Rattle.listing.proofs.Lines.{code-size}
@@ -119,56 +117,42 @@ listing-is m = regrouped (ascii "main" ++ also (decimal (sizeOf (m .code))) ++ n
     regrouped : (s n t : Bytes) → s ++ (ascii "pool" ++ also n ++ newline ++ t) ≡ s ++ ascii "pool" ++ also n ++ newline ++ t
     regrouped s n t = simp append-assoc
 
--- what the check of an image says of it: it reads, and has so many constants
-pub sound-image : (b : Bytes) {r : ImageCheck} {k : ℕ} → r ≡ imageAnswer (readImage b) → r ≡ Sound k → (h : HasImage b) × (k ≡ length (h .image .pool))
-sound-image b {r} {k} e t = go (readImage b) refl
+-- what the reading of an image says of it: it reads, has so many constants, and a listing of such a length
+pub sound-image : (b : Bytes) {r : MeasuredImage} {k size : ℕ} → r ≡ imageMeasured (readImage b) → r ≡ Sound k size
+    → (h : HasImage b) × (k ≡ length (h .image .pool)) × (length (listing (h .image)) ≡ size)
+sound-image b {r} {k} {size} e t = go (readImage b) refl
   where
-    go : (d : Decoded Image) → readImage b ≡ d → (h : HasImage b) × (k ≡ length (h .image .pool))
+    go : (d : Decoded Image) → readImage b ≡ d → (h : HasImage b) × (k ≡ length (h .image .pool)) × (length (listing (h .image)) ≡ size)
     go (decoded m n) i =
-        let g : Sound (length (m .pool)) ≡ Sound k = sym (e ∙ ap imageAnswer i) ∙ t in
-        (record { image = m; is = record { reads = i ∙ ap (decoded m) (image-parts b i .1) } }, cc)
+        let g : Sound (length (m .pool)) (length (listing m)) ≡ Sound k size = sym (e ∙ ap imageMeasured i) ∙ t in
+        (record { image = m; is = record { reads = i ∙ ap (decoded m) (image-parts b i .1) } }, cc, cc)
     go (malformed p) i =
-        let g : Wrong (refusal badImage p) ≡ Sound k = sym (e ∙ ap imageAnswer i) ∙ t in
+        let g : Wrong (refusal badImage p) ≡ Sound k size = sym (e ∙ ap imageMeasured i) ∙ t in
         let z : _≡_ {A = ℕ} 0 1 = cc in
         absurd (omega arith)
 
-pub wrong-image : (b out : Bytes) {r : ImageCheck} {q : Refusal} → r ≡ imageAnswer (readImage b) → r ≡ Wrong q
+pub wrong-image : (b out : Bytes) {r : MeasuredImage} {q : Refusal} → r ≡ imageMeasured (readImage b) → r ≡ Wrong q
     → (Refused q ≡ listAnswer (readImage b) (length out)) × (out ≡ listInto (readImage b) out)
 wrong-image b out {r} {q} e t = go (readImage b) refl
   where
     go : (d : Decoded Image) → readImage b ≡ d → (Refused q ≡ listAnswer (readImage b) (length out)) × (out ≡ listInto (readImage b) out)
     go (decoded m n) i =
-        let g : Sound (length (m .pool)) ≡ Wrong q = sym (e ∙ ap imageAnswer i) ∙ t in
+        let g : Sound (length (m .pool)) (length (listing m)) ≡ Wrong q = sym (e ∙ ap imageMeasured i) ∙ t in
         let z : _≡_ {A = ℕ} 0 1 = cc in
         absurd (omega arith)
     go (malformed p) i =
-        let g : Wrong (refusal badImage p) ≡ Wrong q = sym (e ∙ ap imageAnswer i) ∙ t in
+        let g : Wrong (refusal badImage p) ≡ Wrong q = sym (e ∙ ap imageMeasured i) ∙ t in
         let f : refusal badImage p ≡ q = cc in
         (ap Refused (sym f) ∙ rw i, rw i)
 
--- a part of no bytes, lent and come back
-empty-part : (l out : Bytes) → length l ≡ 0 → l ++ out ≡ out
-empty-part [] out e = refl
-empty-part (x ∷ l) out e = absurd (omega arith)
-
 -- what listing a sound image answers and leaves, by the length of the listing
-module _ (b out : Bytes) {m : Image} (i : ImageAt b m) {o o₁ : Bytes} {size : ℕ} (p : Puts textLimit o o₁ 0 size (listing m)) where
-  counts : length (listing m) ≡ size
-  counts = sym (p .counted ∙ zero-add (length (listing m)))
+module _ (b out : Bytes) {m : Image} (i : ImageAt b m) {size : ℕ} (counts : length (listing m) ≡ size) where
+  pub listing-long : length out < size → (Refused (refusal outputShort 0) ≡ listAnswer (readImage b) (length out)) × (out ≡ listInto (readImage b) out)
+  listing-long h = (rw (i .reads, counts, lt-leb size (length out) h), rw (i .reads, counts, lt-leb size (length out) h))
 
-  module _ (part : Bytes) (none : length part ≡ 0) where
-    whole : part ++ out ≡ out
-    whole = empty-part part out none
-
-    pub listing-long : length (part ++ out) < size → (Refused (refusal outputShort 0) ≡ listAnswer (readImage b) (length out)) × (part ++ out ≡ listInto (readImage b) out)
-    listing-long l =
-        let h : length out < size = omega (arith, ap length whole) in
-        (rw (i .reads, counts, lt-leb size (length out) h), whole ∙ rw (i .reads, counts, lt-leb size (length out) h))
-
-    pub listing-written : {last : Bytes} {again : ℕ} → size ≤ length (part ++ out) → Puts textLimit (part ++ out) last 0 again (listing m)
-        → (Length size ≡ listAnswer (readImage b) (length out)) × (last ≡ listInto (readImage b) out)
-    listing-written l q =
-        let h : size ≤ length out = omega (arith, ap length whole) in (
-          rw (i .reads, counts, le-leb size (length out) h),
-          q .stored ∙ ap (λ o. sets o 0 (listing m)) whole ∙ sets-over out (listing m) (omega (arith, counts)) ∙ rw (i .reads, counts, le-leb size (length out) h),
-        )
+  pub listing-written : {last : Bytes} {next : ℕ} → size ≤ length out → Puts textLimit out last 0 next (listing m)
+      → (Length size ≡ listAnswer (readImage b) (length out)) × (last ≡ listInto (readImage b) out)
+  listing-written h p = (
+    rw (i .reads, counts, le-leb size (length out) h),
+    p .stored ∙ sets-over out (listing m) (omega (arith, counts)) ∙ rw (i .reads, counts, le-leb size (length out) h),
+  )

@@ -6,3 +6,6 @@ pub mod Lines
 pub mod Constants
 pub mod Pools
 pub mod Images
+pub mod TextLengths
+pub mod Measures
+pub mod CheckThenList

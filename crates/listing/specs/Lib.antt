@@ -1,2 +1,4 @@
 pub mod Put
 pub mod Reads
+pub mod Measured
+pub mod CheckThenList

@@ -1,15 +1,17 @@
 // The listing of an image as text.
 mod code;
+mod lengths;
+mod measure;
 mod pool;
 mod text;
 
-use bytecode::ImageCheck;
-use bytecode::check_image;
 use code::list_code;
 use definition::Answer;
 use definition::Refusal;
 use definition::number;
 use field::length_at;
+use measure::MeasuredImage;
+use measure::measure_image;
 use pool::list_pool;
 use text::put_bytes;
 use text::put_field;
@@ -36,16 +38,15 @@ fn put_listing(output: &mut [u8], image: &[u8], constants: usize) -> usize
     list_pool(output, after_code, image, end + 3, image.len(), constants)
 }
 
-// Lists an image: the length of its listing, which stands at the start of the output then; or 17 where the image is wrong; or 15 where the
-// listing is longer than the output.
+// Checks an image and lists it: the length of its listing, which stands at the start of the output then; or 17 where the image is wrong; or 15
+// where the listing is longer than the output. One reading checks and counts, before the first byte is written; a second one writes.
 pub fn list_image(image: &[u8], output: &mut [u8]) -> Answer
     ensures answers { λ r. ⌜ r ≡ listAnswer (readImage (now (image .entry))) (length (now (output .entry))) ⌝ }
     ensures writes { λ r. ⌜ now (output .exit) ≡ listInto (readImage (now (image .entry))) (now (output .entry)) ⌝ }
 {
-    match check_image(image) {
-        ImageCheck::Refused(r) => Answer::Refused(r),
-        ImageCheck::Sound(constants) => {
-            let size = put_listing(&mut output[..0], image, constants);
+    match measure_image(image) {
+        MeasuredImage::Refused(r) => Answer::Refused(r),
+        MeasuredImage::Sound(constants, size) => {
             if output.len() < size {
                 return Answer::Refused(Refusal {
                     number: number::OUTPUT_SHORT,

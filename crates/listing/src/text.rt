@@ -120,7 +120,7 @@ fn four_bytes(image: &[u8], at: usize) -> usize
 }
 
 // A number of eight bytes.
-fn eight_bytes(image: &[u8], at: usize) -> usize
+pub fn eight_bytes(image: &[u8], at: usize) -> usize
     requires { ⌜ at + 8 ≤ length (now image) ⌝ }
     ensures { λ r. ⌜ r ≡ number 0 (bytes (byteAt (now (image .entry))) at 8) ⌝ }
 {
