@@ -1,6 +1,6 @@
 /*
- * Compiles profiles in one session, checks and lists their images in one call, and shows refusals: two profiles and damaged ones of its own, or the
- * trees in the files that it is given. examples/run compares what it prints.
+ * Compiles profiles in one session, checks and lists their images in one call, sends one in frames, and shows refusals: two profiles and damaged ones of its
+ * own, or the trees in the files that it is given. examples/run compares what it prints.
  */
 #include <stdio.h>
 #include <string.h>
@@ -100,12 +100,49 @@ static void check(const uint8_t *image, size_t length) {
     printf("sound: %s\n", monkey_image_is_sound(image, length) ? "yes" : "no");
 }
 
+/* Stands in for the radio. */
+static void transmit(const uint8_t *frame, size_t length) {
+    printf("frame of %u: %02x .. %02x\n", (unsigned)length, frame[0], frame[length - 1]);
+}
+
+/* Sends an image in frames of one size. One count is enough: the frames follow from it, and the image is checked once. */
+static void send(const uint8_t *image, size_t length, size_t size) {
+    uint64_t answer = monkey_count_frames(image, length, size);
+    if (monkey_number(answer) != 0) {
+        print_answer("frames", answer);
+        return;
+    }
+    size_t whole = monkey_whole(answer), rest = monkey_rest(answer);
+    printf("frames: %u, rest %u\n", (unsigned)whole, (unsigned)rest);
+    for (size_t k = 0; k < whole; k++) {
+        transmit(image + k * size, size);
+    }
+    if (rest != 0) {
+        transmit(image + whole * size, rest);
+    }
+}
+
+/* One frame, as the receiver asks for it again. */
+static void send_again(const uint8_t *image, size_t length, size_t size, size_t number) {
+    uint64_t answer = monkey_frame(image, length, size, number);
+    if (monkey_number(answer) == 0) {
+        printf("again, at %u: ", (unsigned)monkey_frame_offset(answer));
+        transmit(image + monkey_frame_offset(answer), monkey_frame_length(answer));
+    } else {
+        print_answer("again", monkey_frame_refusal(image, length, size, number));
+    }
+}
+
 /* The profiles of this file, and what is refused. */
 static void show_own(void) {
     static uint8_t before[MONKEY_SESSION_SIZE];
 
     show("top", top, sizeof top);
     show("limit", limit, sizeof limit);
+    send(output, 68, 32); /* limit's image has 68 bytes */
+    send(output, 68, 15);
+    send_again(output, 68, 32, 2);
+    send_again(output, 68, 32, 3);
 
     memcpy(before, session, sizeof session);
     show("unknown", unknown, sizeof unknown);

@@ -10,7 +10,7 @@
  *
  * Answers
  *   Each function answers one 64-bit number. Where the high half is 0, the low half is a length, of what was written. Otherwise the
- *   call was refused: the high half is the number of the refusal, 1 to 17 or 22, the low half its place, an offset.
+ *   call was refused: the high half is the number of the refusal, 1 to 17 or 22 to 24, the low half its place, an offset.
  *   monkey_number and monkey_value take the halves. Every call ends with an answer, whatever bytes the buffers hold.
  */
 #ifndef MONKEY_H
@@ -52,7 +52,9 @@ enum monkey_refusal {
     MONKEY_OUTPUT_SHORT = 15,    /* the result is longer than the output */
     MONKEY_BAD_INSTRUCTION = 16, /* an unknown byte or missing operands; none of these functions answers it */
     MONKEY_BAD_IMAGE = 17,       /* place: the offset in the image of its first wrong field or instruction */
-    MONKEY_NO_VALUE = 22         /* a branch that yields no value: it is empty or ends in a let; place: the If */
+    MONKEY_NO_VALUE = 22,        /* a branch that yields no value: it is empty or ends in a let; place: the If */
+    MONKEY_FRAME_SIZE = 23,      /* a frame's size is below 16 or above 1,024 */
+    MONKEY_NO_FRAME = 24         /* the image has no frame of this number */
 };
 
 /* The number of a refusal, 0 where there is none. */
@@ -97,6 +99,32 @@ static inline int monkey_image_is_sound(const uint8_t *image, size_t image_lengt
     uint8_t none;
     return monkey_number(monkey_list_image(image, image_length, &none, 0)) == MONKEY_OUTPUT_SHORT;
 }
+
+/*
+ * Frames: an image in parts of one size, 16 to 1,024 bytes. Frame k begins at offset k * size. The whole frames have the size; bytes that are left behind
+ * them are the last, shorter frame. The three functions judge image, size and number in this order: 17 and its place, 23, 24 (the first has no number).
+ *
+ * Each call checks the whole image. To send all of it, count once: where the answer is no refusal, frame k has
+ *     k < whole ? size : rest    bytes at    image + k * size,    for k from 0 to whole - 1, and k = whole where the rest is not 0
+ * (examples/profile.c). Asking monkey_frame for each of the 3,841 frames of the longest image takes half a second, where one check takes 0.12 ms.
+ */
+
+/* Counts: whole frames and rest, with monkey_whole and monkey_rest. */
+uint64_t monkey_count_frames(const uint8_t *image, size_t image_length, size_t size);
+
+static inline uint32_t monkey_whole(uint64_t answer) { return monkey_value(answer) >> 16; }
+
+static inline uint32_t monkey_rest(uint64_t answer) { return monkey_value(answer) & 0xffff; }
+
+/* Finds the frame of a number from 0: its offset in the image and its length, 1 to 1,024, with monkey_frame_offset and monkey_frame_length. */
+uint64_t monkey_frame(const uint8_t *image, size_t image_length, size_t size, size_t number);
+
+static inline uint32_t monkey_frame_offset(uint64_t answer) { return monkey_value(answer) >> 16; }
+
+static inline uint32_t monkey_frame_length(uint64_t answer) { return monkey_value(answer) & 0xffff; }
+
+/* Why monkey_frame refuses the same arguments; 0 where it does not. */
+uint64_t monkey_frame_refusal(const uint8_t *image, size_t image_length, size_t size, size_t number);
 
 #ifdef __cplusplus
 }

@@ -1,10 +1,18 @@
 // What a C program links: each function answers one 64-bit number. include/monkey.h declares them.
 use definition::Answer;
+use frames::FrameCount;
+use frames::FramePlace;
+ghost use mathlib.Core.Path.{_≡_};
+ghost use Prim.Native.Nat.{_<_};
 ghost use Rattle.compiler.specs.Stage.{lentOf};
-ghost use Rattle.capi.specs.Packed.{Fits, Packs, MakesPacked, CompilesPacked, ListsPacked};
+ghost use Rattle.capi.specs.Packed.{Fits, Packs, MakesPacked, CompilesPacked, ListsPacked, halfBound};
+ghost use Rattle.capi.specs.Framed.{paired, countAnswer, placeAnswer, CountsPacked, PlacesPacked, RefusesPacked};
 
 // What the numbers of a half are below: 2 to the 32nd.
 const HALF_BOUND: u64 = 4294967296;
+
+// What the two numbers of a pair are below: 2 to the 16th.
+const QUARTER_BOUND: usize = 65536;
 
 // An answer as one number: a length; or a refusal's number in the high half and its place in the low one.
 fn pack(answer: Answer) -> u64
@@ -48,5 +56,63 @@ pub extern "C" fn monkey_list_image(image: &[u8], output: &mut [u8]) -> u64
     ensures { λ r. ⌜ ListsPacked (now (image .entry)) (now (output .entry)) r (now (output .exit)) ⌝ }
 {
     let answer = listing::list_image(image, output);
+    pack(answer)
+}
+
+// Two numbers as one length: the first above the low 16 bits.
+fn pair(first: usize, second: usize) -> Answer
+    requires { ⌜ paired first second < halfBound ⌝ }
+    ensures { λ r. ⌜ r ≡ Answer.Length (paired first second) ⌝ }
+{
+    Answer::Length(first * QUARTER_BOUND + second)
+}
+
+// What the count of frames answers.
+fn count_answer(count: FrameCount) -> Answer
+    requires { ⌜ Fits (countAnswer count) ⌝ }
+    ensures { λ r. ⌜ r ≡ countAnswer count ⌝ }
+{
+    match count {
+        FrameCount::Counted(whole, rest) => pair(whole, rest),
+        FrameCount::Refused(r) => Answer::Refused(r),
+    }
+}
+
+// What finding a frame answers.
+fn place_answer(place: FramePlace) -> Answer
+    requires { ⌜ Fits (placeAnswer place) ⌝ }
+    ensures { λ r. ⌜ r ≡ placeAnswer place ⌝ }
+{
+    match place {
+        FramePlace::At(start, len) => pair(start, len),
+        FramePlace::Refused(r) => Answer::Refused(r),
+    }
+}
+
+// Counts the whole frames of an image and the bytes behind them: whole × 65,536 + rest; or 17 and the place, or 23.
+#[no_mangle]
+pub extern "C" fn monkey_count_frames(image: &[u8], size: usize) -> u64
+    ensures { λ r. ⌜ CountsPacked (now (image .entry)) size r ⌝ }
+{
+    let answer = count_answer(frames::count_frames(image, size));
+    pack(answer)
+}
+
+// Finds the frame of a number from 0: offset × 65,536 + length; or 17 and the place, 23, or 24.
+#[no_mangle]
+pub extern "C" fn monkey_frame(image: &[u8], size: usize, number: usize) -> u64
+    ensures { λ r. ⌜ PlacesPacked (now (image .entry)) size number r ⌝ }
+{
+    let answer = place_answer(frames::find_frame(image, size, number));
+    pack(answer)
+}
+
+// Why `monkey_frame` refuses the same arguments: 17 and the place, 23, or 24; 0 where it does not.
+#[no_mangle]
+pub extern "C" fn monkey_frame_refusal(image: &[u8], size: usize, number: usize) -> u64
+    ensures { λ r. ⌜ RefusesPacked (now (image .entry)) size number r ⌝ }
+{
+    let refusal = frames::frame_refusal(image, size, number);
+    let answer = Answer::Refused(refusal);
     pack(answer)
 }

@@ -1,10 +1,13 @@
 // Runs recorded cases of instructions, images, listings and sessions, and writes the answer to each on a line.
 // The file `cases` has a question on each line: a word (image, list, decode or start), a space, and bytes in hexadecimal, where `{6100}3.`
 // stands for the bytes between the braces three times over. A session's bytes (start) are followed by zeros up to 65,536. A listing's image
-// (list) stands behind the length of its output in three bytes; the listing follows its answer.
+// (list) stands behind the length of its output in three bytes; the listing follows its answer. Frames are counted (count) in an image behind
+// a size in four bytes, and found (part) in one behind size and number.
 use bytecode::Layout;
 use definition::Answer;
 use definition::number;
+use frames::FrameCount;
+use frames::FramePlace;
 use libc::STDOUT_FILENO;
 use opcode::Decoded;
 use opcode::Instruction;
@@ -130,6 +133,72 @@ fn answer_session(session: &[u8]) {
     }
 }
 
+// Write the line of two numbers.
+fn write_two(first: usize, second: usize) {
+    io::write_all(STDOUT_FILENO, b"ok");
+    write_number(first);
+    write_number(second);
+    io::write_all(STDOUT_FILENO, b"\n");
+}
+
+// The number that four bytes hold.
+fn number_of(a: u8, b: u8, c: u8, d: u8) -> usize {
+    field::word(a, b) * 65536 + field::word(c, d)
+}
+
+// Answer a question on the count of frames: the size, then the image.
+fn answer_count(bytes: &[u8]) {
+    if bytes.len() < 4 {
+        return;
+    }
+    let size = number_of(bytes[0], bytes[1], bytes[2], bytes[3]);
+    match frames::count_frames(&bytes[4..], size) {
+        FrameCount::Counted(whole, rest) => write_two(whole, rest),
+        FrameCount::Refused(r) => write_refusal(r.number, r.place),
+    }
+}
+
+// Write where a frame lies and how long the part is that was given; or the refusal, and whether a part was given all the same.
+fn show_part(image: &[u8], size: usize, index: usize) {
+    let part = frames::frame(image, size, index);
+    let refusal = frames::frame_refusal(image, size, index);
+    let len = part.len();
+    if refusal.number != 0 {
+        write_refusal(refusal.number, refusal.place);
+        if len != 0 {
+            io::write_all(STDOUT_FILENO, b"a part was given\n");
+        }
+        return;
+    }
+    match frames::find_frame(image, size, index) {
+        FramePlace::At(start, _) => write_two(start, len),
+        FramePlace::Refused(_) => {
+            io::write_all(STDOUT_FILENO, b"no frame was found\n");
+        }
+    }
+}
+
+// Answer a question on a frame: the size, its number, then the image.
+fn answer_part(bytes: &[u8]) {
+    if bytes.len() < 8 {
+        return;
+    }
+    let size = number_of(bytes[0], bytes[1], bytes[2], bytes[3]);
+    let index = number_of(bytes[4], bytes[5], bytes[6], bytes[7]);
+    show_part(&bytes[8..], size, index);
+}
+
+// Answer a question on the sending of an image.
+fn answer_sending(bytes: &[u8], kind: u8) {
+    if kind == b'c' {
+        answer_count(bytes);
+        return;
+    }
+    if kind == b'p' {
+        answer_part(bytes);
+    }
+}
+
 // Zero the bytes from an offset on.
 fn clear(bytes: &mut [u8], from: usize) {
     let mut i = from;
@@ -154,6 +223,10 @@ fn answer(bytes: &[u8], kind: u8, length: usize) {
     }
     if kind == b'd' {
         answer_decode(&bytes[..length]);
+        return;
+    }
+    if kind != b's' {
+        answer_sending(&bytes[..length], kind);
         return;
     }
     answer_session(bytes);

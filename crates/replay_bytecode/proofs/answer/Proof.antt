@@ -19,5 +19,8 @@ answer-spec =
     (λ c. simp length-take (omega arith))
     (λ c κs. search needs)
     (λ c. search needs)
+    (λ c. simp length-take (omega arith))
+    (λ c κs. search needs)
+    (λ c. search needs)
     (λ c κs. search needs)
     (λ c. search needs))

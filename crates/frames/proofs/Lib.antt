@@ -1,0 +1,5 @@
+pub mod Division
+pub mod Together
+pub mod Alike
+pub mod Small
+pub mod Calls
