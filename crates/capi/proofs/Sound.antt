@@ -4,7 +4,6 @@ use mathlib.Core.Path.{_≡_, _∙_, ap, sym, refl}
 use mathlib.Core.List.{[]}
 use native.Mathlib.Omega.{arith}
 use Rattle.definition.specs.Basic.{Bytes}
-use Rattle.definition.specs.Number.{refusal, badImage}
 use Rattle.definition.specs.Bytecode.{Image}
 use Rattle.definition.specs.Decode.{Decoded, decoded, malformed, readImage}
 use Rattle.definition.specs.Listing.{listAnswer}

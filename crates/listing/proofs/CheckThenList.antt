@@ -1,13 +1,11 @@
 -- The one call answers and leaves what check and then listing did; into an output too short for any listing it answers 15 exactly for a sound image.
-use Prim.Native.Nat.{ℕ, suc, _+_, _≤_, _<_}
-use mathlib.Core.Path.{_≡_, _∙_, ap, sym, refl}
-use mathlib.Core.List.{_++_}
+use Prim.Native.Nat.{ℕ, _≤_, _<_}
+use mathlib.Core.Path.{_≡_, _∙_, ap, refl}
 use native.Mathlib.Omega.{arith}
 use lib.ListN.{length, length-append}
 use borrow.Author.Tests.{lt-leb}
 use Rattle.definition.specs.Basic.{Bytes}
 use Rattle.definition.specs.Number.{refusal, badImage, outputShort}
-use Rattle.definition.specs.Text.{decimal}
 use Rattle.definition.specs.Bytecode.{Image, sizeOf}
 use Rattle.definition.specs.Decode.{Decoded, decoded, malformed, readImage}
 use Rattle.definition.specs.Listing.{listing, listAnswer, listInto}
@@ -16,7 +14,7 @@ use Rattle.definition.specs.declared.Answer.{Answer}
 use Rattle.definition.specs.declared.Answer.the-variants.{Refused}
 use Rattle.bytecode.specs.declared.ImageCheck.the-variants.{Sound}
 use Rattle.bytecode.specs.Checked.{imageAnswer}
-use Rattle.listing.specs.CheckThenList.{Outcome, checked, listed, thenList, checkThenList}
+use Rattle.listing.specs.CheckThenList.{Outcome, checked, thenList, checkThenList}
 use Rattle.listing.proofs.Digits.{some}
 
 -- for every image and output: what keeps the promise of `list_image` is what check and then listing gave

@@ -1,5 +1,5 @@
 -- The reading that checks and counts: code an instruction a turn, constants one a turn, and an image.
-use Prim.Native.Nat.{ℕ, zero, suc, _+_, _-_, _*_, _≤_, _<_}
+use Prim.Native.Nat.{ℕ, _+_, _-_, _*_, _≤_, _<_}
 use mathlib.Core.Path.{_≡_, _∙_, ap, sym, refl}
 use mathlib.Core.Bool.{true}
 use mathlib.Core.List.{List, [], _∷_, _++_}
@@ -11,11 +11,11 @@ use Rattle.definition.specs.Basic.{Bytes, byteAt}
 use Rattle.definition.specs.Limit.{codeSize, poolLimit, constantsLimit}
 use Rattle.definition.specs.Tag.{tagMain, tagPool, tagIntegerConst, tagStringConst, tagFunctionConst}
 use Rattle.definition.specs.Field.{head, bytes}
-use Rattle.definition.specs.Opcode.{instrAt, opLast, width}
-use Rattle.definition.specs.Text.{ascii, decimal}
-use Rattle.definition.specs.Bytecode.{Code, Const, Image, sizeOf}
+use Rattle.definition.specs.Opcode.{instrAt, opLast}
+use Rattle.definition.specs.Text.{decimal}
+use Rattle.definition.specs.Bytecode.{Code, Const, sizeOf}
 use Rattle.definition.specs.Decode.{Decoded, decoded, malformed, mainHead, readInstr, readCode, readConst, readFunction, readContent, readPool, readImage}
-use Rattle.definition.specs.Listing.{also, newline, codeLine, codeLines, constantFields, constantLines, listing}
+use Rattle.definition.specs.Listing.{codeLine, codeLines, constantFields, constantLines, listing}
 use Rattle.opcode.specs.Decoding.{sizeAt}
 use Rattle.opcode.proofs.Decoding.{stands, both-left}
 use Rattle.bytecode.specs.Checked.{headOf, isConstant, isPool, isMain, constants, mainCode}

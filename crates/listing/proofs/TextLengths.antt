@@ -1,14 +1,14 @@
 -- How long the texts of instructions and constants are.
-use Prim.Native.Nat.{ℕ, zero, suc, _+_, _-_, _*_}
+use Prim.Native.Nat.{ℕ, _+_, _*_}
 use native.Mathlib.Omega.{arith}
 use mathlib.Core.Path.{_≡_, refl}
-use mathlib.Core.List.{[], _∷_, _++_}
+use mathlib.Core.List.{[], _∷_}
 use lib.ListN.{length, length-append}
 use Rattle.definition.specs.Basic.{Bytes}
 use Rattle.definition.specs.Opcode.{Instr, instrAt, width}
-use Rattle.definition.specs.Text.{decimal, padded, signed, hex}
+use Rattle.definition.specs.Text.{decimal, padded, signed}
 use Rattle.definition.specs.Bytecode.{Const}
-use Rattle.definition.specs.Listing.{also, newline, word, operandFields, codeLine, hexField, constantFields}
+use Rattle.definition.specs.Listing.{also, word, codeLine, constantFields}
 use Rattle.opcode.proofs.Tables.{tabulate, tabulated}
 use Rattle.listing.specs.Reads.{functionHead}
 use Rattle.listing.specs.Measured.{AreLengths, operandsOf}

@@ -1,5 +1,4 @@
 -- `listing::lengths::operands_length` meets its contract: by the number of operand bytes.
-use Prim.Native.Nat.{_+_}
 use native.Mathlib.Omega.{arith}
 use mathlib.Core.Path.{_≡_, ap, sym}
 use lib.ListN.{length}

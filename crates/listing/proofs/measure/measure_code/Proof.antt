@@ -2,7 +2,6 @@
 use Prim.Native.Nat.{_-_}
 use native.Mathlib.Omega.{arith}
 use denote.Ref.{now}
-use borrow.Author.Needs.{needs}
 use Rattle.opcode.proofs.Widths.{table}
 use Rattle.listing.proofs.TextLengths.{lengths}
 use Rattle.listing.proofs.Measures.{CodeLoop, code-begins, code-ends, code-wrong, code-within, code-instr, code-again}
