@@ -1,13 +1,15 @@
 -- Every answer fits its two halves, and its number has them.
-use Prim.Native.Nat.{ℕ, _+_, _*_, _≤_, _<_}
+use Prim.Native.Nat.{ℕ, _+_, _*_, _/_, _%_, _≤_, _<_}
 use native.Mathlib.Omega.{arith}
-use mathlib.Core.Path.{_≡_, refl, sym, ap, subst}
+use mathlib.Core.Bool.{Bool}
+use mathlib.Core.Path.{_≡_, refl, sym, ap, subst, _∙_}
 use mathlib.Core.List.{List}
-use lib.Dec.{T, ltb}
+use lib.Dec.{T, ltb, ltb→lt}
+use borrow.Author.Tests.{ne-eqb}
 use lib.ListN.{take}
 use Rattle.definition.specs.Basic.{Bytes}
 use Rattle.definition.specs.Limit.{sessionSize, imageLimit}
-use Rattle.definition.specs.Number.{callNumbers, makeNumbers, listNumbers}
+use Rattle.definition.specs.Number.{refusal, callNumbers, makeNumbers, listNumbers}
 use Rattle.definition.specs.Bytecode.{Image}
 use Rattle.definition.specs.Decode.{Decoded, decoded, malformed, readImage}
 use Rattle.definition.specs.Call.{Lent, call, made}
@@ -16,16 +18,20 @@ use Rattle.definition.specs.Valid.{AreBytes}
 use Rattle.definition.specs.declared.Refusal.{Refusal}
 use Rattle.definition.specs.declared.Answer.{Answer}
 use Rattle.definition.specs.declared.Answer.the-variants.{Length, Refused}
-use Rattle.definition.proofs.Numbers.{each, below}
+use Rattle.definition.proofs.Basic.{pick-false}
+use Rattle.definition.proofs.Numbers.{each, of-each, below}
 use Rattle.definition.proofs.Places.{Within, made-within, call-within-limit}
 use Rattle.definition.proofs.ImagePlaces.{image-place}
 use Rattle.definition.proofs.ListingLength.{list-within}
 use Rattle.bytecode.specs.Checked.{imageAnswer}
-use Rattle.capi.specs.Packed.{halfBound, packed, Fits, Packs, checkAnswer}
+use Rattle.capi.specs.Packed.{halfBound, high, low, packed, ofHalves, Fits, Packs, checkAnswer}
 
 -- the halves of a number whose halves fit
 pub packs : {a : Answer} {r : ℕ} → Fits a → r ≡ packed a → Packs a r
-packs h e = record { whole = e; number = omega (arith, h .value); value = omega (arith, h .value) }
+packs {a} {r} h e =
+    let number : r / halfBound ≡ high a = omega (arith, h .value) in
+    let value : r % halfBound ≡ low a = omega (arith, h .value) in
+    record { whole = e; number = number; value = value; back = (λ i. ofHalves (number i) (value i)) ∙ h .back }
 
 -- a length
 pub packs-length : {a : Answer} {n : ℕ} → Fits a → a ≡ Length n → Packs a n
@@ -45,23 +51,33 @@ fits-as e h = subst Fits (sym e) h
 pub packs-as : {a b : Answer} {r : ℕ} → a ≡ b → Packs a r → Packs b r
 packs-as {r = r} e h = subst (λ a. Packs a r) e h
 
+-- a number of a refusal is not 0
+abbrev isNumber : ℕ → Bool
+isNumber n = ltb 0 n
+
+-- so a refusal is had from its halves
+refusal-back : (n p : ℕ) → T (isNumber n) → ofHalves n p ≡ Refused (refusal n p)
+refusal-back n p h = let some = ltb→lt 0 n h in pick-false (Length p) (Refused (refusal n p)) (ne-eqb n 0 (λ e. omega arith))
+
 -- an answer within bounds that fit
-within-fits : {lengths places : ℕ} {a : Answer} (numbers : List ℕ) → T (each (λ n. ltb n halfBound) numbers) → lengths < halfBound → places < halfBound → Within lengths numbers places a → Fits a
-within-fits numbers n l p (Within.wrote h) = record { number = omega arith; value = omega arith }
-within-fits numbers n l p (Within.refused {r = r} b) = record { number = below numbers halfBound n (r .number) (b .number); value = omega (arith, b .place) }
+within-fits : {lengths places : ℕ} {a : Answer} (numbers : List ℕ) → T (each isNumber numbers) → T (each (λ n. ltb n halfBound) numbers) → lengths < halfBound → places < halfBound
+    → Within lengths numbers places a → Fits a
+within-fits numbers m n l p (Within.wrote h) = record { number = omega arith; value = omega arith; back = refl }
+within-fits numbers m n l p (Within.refused {r = r} b) =
+    record { number = below numbers halfBound n (r .number) (b .number); value = omega (arith, b .place); back = refusal-back (r .number) (r .place) (of-each isNumber numbers m (r .number) (b .number)) }
 
 pub made-fits : (s : Bytes) → Fits (made s .answer)
-made-fits s = within-fits makeNumbers tt (omega arith) (omega arith) (made-within s)
+made-fits s = within-fits makeNumbers tt tt (omega arith) (omega arith) (made-within s)
 
 pub call-fits : (tree : Bytes) (l : Lent) → AreBytes (take sessionSize (l .session)) → Fits (call tree l .answer)
-call-fits tree l a = within-fits callNumbers tt (omega arith) (omega arith) (call-within-limit tree l a)
+call-fits tree l a = within-fits callNumbers tt tt (omega arith) (omega arith) (call-within-limit tree l a)
 
 pub image-fits : (b : Bytes) → Fits (checkAnswer (imageAnswer (readImage b)))
 image-fits b = go (readImage b) (image-place b)
   where
     go : (d : Decoded Image) → ((p : ℕ) → d ≡ malformed p → p ≤ imageLimit) → Fits (checkAnswer (imageAnswer d))
-    go (decoded m n) h = record { number = omega arith; value = omega arith }
-    go (malformed p) h = record { number = omega arith; value = omega (arith, h p refl) }
+    go (decoded m n) h = record { number = omega arith; value = omega arith; back = refl }
+    go (malformed p) h = record { number = omega arith; value = omega (arith, h p refl); back = refl }
 
 pub list-fits : (b : Bytes) → AreBytes b → (room : ℕ) → Fits (listAnswer (readImage b) room)
-list-fits b a room = within-fits listNumbers tt (omega arith) (omega arith) (list-within b a room)
+list-fits b a room = within-fits listNumbers tt tt (omega arith) (omega arith) (list-within b a room)

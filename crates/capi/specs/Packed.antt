@@ -1,10 +1,14 @@
 -- Answers as one 64-bit number, and what the exported functions promise.
 use Prim.Native.Nat.{ℕ, _+_, _*_, _/_, _%_, _<_}
 use mathlib.Core.Path.{_≡_}
+use mathlib.Core.List.{List, [], _∷_}
 use lib.ListN.{length}
-use Rattle.definition.specs.Basic.{Bytes}
+use lib.Dec.{eqb}
+use Rattle.definition.specs.Basic.{Bytes, pick}
+use Rattle.definition.specs.Number.{refusal}
 use Rattle.definition.specs.Decode.{readImage}
-use Rattle.definition.specs.Call.{Lent, call, made}
+use Rattle.definition.specs.Call.{Lent, Called, call, made}
+use Rattle.definition.specs.Series.{Call, sessionAfter, lent}
 use Rattle.definition.specs.Listing.{listAnswer, listInto}
 use Rattle.definition.specs.declared.Answer.{Answer}
 use Rattle.definition.specs.declared.Answer.the-variants.{Length, Refused}
@@ -30,16 +34,26 @@ low (Refused r) = r .place
 abbrev pub packed : Answer → ℕ
 packed a = high a * halfBound + low a
 
--- the halves of an answer fit
+-- the answer of two halves: a length where the high one is 0
+abbrev pub ofHalves : ℕ → ℕ → Answer
+ofHalves h l = pick (eqb h 0) (Length l) (Refused (refusal h l))
+
+-- the answer of a number
+abbrev pub unpacked : ℕ → Answer
+unpacked r = ofHalves (r / halfBound) (r % halfBound)
+
+-- the halves of an answer fit, and tell which it is
 pub record Fits (a : Answer) : Type 0 where
   pub number : high a < halfBound
   pub value : low a < halfBound
+  pub back : ofHalves (high a) (low a) ≡ a
 
--- a number is the answer, and its halves are the answer's
+-- a number is the answer, its halves are the answer's, and the answer is had from it
 pub record Packs (a : Answer) (r : ℕ) : Type 0 where
   pub whole : r ≡ packed a
   pub number : r / halfBound ≡ high a
   pub value : r % halfBound ≡ low a
+  pub back : unpacked r ≡ a
 
 -- the check of an image writes nothing: length 0, or its refusal
 abbrev pub checkAnswer : ImageCheck → Answer
@@ -55,6 +69,12 @@ pub record MakesPacked (s : Bytes) (r : ℕ) (s′ : Bytes) : Type 0 where
 pub record CompilesPacked (tree : Bytes) (l : Lent) (r : ℕ) (l′ : Lent) : Type 0 where
   pub answer : Packs (call tree l .answer) r
   pub lent : l′ ≡ call tree l .lent
+
+-- a series of exported compile calls that ran: each on the session that those before it left
+pub data RanPacked : Bytes → List Call → List Called → Type 0 where
+  none : {s : Bytes} → RanPacked s [] []
+  more : {s : Bytes} {c : Call} {r : ℕ} {l′ : Lent} {cs : List Call} {xs : List Called} → CompilesPacked (c .tree) (lent s c) r l′ → RanPacked (sessionAfter s (l′ .session)) cs xs
+      → RanPacked s (c ∷ cs) (record { answer = unpacked r; lent = l′ } ∷ xs)
 
 -- checking an image: the answer is the definition's
 pub record ChecksPacked (image : Bytes) (r : ℕ) : Type 0 where
