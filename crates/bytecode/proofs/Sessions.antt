@@ -15,8 +15,9 @@ use Rattle.definition.specs.Session.{Session}
 use Rattle.definition.specs.Decode.{Decoded, decoded, malformed, then, allZero, poolHead, readConst, readNameField, readNames, readPool, readSession}
 use Rattle.bytecode.specs.declared.Checked.{Checked}
 use Rattle.bytecode.specs.declared.Checked.the-variants.{Good, Wrong}
+use Rattle.bytecode.specs.declared.Layout.{Layout}
 use Rattle.bytecode.specs.declared.Layout.the-variants.{Sound, Broken}
-use Rattle.bytecode.specs.Checked.{checked, layout, layoutOf}
+use Rattle.bytecode.specs.Checked.{checked, layout, layoutOf, layoutAnswer, sessionAnswer, LaysOut}
 use Rattle.bytecode.proofs.Items.{ended}
 use Rattle.bytecode.proofs.Fields.{head-read, namesContent, poolContent}
 use Rattle.bytecode.proofs.Constants.{checked-good, checked-wrong}
@@ -30,6 +31,22 @@ module _ (b : Bytes) where
   pub session-is : readSession b ≡ then (readNames (byteAt b) 0 (length b)) after-names
   unfolding readSession after-names
   session-is = refl
+
+  -- the number of a layout is the session's
+  layout-answer : layoutAnswer (layoutOf b) ≡ sessionAnswer (readSession b)
+  layout-answer = ap (λ d. layoutAnswer (layout (readNames (byteAt b) 0 (length b)) d)) session-is ∙ go (readNames (byteAt b) 0 (length b)) ∙ ap sessionAnswer (sym session-is)
+    where
+      inner : (ns : List Bytes) (at : ℕ) (d : Decoded Session) → layoutAnswer (layout (decoded ns at) d) ≡ sessionAnswer d
+      inner ns at (decoded z n) = refl
+      inner ns at (malformed p) = refl
+
+      go : (x : Decoded (List Bytes)) → layoutAnswer (layout x (then x after-names)) ≡ sessionAnswer (then x after-names)
+      go (decoded ns at) = inner ns at (after-names ns at)
+      go (malformed p) = refl
+
+  -- a layout that is the definition's keeps the promise
+  pub lays-out : {r : Layout} → r ≡ layoutOf b → LaysOut b r
+  lays-out e = record { layout = e; answer = ap layoutAnswer e ∙ layout-answer }
 
   module _ {r : Checked} (e : r ≡ checked (readNames (byteAt b) 0 (length b))) where
     pub names-wrong : {p : ℕ} → r ≡ Wrong p → Broken ≡ layoutOf b

@@ -2,14 +2,17 @@
 use Prim.Native.Nat.{ℕ, _+_, _≤_}
 use mathlib.Core.Bool.{Bool}
 use mathlib.Core.List.{List, []}
+use mathlib.Core.Path.{_≡_}
 use lib.ListN.{length}
 use Rattle.definition.specs.Basic.{Bytes, byteAt, pick}
 use Rattle.definition.specs.Limit.{constantsLimit, globalsLimit}
-use Rattle.definition.specs.Number.{refusal, badImage}
+use Rattle.definition.specs.Number.{refusal, noSession, badImage}
 use Rattle.definition.specs.Field.{Head, fits, head, nameHead}
 use Rattle.definition.specs.Bytecode.{Code, Const, Image}
 use Rattle.definition.specs.Session.{Session}
 use Rattle.definition.specs.Decode.{Decoded, decoded, malformed, then, items, readHead, constHead, poolHead, mainHead, readCode, readConst, readNameField, readNames, readSession}
+use Rattle.definition.specs.declared.Answer.{Answer}
+use Rattle.definition.specs.declared.Answer.the-variants.{Length, Refused as RefusedAnswer}
 use Rattle.bytecode.specs.declared.FieldHead.{FieldHead}
 use Rattle.bytecode.specs.declared.FieldHead.the-variants.{Whole, Cut}
 use Rattle.bytecode.specs.declared.Item.{Item}
@@ -87,3 +90,18 @@ layout (malformed q) d = Broken
 
 abbrev pub layoutOf : Bytes → Layout
 layoutOf b = layout (readNames (byteAt b) 0 (length b)) (readSession b)
+
+-- a layout as document 01 numbers it: how many bytes its fields have, or number 2
+abbrev pub layoutAnswer : Layout → Answer
+layoutAnswer (Laid l) = Length (l .«pool_end»)
+layoutAnswer Broken = RefusedAnswer (refusal noSession 0)
+
+-- and so what the definition reads
+abbrev pub sessionAnswer : Decoded Session → Answer
+sessionAnswer (decoded z n) = Length n
+sessionAnswer (malformed p) = RefusedAnswer (refusal noSession 0)
+
+-- reading a session's layout: the definition's, and its number
+pub record LaysOut (b : Bytes) (r : Layout) : Type 0 where
+  pub layout : r ≡ layoutOf b
+  pub answer : layoutAnswer r ≡ sessionAnswer (readSession b)

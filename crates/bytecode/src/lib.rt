@@ -11,7 +11,7 @@ ghost use Prim.Native.Nat.{ℕ, _+_, _≤_};
 ghost use lib.ListN.{length};
 ghost use Rattle.definition.specs.Basic.{byteAt};
 ghost use Rattle.definition.specs.Decode.{allZero, readCode, readConst, readPool, readImage, readNameField, readNames};
-ghost use Rattle.bytecode.specs.Checked.{Part, headOf, isConstant, isPool, isMain, isName, headAnswer, item, checked, constants, nameFields, mainCode, refused, imageAnswer, layoutOf};
+ghost use Rattle.bytecode.specs.Checked.{Part, headOf, isConstant, isPool, isMain, isName, headAnswer, item, checked, constants, nameFields, mainCode, refused, imageAnswer, LaysOut};
 
 // A field's tag and content length, where the whole field stands before an end.
 pub enum FieldHead {
@@ -305,7 +305,7 @@ fn all_zero(bytes: &[u8]) -> bool
 
 // Read a session's layout: its names, its pool, and zeros up to the end.
 pub fn read_layout(session: &[u8]) -> Layout
-    ensures { λ r. ⌜ r ≡ layoutOf (now (session .entry)) ⌝ }
+    ensures { λ r. ⌜ LaysOut (now (session .entry)) r ⌝ }
 {
     match check_names(session) {
         Checked::Wrong(_) => Layout::Broken,

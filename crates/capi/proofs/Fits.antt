@@ -1,13 +1,15 @@
 -- Every answer fits its two halves, and its number has them.
 use Prim.Native.Nat.{ℕ, _+_, _*_, _<_}
 use native.Mathlib.Omega.{arith}
-use mathlib.Core.Path.{_≡_, sym, ap, subst}
+use mathlib.Core.Bool.{Bool}
+use mathlib.Core.Path.{_≡_, refl, sym, ap, subst, _∙_}
 use mathlib.Core.List.{List}
-use lib.Dec.{T, ltb}
+use lib.Dec.{T, ltb, ltb→lt}
+use borrow.Author.Tests.{ne-eqb}
 use lib.ListN.{take}
 use Rattle.definition.specs.Basic.{Bytes}
 use Rattle.definition.specs.Limit.{sessionSize}
-use Rattle.definition.specs.Number.{callNumbers, makeNumbers, listNumbers}
+use Rattle.definition.specs.Number.{refusal, callNumbers, makeNumbers, listNumbers}
 use Rattle.definition.specs.Decode.{readImage}
 use Rattle.definition.specs.Call.{Lent, call, made}
 use Rattle.definition.specs.Listing.{listAnswer}
@@ -15,10 +17,11 @@ use Rattle.definition.specs.Valid.{AreBytes}
 use Rattle.definition.specs.declared.Refusal.{Refusal}
 use Rattle.definition.specs.declared.Answer.{Answer}
 use Rattle.definition.specs.declared.Answer.the-variants.{Length, Refused}
-use Rattle.definition.proofs.Numbers.{each, below}
+use Rattle.definition.proofs.Basic.{pick-false}
+use Rattle.definition.proofs.Numbers.{each, of-each, below}
 use Rattle.definition.proofs.Places.{Within, made-within, call-within-limit}
 use Rattle.definition.proofs.ListingLength.{list-within}
-use Rattle.capi.specs.Packed.{halfBound, packed, Fits, Packs}
+use Rattle.capi.specs.Packed.{halfBound, packed, ofHalves, unpacked, Fits, Packs, Told}
 
 -- the halves of a number whose halves fit
 pub packs : {a : Answer} {r : ℕ} → Fits a → r ≡ packed a → Packs a r
@@ -55,3 +58,26 @@ call-fits tree l a = within-fits callNumbers tt (omega arith) (omega arith) (cal
 
 pub list-fits : (b : Bytes) → AreBytes b → (room : ℕ) → Fits (listAnswer (readImage b) room)
 list-fits b a room = within-fits listNumbers tt (omega arith) (omega arith) (list-within b a room)
+
+-- a number of a refusal is not 0
+abbrev isNumber : ℕ → Bool
+isNumber n = ltb 0 n
+
+-- so a refusal is had from its halves
+refusal-told : (n p : ℕ) → T (isNumber n) → ofHalves n p ≡ Refused (refusal n p)
+refusal-told n p h = let some = ltb→lt 0 n h in pick-false (Length p) (Refused (refusal n p)) (ne-eqb n 0 (λ e. omega arith))
+
+-- and so is every answer whose numbers are among some that are not 0
+within-told : {lengths places : ℕ} {a : Answer} (numbers : List ℕ) → T (each isNumber numbers) → Within lengths numbers places a → Told a
+within-told numbers m (Within.wrote h) = record { back = refl }
+within-told numbers m (Within.refused {r = r} b) = record { back = refusal-told (r .number) (r .place) (of-each isNumber numbers m (r .number) (b .number)) }
+
+pub made-told : (s : Bytes) → Told (made s .answer)
+made-told s = within-told makeNumbers tt (made-within s)
+
+pub call-told : (tree : Bytes) (l : Lent) → AreBytes (take sessionSize (l .session)) → Told (call tree l .answer)
+call-told tree l a = within-told callNumbers tt (call-within-limit tree l a)
+
+-- the answer from its number
+pub packs-back : {a : Answer} {r : ℕ} → Told a → Packs a r → unpacked r ≡ a
+packs-back t p = (λ i. ofHalves (p .number i) (p .value i)) ∙ t .back

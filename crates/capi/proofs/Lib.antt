@@ -1,3 +1,4 @@
 pub mod Fits
 pub mod Sound
 pub mod Framed
+pub mod Conditions

@@ -1,11 +1,14 @@
 -- Answers as one 64-bit number, and what the exported functions promise.
 use Prim.Native.Nat.{ℕ, _+_, _*_, _/_, _%_, _<_}
 use mathlib.Core.Path.{_≡_}
+use mathlib.Core.List.{List, [], _∷_}
 use lib.ListN.{length}
-use Rattle.definition.specs.Basic.{Bytes}
-use Rattle.definition.specs.Number.{outputShort}
+use lib.Dec.{eqb}
+use Rattle.definition.specs.Basic.{Bytes, pick}
+use Rattle.definition.specs.Number.{refusal, outputShort}
 use Rattle.definition.specs.Decode.{readImage}
-use Rattle.definition.specs.Call.{Lent, call, made}
+use Rattle.definition.specs.Call.{Lent, Called, call, made}
+use Rattle.definition.specs.Series.{Call, sessionAfter, lent}
 use Rattle.definition.specs.Listing.{listAnswer, listInto}
 use Rattle.definition.specs.declared.Answer.{Answer}
 use Rattle.definition.specs.declared.Answer.the-variants.{Length, Refused}
@@ -28,6 +31,18 @@ low (Refused r) = r .place
 abbrev pub packed : Answer → ℕ
 packed a = high a * halfBound + low a
 
+-- the answer of two halves: a length where the high one is 0
+abbrev pub ofHalves : ℕ → ℕ → Answer
+ofHalves h l = pick (eqb h 0) (Length l) (Refused (refusal h l))
+
+-- the answer of a number
+abbrev pub unpacked : ℕ → Answer
+unpacked r = ofHalves (r / halfBound) (r % halfBound)
+
+-- the halves of an answer tell which it is
+pub record Told (a : Answer) : Type 0 where
+  pub back : ofHalves (high a) (low a) ≡ a
+
 -- the halves of an answer fit
 pub record Fits (a : Answer) : Type 0 where
   pub number : high a < halfBound
@@ -43,15 +58,23 @@ pub record Packs (a : Answer) (r : ℕ) : Type 0 where
 abbrev pub soundNumber : ℕ
 soundNumber = outputShort
 
--- making a session: answer and buffer are the definition's
+-- making a session: answer and buffer are the definition's, and the answer is had from its number
 pub record MakesPacked (s : Bytes) (r : ℕ) (s′ : Bytes) : Type 0 where
   pub answer : Packs (made s .answer) r
+  pub back : unpacked r ≡ made s .answer
   pub session : s′ ≡ made s .session
 
--- compiling: answer and lent memory are the definition's
+-- compiling: answer and lent memory are the definition's, and the answer is had from its number
 pub record CompilesPacked (tree : Bytes) (l : Lent) (r : ℕ) (l′ : Lent) : Type 0 where
   pub answer : Packs (call tree l .answer) r
+  pub back : unpacked r ≡ call tree l .answer
   pub lent : l′ ≡ call tree l .lent
+
+-- a series of exported compile calls that ran: each on the session that those before it left
+pub data RanPacked : Bytes → List Call → List Called → Type 0 where
+  none : {s : Bytes} → RanPacked s [] []
+  more : {s : Bytes} {c : Call} {r : ℕ} {l′ : Lent} {cs : List Call} {xs : List Called} → CompilesPacked (c .tree) (lent s c) r l′ → RanPacked (sessionAfter s (l′ .session)) cs xs
+      → RanPacked s (c ∷ cs) (record { answer = unpacked r; lent = l′ } ∷ xs)
 
 -- checking and listing an image: answer and output are the definition's
 pub record ListsPacked (image o : Bytes) (r : ℕ) (o′ : Bytes) : Type 0 where

@@ -25,7 +25,7 @@ use Rattle.definition.proofs.Sessions.{write-session, session-length}
 use Rattle.definition.proofs.Steps.{CallNumber, translate-valid, compile-valid, compile-fits}
 use Rattle.definition.proofs.Series.{condition-3}
 use Rattle.compiler.proofs.Whole.{compile-is, call-enough, call-short, long-front}
-use Rattle.compiler.specs.Promise.{Compiles, Makes, Ended, Ran, Wrote, Exact}
+use Rattle.compiler.specs.Promise.{Compiles, Makes, Ended, Ran, Wrote, ExactIn, Exact}
 
 -- Condition 3
 
@@ -51,7 +51,7 @@ module _ (tree : Bytes) (l : Lent) (z : Session) (n : ℕ) (big : enough (reques
   call-in : call tree l ≡ answered l (next .session) (next .outcome)
   call-in = call-enough tree l big ∙ ap (inSession l tree) reads
 
-  exact : (o : Outcome) → next .outcome ≡ o → (r : Answer) (l′ : Lent) → r ≡ answered l (next .session) o .answer → l′ ≡ answered l (next .session) o .lent → Exact tree z l r l′
+  exact : (o : Outcome) → next .outcome ≡ o → (r : Answer) (l′ : Lent) → r ≡ answered l (next .session) o .answer → l′ ≡ answered l (next .session) o .lent → ExactIn tree z l r l′
   exact (Outcome.accepted m) e r l′ a b =
       record {
         accepted = λ k h. let same : m ≡ k = cc in
@@ -61,9 +61,46 @@ module _ (tree : Bytes) (l : Lent) (z : Session) (n : ℕ) (big : enough (reques
   exact (Outcome.refused q) e r l′ a b =
       record { accepted = λ k h. let w : _≡_ {A = ℕ} 0 1 = cc in absurd (omega arith); refused = λ p. (λ h. let same : q ≡ p = cc in a ∙ ap Refused same, λ h. let same : q ≡ p = cc in e ∙ ap Outcome.refused same) }
 
-  -- image and session are the definition's, and a tree is refused exactly when the definition refuses it
-  pub compile-condition-2 : (r : Answer) (l′ : Lent) → Compiles tree l r l′ → Exact tree z l r l′
-  compile-condition-2 r l′ p = exact (next .outcome) refl r l′ (p .answer ∙ ap (λ (x : Called). x .answer) call-in) (p .lent ∙ ap (λ (x : Called). x .lent) call-in)
+  -- in a session: image and session are the definition's, and a tree is refused exactly when the definition refuses it
+  exact-in : (r : Answer) (l′ : Lent) → Compiles tree l r l′ → ExactIn tree z l r l′
+  exact-in r l′ p = exact (next .outcome) refl r l′ (p .answer ∙ ap (λ (x : Called). x .answer) call-in) (p .lent ∙ ap (λ (x : Called). x .lent) call-in)
+
+  -- and with none of the numbers 1 and 2
+  in-number : AreBytes (take sessionSize (l .session)) → (r : Answer) → r ≡ call tree l .answer → (q : Refusal) → r ≡ Refused q → CallNumber (q .number)
+  in-number bytes r a q h =
+      let v = write-session (take sessionSize (l .session)) bytes (long-front tree l big) reads .sound in
+      go (next .outcome) (λ q e. translate-valid (length (l .output)) z v tree .number q (sym (ap (λ (x : Step). x .outcome) (compile-is tree l big z)) ∙ e)) (sym h ∙ a ∙ ap (λ (x : Called). x .answer) call-in)
+    where
+      go : (o : Outcome) → ((r : Refusal) → o ≡ Outcome.refused r → CallNumber (r .number)) → Refused q ≡ answered l (next .session) o .answer → CallNumber (q .number)
+      go (Outcome.accepted m) k e = let w : _≡_ {A = ℕ} 0 1 = cc in absurd (omega arith)
+      go (Outcome.refused p) k e = let same : p ≡ q = cc in k q (ap Outcome.refused same)
+
+-- two refusals of different numbers
+other-number : {r : Answer} (n m : ℕ) → (n ≡ m → ⊥) → r ≡ Refused (refusal n 0) → r ≡ Refused (refusal m 0) → ⊥
+other-number n m h p q = let same : refusal n 0 ≡ refusal m 0 = cc in h (ap (λ (x : Refusal). x .number) same)
+
+-- Every call on bytes: 1 and 2 exactly where document 01 says so, and else what the definition gives
+pub compile-condition-2 : (tree : Bytes) (l : Lent) (r : Answer) (l′ : Lent) → AreBytes (take sessionSize (l .session)) → Compiles tree l r l′ → Exact tree l r l′
+compile-condition-2 tree l r l′ bytes p = go (enough (request l tree)) refl (readSession (take sessionSize (l .session))) refl
+  where
+    within : (z : Session) (n : ℕ) → enough (request l tree) ≡ true → readSession (take sessionSize (l .session)) ≡ decoded z n → ExactIn tree z l r l′
+    within z n big reads = exact-in tree l z n big reads r l′ p
+
+    -- which is answered, by the two tests
+    go : (b : Bool) → enough (request l tree) ≡ b → (d : Decoded Session) → readSession (take sessionSize (l .session)) ≡ d → Exact tree l r l′
+    go false e d s =
+        let is : r ≡ Refused (refusal Number.shortBuffer 0) = p .answer ∙ ap (λ (x : Called). x .answer) (call-short tree l e) in
+        record { short = (λ _. is, λ _. e); broken = (λ n. let f = n .lent in let w : _≡_ {A = ℕ} 0 1 = cc in absurd (omega arith), λ q. absurd (other-number Number.shortBuffer Number.noSession (λ h. omega arith) is q)); within = within }
+    go true e (malformed k) s =
+        let is : r ≡ Refused (refusal Number.noSession 0) = p .answer ∙ ap (λ (x : Called). x .answer) (call-enough tree l e ∙ ap (inSession l tree) s) in
+        record { short = (λ f. let w : _≡_ {A = ℕ} 0 1 = cc in absurd (omega arith), λ q. absurd (other-number Number.shortBuffer Number.noSession (λ h. omega arith) q is)); broken = (λ _. is, λ _. record { lent = e; place = k; reads = s }); within = within }
+    go true e (decoded z n) s =
+        let known = in-number tree l z n e s bytes r (p .answer) in
+        record {
+          short = (λ f. let w : _≡_ {A = ℕ} 0 1 = cc in absurd (omega arith), λ q. absurd (known (refusal Number.shortBuffer 0) q));
+          broken = (λ b. let f = b .reads in let w : _≡_ {A = ℕ} 0 1 = cc in absurd (omega arith), λ q. absurd (known (refusal Number.noSession 0) q));
+          within = within;
+        }
 
 -- Condition 1
 

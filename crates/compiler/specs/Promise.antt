@@ -1,17 +1,19 @@
 -- What the public functions promise, and what the three conditions say of any call and of any series of calls.
 use Prim.Native.Nat.{ℕ, _≤_}
 use lib.Dec.{T}
+use mathlib.Core.Bool.{true, false}
 use mathlib.Core.Logic.{_↔_}
 use mathlib.Core.Path.{_≡_}
 use mathlib.Core.List.{List, [], _∷_}
-use lib.ListN.{length, drop}
+use lib.ListN.{length, take, drop}
 use Rattle.definition.specs.Basic.{Bytes}
 use Rattle.definition.specs.Limit.{sessionSize, codeSize, tableSize}
 use Rattle.definition.specs.Number
-use Rattle.definition.specs.Number.{isOneOf, lentNumbers}
+use Rattle.definition.specs.Number.{refusal, isOneOf, lentNumbers}
 use Rattle.definition.specs.Bytecode.{Image, imageBytes}
 use Rattle.definition.specs.Session.{Session, sessionBytes}
-use Rattle.definition.specs.Compile.{Outcome, compile}
+use Rattle.definition.specs.Decode.{decoded, malformed, readSession}
+use Rattle.definition.specs.Compile.{Outcome, enough, compile}
 use Rattle.definition.specs.Call.{Lent, Called, call, made, cleared, request}
 use Rattle.definition.specs.Output.{over}
 use Rattle.definition.specs.Series.{Call, sessionAfter, lent}
@@ -52,8 +54,20 @@ pub record Wrote (m : Image) (z : Session) (l : Lent) (r : Answer) (l′ : Lent)
   pub output : l′ .output ≡ over (imageBytes m) (l .output)
   pub session : l′ .session ≡ over (sessionBytes z) (l .session)
 
--- Condition 2 about a call in a session that reads as z: image and session are the definition's, and a tree is refused exactly when the
--- definition refuses it, with its number and place
-pub record Exact (tree : Bytes) (z : Session) (l : Lent) (r : Answer) (l′ : Lent) : Type 0 where
+-- a call in a session that reads as z: image and session are the definition's, and a tree is refused exactly when the definition refuses it,
+-- with its number and place
+pub record ExactIn (tree : Bytes) (z : Session) (l : Lent) (r : Answer) (l′ : Lent) : Type 0 where
   pub accepted : (m : Image) → compile z (request l tree) .outcome ≡ Outcome.accepted m → Wrote m (compile z (request l tree) .session) l r l′
   pub refused : (q : Refusal) → (compile z (request l tree) .outcome ≡ Outcome.refused q) ↔ (r ≡ Refused q)
+
+-- no session stands in a buffer that has room for one
+pub record NoSession (tree : Bytes) (l : Lent) : Type 0 where
+  pub lent : enough (request l tree) ≡ true
+  pub place : ℕ
+  pub reads : readSession (take sessionSize (l .session)) ≡ malformed place
+
+-- Condition 2 about a call: 1 exactly where a buffer is too short, 2 exactly where no session stands, and in a session as the definition says
+pub record Exact (tree : Bytes) (l : Lent) (r : Answer) (l′ : Lent) : Type 0 where
+  pub short : (enough (request l tree) ≡ false) ↔ (r ≡ Refused (refusal Number.shortBuffer 0))
+  pub broken : NoSession tree l ↔ (r ≡ Refused (refusal Number.noSession 0))
+  pub within : (z : Session) (n : ℕ) → enough (request l tree) ≡ true → readSession (take sessionSize (l .session)) ≡ decoded z n → ExactIn tree z l r l′

@@ -29,3 +29,4 @@ pub mod WalkPlaces
 pub mod Places
 pub mod ImagePlaces
 pub mod ListingLength
+pub mod Undefined

@@ -8,10 +8,11 @@ use native.Mathlib.Omega.{arith}
 use lib.ListN.{length, getD, take, drop, drop-of-length-le}
 use lib.Seq.{drop-cons, getD-take}
 use lib.Dec.{eqb}
-use borrow.Author.Tests.{eq-eqb, ne-eqb, eqb-true}
+use borrow.Author.Tests.{eq-eqb, ne-eqb}
 use Rattle.definition.specs.Basic.{Bytes, pick, byteAt}
 use Rattle.definition.specs.Field.{bytes}
 use Rattle.definition.specs.SymbolTable.{same}
+use Rattle.definition.proofs.Undefined.{same-equal}
 use Rattle.field.specs.Layout.{len, after, content}
 use Rattle.symbol_table.specs.Name.{Stands, buckets, hashFrom}
 use Rattle.symbol_table.proofs.Slices.{slice-take}
@@ -40,19 +41,7 @@ pub same-none : (x y : List ℕ) (i : ℕ) → length x ≤ i → length y ≤ i
 unfolding same
 same-none x y i hx hy = rw (drop-of-length-le x hx, drop-of-length-le y hy)
 
--- names that are the same are equal
-same-equal : (x y : List ℕ) → same x y ≡ true → x ≡ y
-unfolding same
-same-equal [] [] e = refl
-same-equal [] (b ∷ y) e = cc
-same-equal (a ∷ x) [] e = cc
-same-equal (a ∷ x) (b ∷ y) e = go (λ q. same-equal x y q) (eqb a b) refl e
-  where
-    go : (same x y ≡ true → x ≡ y) → (t : Bool) → eqb a b ≡ t → pick t (same x y) false ≡ true → a ∷ x ≡ b ∷ y
-    go rest true p q = cc (eqb-true a b p, rest q)
-    go rest false p q = cc
-
--- so names of different hashes are not the same
+-- names of different hashes are not the same
 pub hash-differs : (f : Bytes → ℕ) (x y : Bytes) → (f x ≡ f y → ⊥) → same x y ≡ false
 hash-differs f x y h = go (same x y) refl
   where

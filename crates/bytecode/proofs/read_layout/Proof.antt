@@ -2,7 +2,7 @@
 use native.Mathlib.Omega.{arith}
 use denote.Ref.{now}
 use borrow.Author.Needs.{needs}
-use Rattle.bytecode.proofs.Sessions.{names-wrong, names-within, pool-broken, pool-within, tail-broken, layout-sound}
+use Rattle.bytecode.proofs.Sessions.{lays-out, names-wrong, names-within, pool-broken, pool-within, tail-broken, layout-sound}
 use Rattle.bytecode.proofs.read_layout.Statement.{statement}
 use Rattle.bytecode.proofs.read_layout.Tie as tie
 
@@ -43,14 +43,14 @@ returns c =
     let constants = c .before .before .before .before .constants in
     let all-zero = c .before .all-zero in
     let if1 = c .if1 in
-    layout-sound (now (start .args .session)) (check-names .ensures) (names .given .1) (check-pool .ensures) (constants .given .1) (all-zero .ensures) (if1 .taken)
+    lays-out (now (start .args .session)) (layout-sound (now (start .args .session)) (check-names .ensures) (names .given .1) (check-pool .ensures) (constants .given .1) (all-zero .ensures) (if1 .taken))
 
 returns-2 : tie.Need-returns-2
 returns-2 c =
     let start = c .before .before .before .before in
     let check-names = c .before .before .check-names in
     let enum-told = c .enum-told in
-    names-wrong (now (start .args .session)) (check-names .ensures) (enum-told .given .1)
+    lays-out (now (start .args .session)) (names-wrong (now (start .args .session)) (check-names .ensures) (enum-told .given .1))
 
 returns-3 : tie.Need-returns-3
 returns-3 c =
@@ -59,7 +59,7 @@ returns-3 c =
     let names = c .before .before .before .before .names in
     let check-pool = c .before .before .check-pool in
     let enum-told2 = c .enum-told2 in
-    pool-broken (now (start .args .session)) (check-names .ensures) (names .given .1) (check-pool .ensures) (enum-told2 .given .1)
+    lays-out (now (start .args .session)) (pool-broken (now (start .args .session)) (check-names .ensures) (names .given .1) (check-pool .ensures) (enum-told2 .given .1))
 
 returns-4 : tie.Need-returns-4
 returns-4 c =
@@ -70,7 +70,7 @@ returns-4 c =
     let constants = c .before .before .before .before .constants in
     let all-zero = c .before .all-zero in
     let if1 = c .if1 in
-    tail-broken (now (start .args .session)) (check-names .ensures) (names .given .1) (check-pool .ensures) (constants .given .1) (all-zero .ensures) (if1 .left)
+    lays-out (now (start .args .session)) (tail-broken (now (start .args .session)) (check-names .ensures) (names .given .1) (check-pool .ensures) (constants .given .1) (all-zero .ensures) (if1 .left))
 
 pub read-layout-spec : {M : Type 1} → statement M
 read-layout-spec =

@@ -3,7 +3,7 @@ use native.Mathlib.Omega.{arith}
 use borrow.Author.Needs.{needs}
 use Rattle.definition.specs.Limit.{sessionSize}
 use Rattle.compiler.proofs.Lent.{front-bytes}
-use Rattle.capi.proofs.Fits.{fits-as, packs-as, call-fits}
+use Rattle.capi.proofs.Fits.{fits-as, packs-as, call-fits, call-told, packs-back}
 use Rattle.capi.proofs.monkey_compile.Statement.{statement}
 use Rattle.capi.proofs.monkey_compile.Tie as tie
 
@@ -20,9 +20,11 @@ pack-requires c κs =
 
 returns : tie.Need-returns
 returns c =
-    let pack = c .pack in
-    let compile = compiled (c .before) .compile in
-    record { answer = packs-as (compile .ensures .answer) (pack .ensures); lent = compile .ensures .lent }
+    let k = compiled (c .before) in
+    let entry = k .before .before .before .before .before .before .before .before .before in
+    let bytes = front-bytes (entry .before .args .session .now) sessionSize (λ i. omega (arith, entry .slice-known .given i)) in
+    let p = packs-as (k .compile .ensures .answer) (c .pack .ensures) in
+    record { answer = p; back = packs-back (call-told _ _ bytes) p; lent = k .compile .ensures .lent }
 
 pub monkey-compile-spec : {M : Type 1} → statement M
 monkey-compile-spec =

@@ -16,19 +16,19 @@ found : (c : tie.After-layout) → let e = entry (c .before .before) in Opened (
 found c =
     let r = c .before .before in
     opened (entry r .args .session .now) (record { below = λ i. omega (arith, r .before .before .before .before .before .before .slice-known .given i) }) (entry r .pre .session)
-    (sym (r .read-layout .ensures) ∙ c .layout .given .1)
+    (sym (r .read-layout .ensures .layout) ∙ c .layout .given .1)
 
 translate-requires : tie.Need-translate-requires
 translate-requires c κs =
     let k = c .before .before .before .before .before .before in
     let r = k .before .before .before .before in
-    record { lengths = entry r .pre; layout = sym (r .read-layout .ensures) ∙ k .before .before .layout .given .1; good = sym (k .check .ensures) ∙ c .before .before .before .before .enum-told2 .given .1 }
+    record { lengths = entry r .pre; layout = sym (r .read-layout .ensures .layout) ∙ k .before .before .layout .given .1; good = sym (k .check .ensures) ∙ c .before .before .before .before .enum-told2 .given .1 }
 
 returns : tie.Need-returns
 returns c =
     let r = c .before .before in
     let e = entry r in
-    sym (broken (e .args .tree .now) (e .args .session .now) (e .args .output .now) (sym (r .read-layout .ensures) ∙ c .enum-told .given .1))
+    sym (broken (e .args .tree .now) (e .args .session .now) (e .args .output .now) (sym (r .read-layout .ensures .layout) ∙ c .enum-told .given .1))
 
 returns-2 : tie.Need-returns-2
 returns-2 c =
