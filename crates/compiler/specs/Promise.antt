@@ -14,7 +14,7 @@ use Rattle.definition.specs.Session.{Session, sessionBytes}
 use Rattle.definition.specs.Compile.{Outcome, compile}
 use Rattle.definition.specs.Call.{Lent, Called, call, made, cleared, request}
 use Rattle.definition.specs.Output.{over}
-use Rattle.definition.specs.Series.{Call, lent}
+use Rattle.definition.specs.Series.{Call, sessionAfter, lent}
 use Rattle.definition.specs.declared.Refusal.{Refusal}
 use Rattle.definition.specs.declared.Answer.{Answer}
 use Rattle.definition.specs.declared.Answer.the-variants.{Length, Refused}
@@ -40,10 +40,10 @@ pub data Ended (l : Lent) : Answer → Lent → Type 0 where
   refused : {r : Refusal} {l′ : Lent} → T (isOneOf lentNumbers (r .number)) → l′ .session ≡ l .session → l′ .output ≡ l .output → Cleared l l′ → Ended l (Refused r) l′
   short : {r : Refusal} {l′ : Lent} → r .number ≡ Number.shortBuffer → r .place ≡ 0 → l′ ≡ l → Ended l (Refused r) l′
 
--- a series of compile calls that ran: each on the session that the last one left
+-- a series of compile calls that ran: each on the session that those before it left
 pub data Ran : Bytes → List Call → List Called → Type 0 where
   none : {s : Bytes} → Ran s [] []
-  more : {s : Bytes} {c : Call} {r : Answer} {l′ : Lent} {cs : List Call} {xs : List Called} → Compiles (c .tree) (lent s c) r l′ → Ran (l′ .session) cs xs
+  more : {s : Bytes} {c : Call} {r : Answer} {l′ : Lent} {cs : List Call} {xs : List Called} → Compiles (c .tree) (lent s c) r l′ → Ran (sessionAfter s (l′ .session)) cs xs
       → Ran s (c ∷ cs) (record { answer = r; lent = l′ } ∷ xs)
 
 -- an image and a session that were written

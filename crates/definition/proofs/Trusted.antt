@@ -14,8 +14,8 @@ use Rattle.definition.specs.Bytecode.{Code, Const, Image, imageBytes}
 use Rattle.definition.specs.Session.{Session, fresh, sessionFields}
 use Rattle.definition.specs.Decode.{decoded, readImage, readSession}
 use Rattle.definition.specs.Compile.{Outcome, Request, imageOf, sessionOf, compile, steps}
-use Rattle.definition.specs.Call.{Called, request, made}
-use Rattle.definition.specs.Series.{Call, lent, calls}
+use Rattle.definition.specs.Call.{Called, request}
+use Rattle.definition.specs.Series.{Call, sessionMade, lent, calls}
 use Rattle.definition.specs.Valid.{All, ValidImage, ValidSession}
 use Rattle.definition.specs.Trusted.{Stands, constantAt, Chunk, Lands, TrustedChunk, Trusted, TrustedOutput, TrustedCall, TrustedStep}
 use Rattle.definition.specs.declared.Answer.the-variants.{Length}
@@ -30,7 +30,7 @@ use Rattle.definition.proofs.Fitting.{scopeOf, closedScope, ConstFits, 
 use Rattle.definition.proofs.Images.{read-image}
 use Rattle.definition.proofs.Sessions.{read-session}
 use Rattle.definition.proofs.Steps.{fresh-valid, compile-valid}
-use Rattle.definition.proofs.Series.{Holds as HoldsSession, Gave, CallIs, call-does, made-holds}
+use Rattle.definition.proofs.Series.{Holds as HoldsSession, Gave, CallIs, front, call-does, made-holds}
 
 -- From what fits to what is trusted
 
@@ -144,11 +144,11 @@ pub trusted-steps : (cs : List Request) → All TrustedStep (steps fresh cs)
 trusted-steps cs = trusted-from fresh fresh-valid fresh-fits cs
 
 -- the image that a call wrote
-wrote : {o : Outcome} {x : Called} {s : Bytes} {z : Session} → CallIs x s o z → ((m : Image) → o ≡ Outcome.accepted m → Trusted m z) → TrustedCall x
+wrote : {o : Outcome} {x : Called} {s : Bytes} {k : ℕ} {z : Session} → CallIs x s k o z → ((m : Image) → o ≡ Outcome.accepted m → Trusted m z) → TrustedCall x
 wrote {x = x} {z = z} d f = record { wrote = λ n e. go (d .gave) f n e }
   where
     go : {o : Outcome} → Gave o x → ((m : Image) → o ≡ Outcome.accepted m → Trusted m z) → (n : ℕ) → x .answer ≡ Length n → TrustedOutput x n
-    go (Gave.accepted {m} a t) f n e =
+    go (Gave.accepted {m} a t room) f n e =
         let l : length (imageBytes m) ≡ n = cc in
         let tr = f m refl in
         record {
@@ -156,7 +156,7 @@ wrote {x = x} {z = z} d f = record { wrote = λ n e. go (d .gave) f n e }
           session = z;
           end = length (sessionFields z);
           reads = ap (λ k. readImage (take k (x .lent .output))) (sym l) ∙ ap readImage t ∙ tr .decodes ∙ ap (decoded m) l;
-          left = ap readSession (d .holds .front) ∙ read-session z (d .holds .valid);
+          left = ap readSession (front d room) ∙ read-session z (d .holds .valid);
           trusted = tr;
         }
     go (Gave.refused {r} a) f n e = let z : _≡_ {A = ℕ} 0 1 = cc in absurd (omega arith)
@@ -170,5 +170,5 @@ calls-trusted s z h f (c ∷ cs) =
     All.more (wrote d (λ m e. trusted-step z (h .valid) f q .image m e)) (calls-trusted _ (compile z q .session) (d .holds) (keeps-compile fitting z f q .session) cs)
 
 -- P2, on lent memory: in every series of calls on a session that was made in a buffer
-pub trusted-calls : (a : Bytes) → sessionSize ≤ length a → (cs : List Call) → All TrustedCall (calls (made a .session) cs)
-trusted-calls a h cs = calls-trusted (made a .session) fresh (made-holds a h) fresh-fits cs
+pub trusted-calls : (a : Bytes) → sessionSize ≤ length a → (cs : List Call) → All TrustedCall (calls (sessionMade a) cs)
+trusted-calls a h cs = calls-trusted (sessionMade a) fresh (made-holds a h) fresh-fits cs
