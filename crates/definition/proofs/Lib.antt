@@ -29,6 +29,7 @@ pub mod Scopes
 pub mod Invariant
 pub mod Fitting
 pub mod Trusted
+pub mod Untrusted
 pub mod Heights
 pub mod Levels
 pub mod Reached

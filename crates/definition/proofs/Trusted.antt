@@ -1,4 +1,4 @@
--- P2: every image that compile calls alone have written, from a session started fresh, is one that the chair can trust.
+-- Every image of a session that was started fresh, and that compile calls alone have written, keeps the promise of specs/Trusted (P2).
 use Prim.Native.Nat.{ℕ, _≤_, _<_}
 use native.Mathlib.Omega.{arith}
 use mathlib.Core.Bool.{Bool, true, false}

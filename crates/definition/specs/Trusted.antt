@@ -1,4 +1,4 @@
--- Document 02's P2: chunks the chair can trust.
+-- What the controller is promised of each image (document 02, P2), beside the session after the call that gave it.
 use Prim.Native.Nat.{ℕ, _<_}
 use mathlib.Core.List.{List, [], _∷_}
 use mathlib.Core.Option.{Option, none, some}
