@@ -72,6 +72,7 @@ uint64_t monkey_make_session(uint8_t *session, size_t session_length);
  * Compiles a tree in a session.
  *   Accepted: the answer is the image's length, and the image stands at the front of the output, whose other bytes stay as they were.
  *     The tree's definitions and constants are added to the session, so that the next tree is compiled with them.
+ *     In a session that monkey_make_session made and monkey_compile alone has written, what code names is there and its jumps land: docs/FORMAT.md, Image.
  *   Refused, 1 to 15 or 22: session and output are as they were. An output of any length is taken; MONKEY_IMAGE_LIMIT bytes are enough for
  *     every image.
  *   Work areas may hold anything before. They are zero afterwards, over their sizes, after every call but one that is refused 1, which

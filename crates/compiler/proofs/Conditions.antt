@@ -15,7 +15,7 @@ use Rattle.definition.specs.Session.{Session, sessionBytes}
 use Rattle.definition.specs.Decode.{Decoded, decoded, malformed, readSession}
 use Rattle.definition.specs.Compile.{Outcome, Step, enough, compile}
 use Rattle.definition.specs.Call.{Lent, Called, answered, inSession, request, call}
-use Rattle.definition.specs.Series.{Call, sessionAfter, lent, calls, AllAlike, shapes, Indistinguishable}
+use Rattle.definition.specs.Series.{Call, sessionAfter, sessionMade, lent, calls, AllAlike, shapes, Indistinguishable}
 use Rattle.definition.specs.declared.Refusal.{Refusal}
 use Rattle.definition.specs.declared.Answer.{Answer}
 use Rattle.definition.specs.declared.Answer.the-variants.{Refused}
@@ -34,13 +34,15 @@ ran-calls : {s : Bytes} {cs : List Call} {xs : List Called} → Ran s cs xs → 
 ran-calls Ran.none = refl
 ran-calls (Ran.more {s} {c} {r} {l′} {cs} p q) = λ i. record { answer = p .answer i; lent = p .lent i } ∷ (ran-calls q ∙ ap (λ (l : Lent). calls (sessionAfter s (l .session)) cs) (p .lent)) i
 
+-- from a session that was made, too
+pub ran-made : {a a′ : Bytes} {r : Answer} {cs : List Call} {xs : List Called} → Makes a r a′ → Ran (take sessionSize a′) cs xs → calls (sessionMade a) cs ≡ xs
+ran-made {cs = cs} m x = sym (ran-calls x ∙ ap (λ s. calls (take sessionSize s) cs) (m .session))
+
 -- Two series of compile calls, each from a session made in a buffer of its own, whose lent lengths are equal and whose trees have equal
 -- shapes, call by call, can't be told apart but by the literals' bytes
 pub compile-condition-3 : (a b a′ b′ : Bytes) {r q : Answer} → Makes a r a′ → Makes b q b′ → sessionSize ≤ length a → sessionSize ≤ length b
     → (cs ds : List Call) → AllAlike cs ds → (xs ys : List Called) → Ran (take sessionSize a′) cs xs → Ran (take sessionSize b′) ds ys → Indistinguishable (shapes cs) xs ys
-compile-condition-3 a b a′ b′ m n h k cs ds alike xs ys x y =
-    subst₂ (Indistinguishable (shapes cs)) (sym (ran-calls x ∙ ap (λ s. calls (take sessionSize s) cs) (m .session))) (sym (ran-calls y ∙ ap (λ s. calls (take sessionSize s) ds) (n .session)))
-    (condition-3 a b h k cs ds alike)
+compile-condition-3 a b a′ b′ m n h k cs ds alike xs ys x y = subst₂ (Indistinguishable (shapes cs)) (ran-made m x) (ran-made n y) (condition-3 a b h k cs ds alike)
 
 -- Condition 2
 

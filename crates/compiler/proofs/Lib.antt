@@ -1,5 +1,6 @@
 pub mod Whole
 pub mod Conditions
+pub mod Trusted
 pub mod Lent
 pub mod Appending
 pub mod Opened

@@ -127,8 +127,7 @@ impl Run {
             some.map(|(number, n)| format!("{number} {n}")).collect::<Vec<_>>().join(", ")
         };
         println!(
-            "compared {} trees, {} with the Rust and {} refused 22 without it: accepted {}, refused {}; own limits {}; images listed {}; damaged sessions {}; pairs {}; differ {}",
-            counts.trees,
+            "compared {} trees, {} more refused 22 without the Rust: accepted {}, refused {}; own limits {}; images listed {}; damaged sessions {}; pairs {}; differ {}",
             counts.trees - counts.limits[22],
             counts.limits[22],
             counts.accepted,
