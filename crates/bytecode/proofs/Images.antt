@@ -7,7 +7,10 @@ use lib.ListN.{length}
 use borrow.Author.Tests.{eq-eqb, ne-eqb}
 use Rattle.definition.specs.Basic.{Bytes, byteAt}
 use Rattle.definition.specs.Bytecode.{Code, Image}
-use Rattle.definition.specs.Decode.{Decoded, decoded, malformed, then, ending, readHead, mainHead, readInstr, readPool, readImageOf, readImage}
+use Rattle.definition.specs.Decode.{Decoded, decoded, malformed, then, ending, readHead, readInstr, readImageOf, readImage}
+use Rattle.bytecode.specs.declared.Form.{Form}
+use Rattle.bytecode.specs.declared.Form.the-variants.{Plain}
+use Rattle.bytecode.specs.Form.{readPoolIn, mainHeadIn, readIn, readForm}
 use Rattle.bytecode.specs.declared.Checked.{Checked}
 use Rattle.bytecode.specs.declared.Checked.the-variants.{Good, Wrong}
 use Rattle.bytecode.specs.declared.ImageCheck.{ImageCheck}
@@ -17,47 +20,52 @@ use Rattle.bytecode.proofs.Items.{ended}
 use Rattle.bytecode.proofs.Fields.{head-read, mainContent}
 use Rattle.bytecode.proofs.Constants.{checked-good, checked-wrong}
 
+-- the plain form is read as the definition reads an image
+pub read-plain : (b : Bytes) → readForm Plain b ≡ readImage b
+unfolding readIn readImageOf
+read-plain b = refl
+
 then-assoc : {A B C : Type 0} (d : Decoded A) (f : A → ℕ → Decoded B) (g : B → ℕ → Decoded C) → then d (λ a n. then (f a n) g) ≡ then (then d f) g
 then-assoc (decoded a n) f g = refl
 then-assoc (malformed p) f g = refl
 
-module _ (b : Bytes) where
+module _ (f : Form) (b : Bytes) where
   -- what follows main code
   after-main : Code → ℕ → Decoded Image
-  after-main c at = then (readPool (byteAt b) at (length b)) (λ cs at₁. ending (record { code = c; pool = cs }) at₁ (length b))
+  after-main c at = then (readPoolIn f (byteAt b) at (length b)) (λ cs at₁. ending (record { code = c; pool = cs }) at₁ (length b))
 
-  image-is : readImage b ≡ then (mainCode (byteAt b) (length b)) after-main
-  unfolding readImageOf after-main
-  image-is = then-assoc (readHead (byteAt b) (mainHead (byteAt b)) 0 (length b)) (mainContent (byteAt b)) after-main
+  image-is : readForm f b ≡ then (mainCode (byteAt b) f (length b)) after-main
+  unfolding readIn after-main
+  image-is = then-assoc (readHead (byteAt b) (mainHeadIn f (byteAt b)) 0 (length b)) (mainContent (byteAt b)) after-main
 
-  module _ {r : Checked} (e : r ≡ checked (mainCode (byteAt b) (length b))) where
-    pub main-wrong : {p : ℕ} {x : ImageCheck} → r ≡ Wrong p → x ≡ refused p → x ≡ imageAnswer (readImage b)
-    main-wrong w q = q ∙ sym (ap imageAnswer (image-is ∙ ap (λ (d : Decoded Code). then d after-main) (checked-wrong (mainCode (byteAt b) (length b)) e w)))
+  module _ {r : Checked} (e : r ≡ checked (mainCode (byteAt b) f (length b))) where
+    pub main-wrong : {p : ℕ} {x : ImageCheck} → r ≡ Wrong p → x ≡ refused p → x ≡ imageAnswer (readForm f b)
+    main-wrong w q = q ∙ sym (ap imageAnswer (image-is ∙ ap (λ (d : Decoded Code). then d after-main) (checked-wrong (mainCode (byteAt b) f (length b)) e w)))
 
     module _ {k at : ℕ} (w : r ≡ Good k at) where
-      main-read : (c : Code) × (mainCode (byteAt b) (length b) ≡ decoded c at) × (length c ≡ k)
-      main-read = checked-good (mainCode (byteAt b) (length b)) e w
+      main-read : (c : Code) × (mainCode (byteAt b) f (length b) ≡ decoded c at) × (length c ≡ k)
+      main-read = checked-good (mainCode (byteAt b) f (length b)) e w
 
       pub main-within : at ≤ length b
       main-within =
-          let h = head-read (byteAt b) 0 (length b) (mainHead (byteAt b)) (mainContent (byteAt b)) (main-read .1) in
+          let h = head-read (byteAt b) 0 (length b) (mainHeadIn f (byteAt b)) (mainContent (byteAt b)) (main-read .1) in
           let m = ended (readInstr (byteAt b)) _ _ [] _ (h .1) in
           omega (arith, h .0 .within, m .ends)
 
-      image-after : readImage b ≡ after-main (main-read .0) at
+      image-after : readForm f b ≡ after-main (main-read .0) at
       image-after = image-is ∙ ap (λ (d : Decoded Code). then d after-main) (main-read .1)
 
-      module _ {s : Checked} (f : s ≡ checked (readPool (byteAt b) at (length b))) where
-        pub pool-wrong : {p : ℕ} {x : ImageCheck} → s ≡ Wrong p → x ≡ refused p → x ≡ imageAnswer (readImage b)
+      module _ {s : Checked} (g : s ≡ checked (readPoolIn f (byteAt b) at (length b))) where
+        pub pool-wrong : {p : ℕ} {x : ImageCheck} → s ≡ Wrong p → x ≡ refused p → x ≡ imageAnswer (readForm f b)
         unfolding after-main
-        pool-wrong v q = q ∙ sym (ap imageAnswer image-after ∙ rw (checked-wrong (readPool (byteAt b) at (length b)) f v))
+        pool-wrong v q = q ∙ sym (ap imageAnswer image-after ∙ rw (checked-wrong (readPoolIn f (byteAt b) at (length b)) g v))
 
-        pub image-ends : {j next : ℕ} → s ≡ Good j next → next ≡ length b → Sound j ≡ imageAnswer (readImage b)
+        pub image-ends : {j next : ℕ} → s ≡ Good j next → next ≡ length b → Sound j ≡ imageAnswer (readForm f b)
         unfolding after-main
         image-ends {next = next} v q =
-            let g = checked-good (readPool (byteAt b) at (length b)) f v in
-            sym (ap imageAnswer image-after ∙ rw (g .1, eq-eqb next (length b) q) (ap Sound (g .2)))
+            let h = checked-good (readPoolIn f (byteAt b) at (length b)) g v in
+            sym (ap imageAnswer image-after ∙ rw (h .1, eq-eqb next (length b) q) (ap Sound (h .2)))
 
-        pub image-follows : {j next : ℕ} {x : ImageCheck} → s ≡ Good j next → (next ≡ length b → ⊥) → x ≡ refused next → x ≡ imageAnswer (readImage b)
+        pub image-follows : {j next : ℕ} {x : ImageCheck} → s ≡ Good j next → (next ≡ length b → ⊥) → x ≡ refused next → x ≡ imageAnswer (readForm f b)
         unfolding after-main
-        image-follows {next = next} v n q = q ∙ sym (ap imageAnswer image-after ∙ rw (checked-good (readPool (byteAt b) at (length b)) f v .1, ne-eqb next (length b) n))
+        image-follows {next = next} v n q = q ∙ sym (ap imageAnswer image-after ∙ rw (checked-good (readPoolIn f (byteAt b) at (length b)) g v .1, ne-eqb next (length b) n))
