@@ -7,8 +7,11 @@ use native.Mathlib.Omega.{arith}
 use lib.Dec.{eqb}
 use lib.ListN.{length}
 use borrow.Author.Tests.{eq-eqb, ne-eqb, leb-true}
-use Rattle.definition.specs.Tag.{tagIntegerConst, tagStringConst, tagFunctionConst}
+use Rattle.definition.specs.Tag.{tagIntegerConst, tagStringConst}
 use Rattle.definition.specs.Decode.{Decoded, decoded, malformed, readCode, readFunction, readContent}
+use Rattle.bytecode.specs.declared.Form.{Form}
+use Rattle.bytecode.specs.declared.Form.the-variants.{Plain, Chin}
+use Rattle.bytecode.specs.Form.{tagFunctionIn}
 use Rattle.bytecode.specs.declared.Item.the-variants.{Next, Wrong as WrongItem}
 use Rattle.bytecode.specs.declared.Checked.{Checked}
 use Rattle.bytecode.specs.declared.Checked.the-variants.{Good, Wrong}
@@ -24,9 +27,18 @@ pub checked-wrong : {A : Type 0} (d : Decoded (List A)) {r : Checked} {p : ℕ} 
 checked-wrong (decoded xs m) e w = let z : _≡_ {A = ℕ} 0 1 = cc in absurd (omega arith)
 checked-wrong (malformed q) e w = ap malformed (cc)
 
-module _ (byte : ℕ → ℕ) (in₀ tag len : ℕ) (good : isConstant (headOf tag len) ≡ true) where
+-- a function's tag is no other constant's
+pub not-integer : (f : Form) → tagFunctionIn f ≡ tagIntegerConst → ⊥
+not-integer Plain e = omega arith
+not-integer Chin e = omega arith
+
+pub not-string : (f : Form) → tagFunctionIn f ≡ tagStringConst → ⊥
+not-string Plain e = omega arith
+not-string Chin e = omega arith
+
+module _ (f : Form) (byte : ℕ → ℕ) (in₀ tag len : ℕ) (good : isConstant f (headOf tag len) ≡ true) where
   -- an integer or a string
-  pub plain-constant : (tag ≡ tagFunctionConst → ⊥) → item (readContent byte (headOf tag len) in₀) ≡ Next (in₀ + len)
+  pub plain-constant : (tag ≡ tagFunctionIn f → ⊥) → item (readContent byte (headOf tag len) in₀) ≡ Next (in₀ + len)
   plain-constant n = go (eqb tag tagIntegerConst) refl (eqb tag tagStringConst) refl
     where
       go : (a : Bool) → eqb tag tagIntegerConst ≡ a → (b : Bool) → eqb tag tagStringConst ≡ b
@@ -34,23 +46,23 @@ module _ (byte : ℕ → ℕ) (in₀ tag len : ℕ) (good : isConstant (headOf t
       go true s b t = rw s
       go false s true t = rw (s, t)
       go false s false t =
-          let z : false ≡ true = rw (s, t, ne-eqb tag tagFunctionConst n) at good in
+          let z : false ≡ true = rw (s, t, ne-eqb tag (tagFunctionIn f) n) at good in
           let y : _≡_ {A = ℕ} 0 1 = cc in
           absurd (omega arith)
 
-  module _ (f : tag ≡ tagFunctionConst) where
-    not-tag : (t : ℕ) → (tagFunctionConst ≡ t → ⊥) → eqb tag t ≡ false
-    not-tag t n = ne-eqb tag t (λ e. n (sym f ∙ e))
+  module _ (is : tag ≡ tagFunctionIn f) where
+    not-tag : (t : ℕ) → (tagFunctionIn f ≡ t → ⊥) → eqb tag t ≡ false
+    not-tag t n = ne-eqb tag t (λ e. n (sym is ∙ e))
 
     integer-not : eqb tag tagIntegerConst ≡ false
-    integer-not = not-tag tagIntegerConst (λ e. omega arith)
+    integer-not = not-tag tagIntegerConst (not-integer f)
 
     string-not : eqb tag tagStringConst ≡ false
-    string-not = not-tag tagStringConst (λ e. omega arith)
+    string-not = not-tag tagStringConst (not-string f)
 
     -- a function has at least its three numbers
     pub function-long : 3 ≤ len
-    function-long = leb-true 3 len (rw (integer-not, string-not, eq-eqb tag tagFunctionConst f) at good)
+    function-long = leb-true 3 len (rw (integer-not, string-not, eq-eqb tag (tagFunctionIn f) is) at good)
 
     is-function : readContent byte (headOf tag len) in₀ ≡ readFunction byte in₀ len
     is-function = rw (integer-not, string-not)

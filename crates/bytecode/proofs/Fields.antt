@@ -10,10 +10,13 @@ use Rattle.definition.specs.Basic.{pick, both, Bytes}
 use Rattle.definition.specs.Tag.{tagIntegerConst, tagStringConst}
 use Rattle.definition.specs.Field.{Head, head, fits, nameHead, tagged, bytes}
 use Rattle.definition.specs.Bytecode.{Code, Const}
-use Rattle.definition.specs.Decode.{Decoded, decoded, malformed, then, readHead, readInstr, readCode, constHead, readFunction, readContent, readConst, readNameField}
+use Rattle.definition.specs.Decode.{Decoded, decoded, malformed, then, readHead, readInstr, readCode, readFunction, readContent, readConst, readNameField}
+use Rattle.bytecode.specs.declared.Form.{Form}
+use Rattle.bytecode.specs.declared.Form.the-variants.{Plain}
+use Rattle.bytecode.specs.Form.{constHeadIn, readConstIn}
 use Rattle.bytecode.specs.declared.Item.{Item}
 use Rattle.bytecode.specs.declared.Item.the-variants.{Next, Wrong as WrongItem}
-use Rattle.bytecode.specs.Checked.{item, constants, nameFields}
+use Rattle.bytecode.specs.Checked.{item, constants, constantsIn, nameFields}
 use Rattle.bytecode.proofs.Heads.{both-true}
 use Rattle.bytecode.proofs.Items.{unlike, ended}
 
@@ -28,6 +31,10 @@ namesContent byte h in₀ = nameFields byte in₀ (in₀ + h .len)
 -- what follows a pool's head
 abbrev pub poolContent : (ℕ → ℕ) → Head → ℕ → Decoded (List Const)
 poolContent byte h in₀ = constants byte in₀ (in₀ + h .len)
+
+-- and in a form
+abbrev pub poolContentIn : (ℕ → ℕ) → Form → Head → ℕ → Decoded (List Const)
+poolContentIn byte f h in₀ = constantsIn byte f in₀ (in₀ + h .len)
 
 -- what follows the head of an image's main code
 abbrev pub mainContent : (ℕ → ℕ) → Head → ℕ → Decoded Code
@@ -86,14 +93,21 @@ module _ (byte : ℕ → ℕ) (at end : ℕ) where
       go false false j = function-end j
 
   -- an item ends after its beginning, and within its part
+  pub const-end-in : (f : Form) {x : Const} {n : ℕ} → readConstIn f byte at end ≡ decoded x n → n ≡ at + 3 + head byte at .len
+  const-end-in f e = content-end (head byte at) (at + 3) (head-read (constHeadIn f byte) (readContent byte) e .1)
+
+  pub const-ends-in : (f : Form) (x : Const) (n : ℕ) → readConstIn f byte at end ≡ decoded x n → (at < n) × (n ≤ end)
+  const-ends-in f x n e =
+      let p = head-read (constHeadIn f byte) (readContent byte) e in
+      let m = const-end-in f e in
+      omega (arith, p .0 .within)
+
+  -- in a plain image, and in a session
   pub const-end : {x : Const} {n : ℕ} → readConst byte at end ≡ decoded x n → n ≡ at + 3 + head byte at .len
-  const-end e = content-end (head byte at) (at + 3) (head-read (constHead byte) (readContent byte) e .1)
+  const-end e = const-end-in Plain e
 
   pub const-ends : (x : Const) (n : ℕ) → readConst byte at end ≡ decoded x n → (at < n) × (n ≤ end)
-  const-ends x n e =
-      let p = head-read (constHead byte) (readContent byte) e in
-      let m = const-end e in
-      omega (arith, p .0 .within)
+  const-ends x n e = const-ends-in Plain x n e
 
   pub name-ends : (x : Bytes) (n : ℕ) → readNameField byte at end ≡ decoded x n → (at < n) × (n ≤ end)
   name-ends x n e =

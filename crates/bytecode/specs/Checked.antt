@@ -10,7 +10,9 @@ use Rattle.definition.specs.Number.{refusal, noSession, badImage}
 use Rattle.definition.specs.Field.{Head, fits, head, nameHead}
 use Rattle.definition.specs.Bytecode.{Code, Const, Image}
 use Rattle.definition.specs.Session.{Session}
-use Rattle.definition.specs.Decode.{Decoded, decoded, malformed, then, items, readHead, constHead, poolHead, mainHead, readCode, readConst, readNameField, readNames, readSession}
+use Rattle.definition.specs.Decode.{Decoded, decoded, malformed, then, items, readHead, poolHead, readCode, readConst, readNameField, readNames, readSession}
+use Rattle.bytecode.specs.Form.{constHeadIn, readConstIn, mainHeadIn}
+use Rattle.bytecode.specs.declared.Form.{Form}
 use Rattle.definition.specs.declared.Answer.{Answer}
 use Rattle.definition.specs.declared.Answer.the-variants.{Length, Refused as RefusedAnswer}
 use Rattle.bytecode.specs.declared.FieldHead.{FieldHead}
@@ -34,14 +36,14 @@ abbrev pub headOf : ℕ → ℕ → Head
 headOf t n = record { tag = t; len = n }
 
 -- the tests of a head, which look at no other byte
-abbrev pub isConstant : Head → Bool
-isConstant = constHead (λ i. 0)
+abbrev pub isConstant : Form → Head → Bool
+isConstant f = constHeadIn f (λ i. 0)
 
 abbrev pub isPool : Head → Bool
 isPool = poolHead (λ i. 0)
 
-abbrev pub isMain : Head → Bool
-isMain = mainHead (λ i. 0)
+abbrev pub isMain : Form → Head → Bool
+isMain f = mainHeadIn f (λ i. 0)
 
 abbrev pub isName : Head → Bool
 isName = nameHead 1
@@ -65,13 +67,17 @@ module _ (byte : ℕ → ℕ) where
   abbrev pub constants : ℕ → ℕ → Decoded (List Const)
   constants start end = items (readConst byte) constantsLimit [] start end
 
+  -- and of a pool in a form
+  abbrev pub constantsIn : Form → ℕ → ℕ → Decoded (List Const)
+  constantsIn f start end = items (readConstIn f byte) constantsLimit [] start end
+
   -- the content of a session's names
   abbrev pub nameFields : ℕ → ℕ → Decoded (List Bytes)
   nameFields start end = items (readNameField byte) globalsLimit [] start end
 
   -- an image's main code
-  abbrev pub mainCode : ℕ → Decoded Code
-  mainCode n = then (readHead byte (mainHead byte) 0 n) (λ h in₀. readCode byte (h .len) in₀ (in₀ + h .len))
+  abbrev pub mainCode : Form → ℕ → Decoded Code
+  mainCode f n = then (readHead byte (mainHeadIn f byte) 0 n) (λ h in₀. readCode byte (h .len) in₀ (in₀ + h .len))
 
 -- an image: how many constants it has; number 17 where something is wrong
 abbrev pub refused : ℕ → ImageCheck

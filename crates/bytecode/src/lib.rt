@@ -10,8 +10,40 @@ ghost use mathlib.Core.Path.{_≡_};
 ghost use Prim.Native.Nat.{ℕ, _+_, _≤_};
 ghost use lib.ListN.{length};
 ghost use Rattle.definition.specs.Basic.{byteAt};
-ghost use Rattle.definition.specs.Decode.{allZero, readCode, readConst, readPool, readImage, readNameField, readNames};
-ghost use Rattle.bytecode.specs.Checked.{Part, headOf, isConstant, isPool, isMain, isName, headAnswer, item, checked, constants, nameFields, mainCode, refused, imageAnswer, LaysOut};
+ghost use Rattle.definition.specs.Decode.{allZero, readCode, readImage, readNameField, readNames};
+ghost use Rattle.bytecode.specs.Form.{tagMainIn, tagFunctionIn, readConstIn, readPoolIn, readForm};
+ghost use Rattle.bytecode.specs.Checked.{Part, headOf, isConstant, isPool, isMain, isName, headAnswer, item, checked, constantsIn, nameFields, mainCode, refused, imageAnswer, LaysOut};
+
+// The tags of the chin unit's main code and functions.
+pub const CHIN_MAIN: u8 = 0x58;
+
+pub const CHIN_FUNCTION: u8 = 0x63;
+
+// The forms of an image: document 01's, and the chin unit's.
+pub enum Form {
+    Plain,
+    Chin,
+}
+
+// The tag of main code in a form.
+pub fn main_tag(form: Form) -> u8
+    ensures { λ r. ⌜ r ≡ tagMainIn form ⌝ }
+{
+    match form {
+        Form::Plain => tag::MAIN,
+        Form::Chin => CHIN_MAIN,
+    }
+}
+
+// The tag of a function in a form.
+pub fn function_tag(form: Form) -> u8
+    ensures { λ r. ⌜ r ≡ tagFunctionIn form ⌝ }
+{
+    match form {
+        Form::Plain => tag::FUNCTION_CONST,
+        Form::Chin => CHIN_FUNCTION,
+    }
+}
 
 // A field's tag and content length, where the whole field stands before an end.
 pub enum FieldHead {
@@ -86,8 +118,8 @@ fn check_code(bytes: &[u8], start: usize, end: usize) -> Checked
 }
 
 // Whether a head is a constant's.
-pub fn constant_head(tag: u8, len: usize) -> bool
-    ensures { λ r. ⌜ r ≡ isConstant (headOf tag len) ⌝ }
+pub fn constant_head(form: Form, tag: u8, len: usize) -> bool
+    ensures { λ r. ⌜ r ≡ isConstant form (headOf tag len) ⌝ }
 {
     if tag == tag::INTEGER_CONST {
         return len == 8;
@@ -95,24 +127,24 @@ pub fn constant_head(tag: u8, len: usize) -> bool
     if tag == tag::STRING_CONST {
         return true;
     }
-    if tag != tag::FUNCTION_CONST {
+    if tag != function_tag(form) {
         return false;
     }
     3 <= len
 }
 
 // Check the constant at `at`.
-fn check_constant(bytes: &[u8], at: usize, end: usize) -> Item
+fn check_constant(bytes: &[u8], at: usize, end: usize, form: Form) -> Item
     requires { ⌜ Part (now bytes) at end ⌝ }
-    ensures { λ r. ⌜ r ≡ item (readConst (byteAt (now (bytes .entry))) at end) ⌝ }
+    ensures { λ r. ⌜ r ≡ item (readConstIn form (byteAt (now (bytes .entry))) at end) ⌝ }
 {
     match head_at(bytes, at, end) {
         FieldHead::Cut => Item::Wrong(at),
         FieldHead::Whole(tag, len) => {
-            if !constant_head(tag, len) {
+            if !constant_head(form, tag, len) {
                 return Item::Wrong(at);
             }
-            if tag != tag::FUNCTION_CONST {
+            if tag != function_tag(form) {
                 return Item::Next(at + 3 + len);
             }
             match check_code(bytes, at + 3 + 3, at + 3 + len) {
@@ -124,9 +156,9 @@ fn check_constant(bytes: &[u8], at: usize, end: usize) -> Item
 }
 
 // Check that constants, at most 4,096, fill the part from `start` up to `end`.
-pub fn check_constants(bytes: &[u8], start: usize, end: usize) -> Checked
+fn check_constants(bytes: &[u8], start: usize, end: usize, form: Form) -> Checked
     requires { ⌜ Part (now bytes) start end ⌝ }
-    ensures { λ r. ⌜ r ≡ checked (constants (byteAt (now (bytes .entry))) start end) ⌝ }
+    ensures { λ r. ⌜ r ≡ checked (constantsIn (byteAt (now (bytes .entry))) form start end) ⌝ }
 {
     let mut at = start;
     let mut count = 0;
@@ -134,7 +166,7 @@ pub fn check_constants(bytes: &[u8], start: usize, end: usize) -> Checked
         if count == limit::CONSTANTS_LIMIT {
             return Checked::Wrong(at);
         }
-        match check_constant(bytes, at, end) {
+        match check_constant(bytes, at, end, form) {
             Item::Wrong(place) => return Checked::Wrong(place),
             Item::Next(next) => {
                 at = next;
@@ -156,9 +188,9 @@ pub fn pool_head(tag: u8, len: usize) -> bool
 }
 
 // Check the pool at `at`.
-fn check_pool(bytes: &[u8], at: usize, end: usize) -> Checked
+fn check_pool(bytes: &[u8], at: usize, end: usize, form: Form) -> Checked
     requires { ⌜ Part (now bytes) at end ⌝ }
-    ensures { λ r. ⌜ r ≡ checked (readPool (byteAt (now (bytes .entry))) at end) ⌝ }
+    ensures { λ r. ⌜ r ≡ checked (readPoolIn form (byteAt (now (bytes .entry))) at end) ⌝ }
 {
     match head_at(bytes, at, end) {
         FieldHead::Cut => Checked::Wrong(at),
@@ -166,29 +198,29 @@ fn check_pool(bytes: &[u8], at: usize, end: usize) -> Checked
             if !pool_head(tag, len) {
                 return Checked::Wrong(at);
             }
-            check_constants(bytes, at + 3, at + 3 + len)
+            check_constants(bytes, at + 3, at + 3 + len, form)
         }
     }
 }
 
 // Whether a head is that of an image's main code.
-pub fn main_head(tag: u8, len: usize) -> bool
-    ensures { λ r. ⌜ r ≡ isMain (headOf tag len) ⌝ }
+pub fn main_head(form: Form, tag: u8, len: usize) -> bool
+    ensures { λ r. ⌜ r ≡ isMain form (headOf tag len) ⌝ }
 {
-    if tag != tag::MAIN {
+    if tag != main_tag(form) {
         return false;
     }
     len <= limit::CODE_SIZE
 }
 
 // Check an image's main code.
-fn check_main(image: &[u8]) -> Checked
-    ensures { λ r. ⌜ r ≡ checked (mainCode (byteAt (now (image .entry))) (length (now (image .entry)))) ⌝ }
+fn check_main(image: &[u8], form: Form) -> Checked
+    ensures { λ r. ⌜ r ≡ checked (mainCode (byteAt (now (image .entry))) form (length (now (image .entry)))) ⌝ }
 {
     match head_at(image, 0, image.len()) {
         FieldHead::Cut => Checked::Wrong(0),
         FieldHead::Whole(tag, len) => {
-            if !main_head(tag, len) {
+            if !main_head(form, tag, len) {
                 return Checked::Wrong(0);
             }
             check_code(image, 3, 3 + len)
@@ -206,13 +238,13 @@ fn bad_image(place: usize) -> ImageCheck
     })
 }
 
-// Check an image: it is sound, with so many constants, or 17 at its first wrong field or instruction.
-pub fn check_image(image: &[u8]) -> ImageCheck
-    ensures { λ r. ⌜ r ≡ imageAnswer (readImage (now (image .entry))) ⌝ }
+// Check an image of a form: it is sound, with so many constants, or 17 at its first wrong field or instruction.
+pub fn check_form(image: &[u8], form: Form) -> ImageCheck
+    ensures { λ r. ⌜ r ≡ imageAnswer (readForm form (now (image .entry))) ⌝ }
 {
-    match check_main(image) {
+    match check_main(image, form) {
         Checked::Wrong(place) => bad_image(place),
-        Checked::Good(_, at) => match check_pool(image, at, image.len()) {
+        Checked::Good(_, at) => match check_pool(image, at, image.len(), form) {
             Checked::Wrong(place) => bad_image(place),
             Checked::Good(constants, next) => {
                 if next != image.len() {
@@ -222,6 +254,14 @@ pub fn check_image(image: &[u8]) -> ImageCheck
             }
         },
     }
+}
+
+// Check an image.
+pub fn check_image(image: &[u8]) -> ImageCheck
+    ensures { λ r. ⌜ r ≡ imageAnswer (readImage (now (image .entry))) ⌝ }
+{
+    let form = Form::Plain;
+    check_form(image, form)
 }
 
 // Whether a head is a name's.
@@ -309,7 +349,12 @@ pub fn read_layout(session: &[u8]) -> Layout
 {
     match check_names(session) {
         Checked::Wrong(_) => Layout::Broken,
-        Checked::Good(names, names_end) => match check_pool(session, names_end, session.len()) {
+        Checked::Good(names, names_end) => match check_pool(
+            session,
+            names_end,
+            session.len(),
+            Form::Plain,
+        ) {
             Checked::Wrong(_) => Layout::Broken,
             Checked::Good(constants, pool_end) => {
                 if all_zero(&session[pool_end..]) {

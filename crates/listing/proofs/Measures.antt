@@ -19,12 +19,13 @@ use Rattle.definition.specs.Listing.{codeLine, codeLines, constantFields, const
 use Rattle.opcode.specs.Decoding.{sizeAt}
 use Rattle.opcode.proofs.Decoding.{stands, both-left}
 use Rattle.bytecode.specs.Checked.{headOf, isConstant, isPool, isMain, constants, mainCode}
+use Rattle.bytecode.specs.declared.Form.the-variants.{Plain}
 use Rattle.bytecode.proofs.Heads.{both-true}
 use Rattle.bytecode.proofs.Items.{ended}
 use Rattle.bytecode.proofs.Fields.{mainContent, head-read, const-end, const-ends}
 use Rattle.bytecode.proofs.Instructions.{CodeRead, reads-begin, reads-end, reads-wrong, reads-again}
 use Rattle.bytecode.proofs.Limited.{ItemsRead, items-begin, items-end, items-full, items-wrong, items-again}
-use Rattle.bytecode.proofs.Images.{image-main-wrong, main-ends, image-pool-wrong, image-whole, image-longer}
+use Rattle.bytecode.proofs.Images.{read-plain, image-main-wrong, main-ends, image-pool-wrong, image-whole, image-longer}
 use Rattle.listing.specs.declared.measure.Measured.{Measured}
 use Rattle.listing.specs.declared.measure.Measured.the-variants.{Good, Wrong}
 use Rattle.listing.specs.declared.measure.MeasuredPool.{MeasuredPool}
@@ -112,7 +113,7 @@ module _ (b : Bytes) (from len : ℕ) {r : Measured} (e : r ≡ codeMeasured (re
       rw (g .1) (ap (λ (x : ℕ). Good x n) c)
 
 -- a constant's content, whose head is good, by its tag
-module _ (b : Bytes) (from tag len : ℕ) (good : isConstant (headOf tag len) ≡ true) where
+module _ (b : Bytes) (from tag len : ℕ) (good : isConstant Plain (headOf tag len) ≡ true) where
   pub integer-long : tag ≡ tagIntegerConst → len ≡ 8
   integer-long e = eqb-true len 8 (rw (eq-eqb tag tagIntegerConst e) at good)
 
@@ -211,33 +212,33 @@ module _ (b : Bytes) (start end : ℕ) where
               }
 
 -- heads of main code and of a pool that are short enough
-pub main-short : (tag len : ℕ) → isMain (headOf tag len) ≡ true → len ≤ codeSize
+pub main-short : (tag len : ℕ) → isMain Plain (headOf tag len) ≡ true → len ≤ codeSize
 main-short tag len g = leb-true len codeSize (both-true (eqb tag tagMain) (leb len codeSize) g .1)
 
 pub pool-short : (tag len : ℕ) → isPool (headOf tag len) ≡ true → len ≤ poolLimit
 pool-short tag len g = leb-true len poolLimit (both-true (eqb tag tagPool) (leb len poolLimit) g .1)
 
 -- main code begins behind its head
-pub main-size : (b : Bytes) {c : Code} {at : ℕ} → mainCode (byteAt b) (length b) ≡ decoded c at → 3 + sizeOf c ≡ at
+pub main-size : (b : Bytes) {c : Code} {at : ℕ} → mainCode (byteAt b) Plain (length b) ≡ decoded c at → 3 + sizeOf c ≡ at
 main-size b e =
     let h = head-read (byteAt b) 0 (length b) (mainHead (byteAt b)) (mainContent (byteAt b)) e in
     code-size (byteAt b) _ 3 _ (h .1)
 
 -- an image, from its main code and its pool
-module _ (b : Bytes) {r : Measured} (e : r ≡ codeMeasured (mainCode (byteAt b) (length b))) where
+module _ (b : Bytes) {r : Measured} (e : r ≡ codeMeasured (mainCode (byteAt b) Plain (length b))) where
   pub main-wrong : {p : ℕ} {x : MeasuredImage} → r ≡ Wrong p → x ≡ refusedAt p → x ≡ imageMeasured (readImage b)
-  main-wrong w q = q ∙ sym (ap imageMeasured (image-main-wrong b (measured-wrong codeLines (mainCode (byteAt b) (length b)) e w)))
+  main-wrong w q = q ∙ sym (ap imageMeasured (sym (read-plain b) ∙ image-main-wrong Plain b (measured-wrong codeLines (mainCode (byteAt b) Plain (length b)) e w)))
 
   module _ {lines at : ℕ} (w : r ≡ Good lines at) where
-    main : (c : Code) × (mainCode (byteAt b) (length b) ≡ decoded c at) × (length (codeLines c) ≡ lines)
-    main = measured-good codeLines (mainCode (byteAt b) (length b)) e w
+    main : (c : Code) × (mainCode (byteAt b) Plain (length b) ≡ decoded c at) × (length (codeLines c) ≡ lines)
+    main = measured-good codeLines (mainCode (byteAt b) Plain (length b)) e w
 
     -- where it ends
     pub main-behind : 3 ≤ at
     main-behind = omega (arith, main-size b (main .1))
 
     pub main-within : at ≤ length b
-    main-within = main-ends b (main .1)
+    main-within = main-ends Plain b (main .1)
 
     module _ {s : MeasuredPool} (f : s ≡ poolMeasured (readPool (byteAt b) at (length b))) where
       pool-read : (d : Decoded (List Const)) {k t n : ℕ} → s ≡ poolMeasured d → s ≡ Constants k t n
@@ -250,14 +251,14 @@ module _ (b : Bytes) {r : Measured} (e : r ≡ codeMeasured (mainCode (byteAt b)
       pool-refused (malformed q) g v = ap malformed (cc)
 
       pub image-pool : {p : ℕ} {x : MeasuredImage} → s ≡ WrongPool p → x ≡ refusedAt p → x ≡ imageMeasured (readImage b)
-      image-pool v q = q ∙ sym (ap imageMeasured (image-pool-wrong b (main .1) (pool-refused (readPool (byteAt b) at (length b)) f v)))
+      image-pool v q = q ∙ sym (ap imageMeasured (sym (read-plain b) ∙ image-pool-wrong Plain b (main .1) (pool-refused (readPool (byteAt b) at (length b)) f v)))
 
       module _ {k t n : ℕ} (v : s ≡ Constants k t n) where
         pool : (cs : List Const) × (readPool (byteAt b) at (length b) ≡ decoded cs n) × (length cs ≡ k) × (length (constantLines cs) ≡ t)
         pool = pool-read (readPool (byteAt b) at (length b)) f v
 
         pub image-follows : {x : MeasuredImage} → (n ≡ length b → ⊥) → x ≡ refusedAt n → x ≡ imageMeasured (readImage b)
-        image-follows q i = i ∙ sym (ap imageMeasured (image-longer b (main .1) (pool .1) q))
+        image-follows q i = i ∙ sym (ap imageMeasured (sym (read-plain b) ∙ image-longer Plain b (main .1) (pool .1) q))
 
         pub image-ends : {x y : ℕ} → n ≡ length b → x ≡ length (decimal (at - 3)) → y ≡ length (decimal k)
             → Sound k (12 + x + y + lines + t) ≡ imageMeasured (readImage b)
@@ -268,4 +269,4 @@ module _ (b : Bytes) {r : Measured} (e : r ≡ codeMeasured (mainCode (byteAt b)
             let long : 12 + x + y + lines + t ≡ length (listing (record { code = c; pool = cs })) =
             simp length-append (omega (arith, i, j, ap (λ m. length (decimal m)) size, ap (λ m. length (decimal m)) (pool .2), main .2, pool .3))
             in
-            ap (λ (m : ℕ). Sound m (12 + x + y + lines + t)) (sym (pool .2)) ∙ ap (Sound (length cs)) long ∙ sym (ap imageMeasured (image-whole b (main .1) (pool .1) q))
+            ap (λ (m : ℕ). Sound m (12 + x + y + lines + t)) (sym (pool .2)) ∙ ap (Sound (length cs)) long ∙ sym (ap imageMeasured (sym (read-plain b) ∙ image-whole Plain b (main .1) (pool .1) q))

@@ -6,6 +6,7 @@ use crate::lengths::integer_length;
 use crate::lengths::line_length;
 use crate::lengths::string_length;
 use bytecode::FieldHead;
+use bytecode::Form;
 use bytecode::constant_head;
 use bytecode::head_at;
 use bytecode::main_head;
@@ -86,7 +87,7 @@ fn measure_function(image: &[u8], from: usize, len: usize) -> Measured
 
 // Reads a constant's content, whose head is good.
 fn measure_content(image: &[u8], from: usize, tag: u8, len: usize) -> Measured
-    requires { ⌜ Piece (now image) from (from + len) × (isConstant (headOf tag len) ≡ true) ⌝ }
+    requires { ⌜ Piece (now image) from (from + len) × (isConstant Form.Plain (headOf tag len) ≡ true) ⌝ }
     ensures is { λ r. ⌜ r ≡ constantMeasured (readContent (byteAt (now (image .entry))) (headOf tag len) from) ⌝ }
     ensures small { λ r. ⌜ textOf r + 20 ≤ perByte * (1 + len) ⌝ }
 {
@@ -108,7 +109,8 @@ fn measure_constant(image: &[u8], at: usize, end: usize) -> Measured
     match head_at(image, at, end) {
         FieldHead::Cut => Measured::Wrong(at),
         FieldHead::Whole(tag, len) => {
-            if !constant_head(tag, len) {
+            let form = Form::Plain;
+            if !constant_head(form, tag, len) {
                 return Measured::Wrong(at);
             }
             measure_content(image, at + 3, tag, len)
@@ -160,13 +162,14 @@ fn measure_pool(image: &[u8], at: usize) -> MeasuredPool
 
 // Reads the main code.
 fn measure_main(image: &[u8]) -> Measured
-    ensures is { λ r. ⌜ r ≡ codeMeasured (mainCode (byteAt (now (image .entry))) (length (now (image .entry)))) ⌝ }
+    ensures is { λ r. ⌜ r ≡ codeMeasured (mainCode (byteAt (now (image .entry))) Form.Plain (length (now (image .entry)))) ⌝ }
     ensures small { λ r. ⌜ textOf r ≤ perByte * 65536 ⌝ }
 {
     match head_at(image, 0, image.len()) {
         FieldHead::Cut => Measured::Wrong(0),
         FieldHead::Whole(tag, len) => {
-            if !main_head(tag, len) {
+            let form = Form::Plain;
+            if !main_head(form, tag, len) {
                 return Measured::Wrong(0);
             }
             measure_code(image, 3, 3 + len)

@@ -20,44 +20,46 @@ returns c =
     let tag = c .before .before .before .tag in
     let constant-head = c .before .constant-head in
     let if1 = c .if1 in
-    sym (ap item (after-bad (byteAt (now (start .args .bytes))) (start .args .at) (start .args .end) isConstant (readContent (byteAt (now (start .args .bytes)))) (head-at .ensures) (tag .given .1) (constant-head .ensures) (not-true _ (if1 .taken))))
+    sym (ap item (after-bad (byteAt (now (start .args .bytes))) (start .args .at) (start .args .end) (isConstant (start .args .form)) (readContent (byteAt (now (start .args .bytes)))) (head-at .ensures) (tag .given .1) (constant-head .ensures) (not-true _ (if1 .taken))))
 
-add-t13 : tie.Need-add-t13
-add-t13 c =
-    let start = c .before .before .before .before .before .before .before .before in
-    let head-at = c .before .before .before .before .before .before .head-at in
-    let tag = c .before .before .before .before .tag in
+add-t15 : tie.Need-add-t15
+add-t15 c =
+    let start = c .before .before .before .before .before .before .before .before .before in
+    let head-at = c .before .before .before .before .before .before .before .head-at in
+    let tag = c .before .before .before .before .before .tag in
     let f = fitting (byteAt (now (start .args .bytes))) (start .args .at) (start .args .end) (head-at .ensures) (tag .given .1) in
     omega arith
 
 returns-2 : tie.Need-returns-2
 returns-2 c =
-    let start = c .before .before .before .before .before .before .before .before in
-    let head-at = c .before .before .before .before .before .before .head-at in
-    let tag = c .before .before .before .before .tag in
-    let constant-head = c .before .before .constant-head in
-    let if1 = c .before .if1 in
+    let start = c .before .before .before .before .before .before .before .before .before in
+    let head-at = c .before .before .before .before .before .before .before .head-at in
+    let tag = c .before .before .before .before .before .tag in
+    let constant-head = c .before .before .before .constant-head in
+    let if1 = c .before .before .if1 in
     let if2 = c .if2 in
-    sym (ap item (after-good (byteAt (now (start .args .bytes))) (start .args .at) (start .args .end) isConstant (readContent (byteAt (now (start .args .bytes)))) (head-at .ensures) (tag .given .1) (constant-head .ensures) (not-false _ (if1 .left))) ∙ plain-constant (byteAt (now (start .args .bytes))) (start .args .at + 3) (tag .given .0 .0) (tag .given .0 .1 .0) (sym (constant-head .ensures) ∙ not-false _ (if1 .left)) (if2 .taken))
+    let function = c .before .function-tag in
+    sym (ap item (after-good (byteAt (now (start .args .bytes))) (start .args .at) (start .args .end) (isConstant (start .args .form)) (readContent (byteAt (now (start .args .bytes)))) (head-at .ensures) (tag .given .1) (constant-head .ensures) (not-false _ (if1 .left))) ∙ plain-constant (start .args .form) (byteAt (now (start .args .bytes))) (start .args .at + 3) (tag .given .0 .0) (tag .given .0 .1 .0) (sym (constant-head .ensures) ∙ not-false _ (if1 .left)) (λ e. if2 .taken (e ∙ sym (function .ensures))))
 
 add-check-code-4 : tie.Need-add-check-code-4
 add-check-code-4 c =
-    let start = c .before .before .before .before .before .before .before .before in
-    let head-at = c .before .before .before .before .before .before .head-at in
-    let tag = c .before .before .before .before .tag in
+    let start = c .before .before .before .before .before .before .before .before .before in
+    let head-at = c .before .before .before .before .before .before .before .head-at in
+    let tag = c .before .before .before .before .before .tag in
     let f = fitting (byteAt (now (start .args .bytes))) (start .args .at) (start .args .end) (head-at .ensures) (tag .given .1) in
     omega arith
 
 check-code-requires : tie.Need-check-code-requires
 check-code-requires c κs =
-    let start = c .before .before .before .before .before .before .before .before in
-    let head-at = c .before .before .before .before .before .before .head-at in
-    let tag = c .before .before .before .before .tag in
-    let constant-head = c .before .before .constant-head in
-    let if1 = c .before .if1 in
+    let start = c .before .before .before .before .before .before .before .before .before in
+    let head-at = c .before .before .before .before .before .before .before .head-at in
+    let tag = c .before .before .before .before .before .tag in
+    let constant-head = c .before .before .before .constant-head in
+    let if1 = c .before .before .if1 in
     let if2 = c .if2 in
+    let function = c .before .function-tag in
     let f = fitting (byteAt (now (start .args .bytes))) (start .args .at) (start .args .end) (head-at .ensures) (tag .given .1) in
-    let l = function-long (byteAt (now (start .args .bytes))) (start .args .at + 3) (tag .given .0 .0) (tag .given .0 .1 .0) (sym (constant-head .ensures) ∙ not-false _ (if1 .left)) (if2 .left) in
+    let l = function-long (start .args .form) (byteAt (now (start .args .bytes))) (start .args .at + 3) (tag .given .0 .0) (tag .given .0 .1 .0) (sym (constant-head .ensures) ∙ not-false _ (if1 .left)) (if2 .left ∙ function .ensures) in
     record { order = omega arith; within = omega arith }
 
 returns-3 : tie.Need-returns-3
@@ -65,31 +67,33 @@ returns-3 c =
     let start = c .before .before .before .before in
     let head-at = c .before .before .head-at in
     let enum-told = c .enum-told in
-    sym (ap item (after-cut (byteAt (now (start .args .bytes))) (start .args .at) (start .args .end) isConstant (readContent (byteAt (now (start .args .bytes)))) (head-at .ensures) (enum-told .given .1)))
+    sym (ap item (after-cut (byteAt (now (start .args .bytes))) (start .args .at) (start .args .end) (isConstant (start .args .form)) (readContent (byteAt (now (start .args .bytes)))) (head-at .ensures) (enum-told .given .1)))
 
 returns-4 : tie.Need-returns-4
 returns-4 c =
-    let start = c .before .before .before .before .before .before .before .before .before .before .before .before in
-    let head-at = c .before .before .before .before .before .before .before .before .before .before .head-at in
-    let tag = c .before .before .before .before .before .before .before .before .tag in
-    let constant-head = c .before .before .before .before .before .before .constant-head in
-    let if1 = c .before .before .before .before .before .if1 in
+    let start = c .before .before .before .before .before .before .before .before .before .before .before .before .before in
+    let head-at = c .before .before .before .before .before .before .before .before .before .before .before .head-at in
+    let tag = c .before .before .before .before .before .before .before .before .before .tag in
+    let constant-head = c .before .before .before .before .before .before .before .constant-head in
+    let if1 = c .before .before .before .before .before .before .if1 in
     let if2 = c .before .before .before .before .if2 in
+    let function = c .before .before .before .before .before .function-tag in
     let check-code = c .before .before .before .check-code in
     let next = c .before .next in
-    sym (ap item (after-good (byteAt (now (start .args .bytes))) (start .args .at) (start .args .end) isConstant (readContent (byteAt (now (start .args .bytes)))) (head-at .ensures) (tag .given .1) (constant-head .ensures) (not-false _ (if1 .left))) ∙ function-good (byteAt (now (start .args .bytes))) (start .args .at + 3) (tag .given .0 .0) (tag .given .0 .1 .0) (sym (constant-head .ensures) ∙ not-false _ (if1 .left)) (if2 .left) (check-code .ensures (tag .given .0 .1 .0) (omega arith)) (next .given .1))
+    sym (ap item (after-good (byteAt (now (start .args .bytes))) (start .args .at) (start .args .end) (isConstant (start .args .form)) (readContent (byteAt (now (start .args .bytes)))) (head-at .ensures) (tag .given .1) (constant-head .ensures) (not-false _ (if1 .left))) ∙ function-good (start .args .form) (byteAt (now (start .args .bytes))) (start .args .at + 3) (tag .given .0 .0) (tag .given .0 .1 .0) (sym (constant-head .ensures) ∙ not-false _ (if1 .left)) (if2 .left ∙ function .ensures) (check-code .ensures (tag .given .0 .1 .0) (omega arith)) (next .given .1))
 
 returns-5 : tie.Need-returns-5
 returns-5 c =
-    let start = c .before .before .before .before .before .before .before .before .before .before .before .before in
-    let head-at = c .before .before .before .before .before .before .before .before .before .before .head-at in
-    let tag = c .before .before .before .before .before .before .before .before .tag in
-    let constant-head = c .before .before .before .before .before .before .constant-head in
-    let if1 = c .before .before .before .before .before .if1 in
+    let start = c .before .before .before .before .before .before .before .before .before .before .before .before .before in
+    let head-at = c .before .before .before .before .before .before .before .before .before .before .before .head-at in
+    let tag = c .before .before .before .before .before .before .before .before .before .tag in
+    let constant-head = c .before .before .before .before .before .before .before .constant-head in
+    let if1 = c .before .before .before .before .before .before .if1 in
     let if2 = c .before .before .before .before .if2 in
+    let function = c .before .before .before .before .before .function-tag in
     let check-code = c .before .before .before .check-code in
     let place = c .before .place in
-    sym (ap item (after-good (byteAt (now (start .args .bytes))) (start .args .at) (start .args .end) isConstant (readContent (byteAt (now (start .args .bytes)))) (head-at .ensures) (tag .given .1) (constant-head .ensures) (not-false _ (if1 .left))) ∙ function-wrong (byteAt (now (start .args .bytes))) (start .args .at + 3) (tag .given .0 .0) (tag .given .0 .1 .0) (sym (constant-head .ensures) ∙ not-false _ (if1 .left)) (if2 .left) (check-code .ensures (tag .given .0 .1 .0) (omega arith)) (place .given .1))
+    sym (ap item (after-good (byteAt (now (start .args .bytes))) (start .args .at) (start .args .end) (isConstant (start .args .form)) (readContent (byteAt (now (start .args .bytes)))) (head-at .ensures) (tag .given .1) (constant-head .ensures) (not-false _ (if1 .left))) ∙ function-wrong (start .args .form) (byteAt (now (start .args .bytes))) (start .args .at + 3) (tag .given .0 .0) (tag .given .0 .1 .0) (sym (constant-head .ensures) ∙ not-false _ (if1 .left)) (if2 .left ∙ function .ensures) (check-code .ensures (tag .given .0 .1 .0) (omega arith)) (place .given .1))
 
 pub check-constant-spec : {M : Type 1} → statement M
 check-constant-spec =
@@ -100,8 +104,9 @@ check-constant-spec =
     (λ c. search needs)
     (λ c κs. search needs)
     returns
+    (λ c κs. search needs)
     (λ c. search needs)
-    add-t13
+    add-t15
     returns-2
     (λ c. search needs)
     (λ c. search needs)

@@ -4,23 +4,23 @@ use native.Mathlib.Omega.{arith}
 use denote.Ref.{now}
 use borrow.Author.Needs.{needs}
 use Rattle.definition.specs.Basic.{byteAt}
-use Rattle.definition.specs.Decode.{readConst}
+use Rattle.bytecode.specs.Form.{readConstIn}
 use Rattle.definition.specs.Limit.{constantsLimit}
-use Rattle.bytecode.proofs.Fields.{const-ends}
+use Rattle.bytecode.proofs.Fields.{const-ends-in}
 use Rattle.bytecode.proofs.Limited.{Loop, limited-begins, limited-ends, limited-full, limited-wrong, limited-next, limited-again}
 use Rattle.bytecode.proofs.check_constants.Statement.{statement}
 use Rattle.bytecode.proofs.check_constants.Tie as tie
 
 abbrev Inv-loop : tie.InvT-loop
-Inv-loop bytes start end at₀ count₀ at count = Loop (readConst (byteAt bytes)) constantsLimit start end at count
+Inv-loop bytes start end form at₀ count₀ at count = Loop (readConstIn form (byteAt bytes)) constantsLimit start end at count
 
 abbrev μ-loop : tie.MeasureT-loop
-μ-loop bytes start end at₀ count₀ at count = end - at
+μ-loop bytes start end form at₀ count₀ at count = end - at
 
 loop-holds : tie.Need-loop-holds Inv-loop μ-loop
 loop-holds c =
     let start = c .before in
-    limited-begins (readConst (byteAt (now (start .args .bytes)))) constantsLimit (start .args .start) (start .args .end) (start .pre .order)
+    limited-begins (readConstIn (start .args .form) (byteAt (now (start .args .bytes)))) constantsLimit (start .args .start) (start .args .end) (start .pre .order)
 
 returns : tie.Need-returns Inv-loop μ-loop
 returns c =
@@ -28,7 +28,7 @@ returns c =
     let loop = c .before .before .loop in
     let loop-test = c .before .loop-test in
     let if1 = c .if1 in
-    limited-full (readConst (byteAt (now (start .args .bytes)))) constantsLimit (start .args .start) (start .args .end) (loop .inv) (loop-test .taken) (if1 .taken)
+    limited-full (readConstIn (start .args .form) (byteAt (now (start .args .bytes)))) constantsLimit (start .args .start) (start .args .end) (loop .inv) (loop-test .taken) (if1 .taken)
 
 returns-2 : tie.Need-returns-2 Inv-loop μ-loop
 returns-2 c =
@@ -38,7 +38,7 @@ returns-2 c =
     let if1 = c .before .before .before .before .if1 in
     let check-constant = c .before .before .before .check-constant in
     let place = c .before .place in
-    limited-wrong (readConst (byteAt (now (start .args .bytes)))) constantsLimit (start .args .start) (start .args .end) (loop .inv) (loop-test .taken) (if1 .left) (check-constant .ensures) (place .given .1)
+    limited-wrong (readConstIn (start .args .form) (byteAt (now (start .args .bytes)))) constantsLimit (start .args .start) (start .args .end) (loop .inv) (loop-test .taken) (if1 .left) (check-constant .ensures) (place .given .1)
 
 loop-less : tie.Need-loop-less Inv-loop μ-loop
 loop-less c =
@@ -48,7 +48,7 @@ loop-less c =
     let if1 = c .before .before .before .before .if1 in
     let check-constant = c .before .before .before .check-constant in
     let next = c .before .next in
-    let n = limited-next (readConst (byteAt (now (start .args .bytes)))) constantsLimit (start .args .start) (start .args .end) (loop .inv) (loop-test .taken) (if1 .left) (check-constant .ensures) (const-ends (byteAt (now (start .args .bytes))) (loop .at) (start .args .end)) (next .given .1) in
+    let n = limited-next (readConstIn (start .args .form) (byteAt (now (start .args .bytes)))) constantsLimit (start .args .start) (start .args .end) (loop .inv) (loop-test .taken) (if1 .left) (check-constant .ensures) (const-ends-in (byteAt (now (start .args .bytes))) (loop .at) (start .args .end) (start .args .form)) (next .given .1) in
     omega arith
 
 loop-again : tie.Need-loop-again Inv-loop μ-loop
@@ -59,14 +59,14 @@ loop-again c =
     let if1 = c .before .before .before .before .if1 in
     let check-constant = c .before .before .before .check-constant in
     let next = c .before .next in
-    limited-again (readConst (byteAt (now (start .args .bytes)))) constantsLimit (start .args .start) (start .args .end) (loop .inv) (loop-test .taken) (if1 .left) (check-constant .ensures) (const-ends (byteAt (now (start .args .bytes))) (loop .at) (start .args .end)) (next .given .1)
+    limited-again (readConstIn (start .args .form) (byteAt (now (start .args .bytes)))) constantsLimit (start .args .start) (start .args .end) (loop .inv) (loop-test .taken) (if1 .left) (check-constant .ensures) (const-ends-in (byteAt (now (start .args .bytes))) (loop .at) (start .args .end) (start .args .form)) (next .given .1)
 
 returns-3 : tie.Need-returns-3 Inv-loop μ-loop
 returns-3 c =
     let start = c .before .before .before in
     let loop = c .before .loop in
     let loop-test = c .loop-test in
-    limited-ends (readConst (byteAt (now (start .args .bytes)))) constantsLimit (start .args .start) (start .args .end) (loop .inv) (loop-test .left)
+    limited-ends (readConstIn (start .args .form) (byteAt (now (start .args .bytes)))) constantsLimit (start .args .start) (start .args .end) (loop .inv) (loop-test .left)
 
 pub check-constants-spec : {M : Type 1} → statement M
 check-constants-spec =

@@ -7,7 +7,7 @@ use borrow.Author.Needs.{needs}
 use Rattle.definition.specs.Basic.{byteAt}
 use Rattle.bytecode.specs.Checked.{checked, isPool}
 use Rattle.bytecode.proofs.Heads.{fitting, after-cut, after-bad, after-good}
-use Rattle.bytecode.proofs.Fields.{poolContent}
+use Rattle.bytecode.proofs.Fields.{poolContentIn}
 use Rattle.bytecode.proofs.check_pool.Statement.{statement}
 use Rattle.bytecode.proofs.check_pool.Tie as tie
 
@@ -18,7 +18,7 @@ returns c =
     let tag = c .before .before .before .tag in
     let pool-head = c .before .pool-head in
     let if1 = c .if1 in
-    sym (ap checked (after-bad (byteAt (now (start .args .bytes))) (start .args .at) (start .args .end) isPool (poolContent (byteAt (now (start .args .bytes)))) (head-at .ensures) (tag .given .1) (pool-head .ensures) (not-true _ (if1 .taken))))
+    sym (ap checked (after-bad (byteAt (now (start .args .bytes))) (start .args .at) (start .args .end) isPool (poolContentIn (byteAt (now (start .args .bytes))) (start .args .form)) (head-at .ensures) (tag .given .1) (pool-head .ensures) (not-true _ (if1 .taken))))
 
 add-check-constants-3 : tie.Need-add-check-constants-3
 add-check-constants-3 c =
@@ -41,7 +41,7 @@ returns-2 c =
     let start = c .before .before .before .before in
     let head-at = c .before .before .head-at in
     let enum-told = c .enum-told in
-    sym (ap checked (after-cut (byteAt (now (start .args .bytes))) (start .args .at) (start .args .end) isPool (poolContent (byteAt (now (start .args .bytes)))) (head-at .ensures) (enum-told .given .1)))
+    sym (ap checked (after-cut (byteAt (now (start .args .bytes))) (start .args .at) (start .args .end) isPool (poolContentIn (byteAt (now (start .args .bytes))) (start .args .form)) (head-at .ensures) (enum-told .given .1)))
 
 returns-3 : tie.Need-returns-3
 returns-3 c =
@@ -51,7 +51,7 @@ returns-3 c =
     let pool-head = c .before .before .pool-head in
     let if1 = c .before .if1 in
     let check-constants = c .check-constants in
-    check-constants .ensures ∙ sym (ap checked (after-good (byteAt (now (start .args .bytes))) (start .args .at) (start .args .end) isPool (poolContent (byteAt (now (start .args .bytes)))) (head-at .ensures) (tag .given .1) (pool-head .ensures) (not-false _ (if1 .left))))
+    check-constants .ensures ∙ sym (ap checked (after-good (byteAt (now (start .args .bytes))) (start .args .at) (start .args .end) isPool (poolContentIn (byteAt (now (start .args .bytes))) (start .args .form)) (head-at .ensures) (tag .given .1) (pool-head .ensures) (not-false _ (if1 .left))))
 
 pub check-pool-spec : {M : Type 1} → statement M
 check-pool-spec =

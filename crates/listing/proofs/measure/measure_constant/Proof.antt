@@ -7,6 +7,7 @@ use borrow.Author.Needs.{needs}
 use Rattle.definition.specs.Basic.{byteAt}
 use Rattle.definition.specs.Decode.{readContent}
 use Rattle.bytecode.specs.Checked.{isConstant}
+use Rattle.bytecode.specs.declared.Form.the-variants.{Plain}
 use Rattle.bytecode.proofs.Heads.{fitting, after-cut, after-bad, after-good}
 use Rattle.listing.specs.Measured.{constantMeasured}
 use Rattle.listing.proofs.measure.measure_constant.Statement.{statement}
@@ -20,7 +21,7 @@ returns c =
     let head-at = c .before .before .before .before .before .head-at in
     let start = c .before .before .before .before .before .before .before in
     let byte = byteAt (now (start .args .image)) in
-    (sym (ap constantMeasured (after-bad byte (start .args .at) (start .args .end) isConstant (readContent byte) (head-at .ensures) (tag .given .1) (constant-head .ensures) (not-true _ (if1 .taken)))), omega arith)
+    (sym (ap constantMeasured (after-bad byte (start .args .at) (start .args .end) (isConstant Plain) (readContent byte) (head-at .ensures) (tag .given .1) (constant-head .ensures) (not-true _ (if1 .taken)))), omega arith)
 
 add-measure-content : tie.Need-add-measure-content
 add-measure-content c =
@@ -46,7 +47,7 @@ returns-2 c =
     let head-at = c .before .before .head-at in
     let start = c .before .before .before .before in
     let byte = byteAt (now (start .args .image)) in
-    (sym (ap constantMeasured (after-cut byte (start .args .at) (start .args .end) isConstant (readContent byte) (head-at .ensures) (enum-told .given .1))), omega arith)
+    (sym (ap constantMeasured (after-cut byte (start .args .at) (start .args .end) (isConstant Plain) (readContent byte) (head-at .ensures) (enum-told .given .1))), omega arith)
 
 returns-3 : tie.Need-returns-3
 returns-3 c =
@@ -58,7 +59,7 @@ returns-3 c =
     let start = c .before .before .before .before .before .before .before .before in
     let byte = byteAt (now (start .args .image)) in
     let f = fitting byte (start .args .at) (start .args .end) (head-at .ensures) (tag .given .1) in
-    let e = after-good byte (start .args .at) (start .args .end) isConstant (readContent byte) (head-at .ensures) (tag .given .1) (constant-head .ensures) (not-false _ (if1 .left)) in
+    let e = after-good byte (start .args .at) (start .args .end) (isConstant Plain) (readContent byte) (head-at .ensures) (tag .given .1) (constant-head .ensures) (not-false _ (if1 .left)) in
     (measure-content .ensures .0 ∙ sym (ap constantMeasured e), omega (arith, measure-content .ensures .1, f .is-len))
 
 pub measure-constant-spec : {M : Type 1} → statement M

@@ -8,6 +8,7 @@ use borrow.Author.Tests.{not-true, not-false}
 use borrow.Author.Needs.{needs}
 use Rattle.definition.specs.Basic.{byteAt}
 use Rattle.bytecode.specs.Checked.{isMain}
+use Rattle.bytecode.specs.declared.Form.the-variants.{Plain}
 use Rattle.bytecode.proofs.Heads.{fitting, after-cut, after-bad, after-good}
 use Rattle.bytecode.proofs.Fields.{mainContent}
 use Rattle.listing.specs.Measured.{codeMeasured}
@@ -23,7 +24,7 @@ returns c =
     let head-at = c .before .before .before .before .before .head-at in
     let start = c .before .before .before .before .before .before .before in
     let b = now (start .args .image) in
-    (sym (ap codeMeasured (after-bad (byteAt b) 0 (length b) isMain (mainContent (byteAt b)) (head-at .ensures) (tag .given .1) (main-head .ensures) (not-true _ (if1 .taken)))), omega arith)
+    (sym (ap codeMeasured (after-bad (byteAt b) 0 (length b) (isMain Plain) (mainContent (byteAt b)) (head-at .ensures) (tag .given .1) (main-head .ensures) (not-true _ (if1 .taken)))), omega arith)
 
 add-measure-code : tie.Need-add-measure-code
 add-measure-code c =
@@ -51,7 +52,7 @@ returns-2 c =
     let head-at = c .before .before .head-at in
     let start = c .before .before .before .before in
     let b = now (start .args .image) in
-    (sym (ap codeMeasured (after-cut (byteAt b) 0 (length b) isMain (mainContent (byteAt b)) (head-at .ensures) (enum-told .given .1))), omega arith)
+    (sym (ap codeMeasured (after-cut (byteAt b) 0 (length b) (isMain Plain) (mainContent (byteAt b)) (head-at .ensures) (enum-told .given .1))), omega arith)
 
 returns-3 : tie.Need-returns-3
 returns-3 c =
@@ -63,7 +64,7 @@ returns-3 c =
     let start = c .before .before .before .before .before .before .before .before in
     let b = now (start .args .image) in
     let s = main-short (tag .given .0 .0) (tag .given .0 .1 .0) (sym (main-head .ensures) ∙ not-false _ (if1 .left)) in
-    let e = after-good (byteAt b) 0 (length b) isMain (mainContent (byteAt b)) (head-at .ensures) (tag .given .1) (main-head .ensures) (not-false _ (if1 .left)) in
+    let e = after-good (byteAt b) 0 (length b) (isMain Plain) (mainContent (byteAt b)) (head-at .ensures) (tag .given .1) (main-head .ensures) (not-false _ (if1 .left)) in
     (measure-code .ensures .0 (tag .given .0 .1 .0) (le-refl _) ∙ sym (ap codeMeasured e), omega (arith, measure-code .ensures .1))
 
 pub measure-main-spec : {M : Type 1} → statement M
