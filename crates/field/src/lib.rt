@@ -4,7 +4,7 @@ ghost use Prim.Native.Nat.{_+_, _*_, _<_};
 ghost use lib.ListN.{length};
 ghost use Rattle.definition.specs.Basic.{byteAt};
 ghost use Rattle.definition.specs.Field.{head};
-ghost use Rattle.field.specs.Layout.{Whole, tag, after, content};
+ghost use Rattle.field.specs.Layout.{Whole, after, content};
 
 // A byte as a length or an offset.
 pub fn wide(x: u8) -> usize
@@ -29,14 +29,6 @@ pub fn length_at(bytes: &[u8], at: usize) -> usize
     ensures small { λ r. ⌜ r < 65536 ⌝ }
 {
     word(bytes[at + 1], bytes[at + 2])
-}
-
-// The tag of the field at `at`.
-pub fn tag_at(bytes: &[u8], at: usize) -> u8
-    requires { ⌜ Whole (now bytes) at ⌝ }
-    ensures { λ r. ⌜ r ≡ tag (now (bytes .entry)) at ⌝ }
-{
-    bytes[at]
 }
 
 // The offset after the field at `at`.

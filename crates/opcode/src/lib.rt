@@ -66,7 +66,7 @@ pub fn operand_length(op: u8) -> usize
 }
 
 // The length of the instruction at `at`, if it stands whole before `end`; else 0.
-pub fn size_at(code: &[u8], at: usize, end: usize) -> usize
+fn size_at(code: &[u8], at: usize, end: usize) -> usize
     requires { ⌜ end ≤ length (now code) ⌝ }
     ensures { λ r. ⌜ r ≡ sizeAt (byteAt (now (code .entry))) at end ⌝ }
 {

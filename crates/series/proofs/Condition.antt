@@ -15,22 +15,17 @@ use Rattle.definition.specs.Session.{Session, fresh, sessionBytes}
 use Rattle.definition.specs.Decode.{Decoded, decoded, malformed, readSession}
 use Rattle.definition.specs.Compile.{Outcome, enough, compile}
 use Rattle.definition.specs.Call.{Lent, Called, Made, cleared, request, answered, inSession, call, made}
-use Rattle.definition.specs.Output.{over}
 use Rattle.definition.specs.Series.{Call, sessionAfter, sessionMade, lent, AllAlike, shapes, Indistinguishable}
 use Rattle.definition.specs.declared.Answer.{Answer}
 use Rattle.definition.proofs.Basic.{chosen, both-left, both-right}
 use Rattle.definition.proofs.Sessions.{session-length}
 use Rattle.definition.proofs.Steps.{fresh-valid, compile-fits}
-use Rattle.definition.proofs.Series.{Holds, CallIs, call-does, made-holds}
+use Rattle.definition.proofs.Series.{long-over, Holds, CallIs, call-does, made-holds}
 use Rattle.compiler.proofs.Conditions.{compile-condition-3}
 use Rattle.series.specs.Row.{rowCalls, rowGives, started, EquallyLent, RunsRow}
 use Rattle.series.proofs.Row.{Carries, carried, carries-after}
 
--- writing over the front keeps a length
-over-length : (x b : Bytes) → length x ≤ length b → length (over x b) ≡ length b
-over-length x b h = simp (length-append, length-drop) (omega arith)
-
--- and so does zeroing
+-- zeroing keeps a length
 cleared-length : (n : ℕ) (b : List ℕ) → n ≤ length b → length (cleared n b) ≡ length b
 cleared-length n b h = simp (length-append, length-replicate, length-drop) (omega arith)
 
@@ -51,7 +46,7 @@ module _ (t : Bytes) (l : Lent) where
         cleared-length tableSize (l .table) (leb-true tableSize (length (l .table)) (both-left (leb tableSize (length (l .table))) _ e))
 
     answered-areas : (z : Session) (o : Outcome) → ((m : Image) → o ≡ Outcome.accepted m → length (imageBytes m) ≤ length (l .output)) → Areas (answered l z o)
-    answered-areas z (Outcome.accepted m) f = record { output = over-length (imageBytes m) (l .output) (f m refl); code = code-cleared; table = table-cleared }
+    answered-areas z (Outcome.accepted m) f = record { output = long-over (imageBytes m) (l .output) (f m refl); code = code-cleared; table = table-cleared }
     answered-areas z (Outcome.refused r) f = record { output = refl; code = code-cleared; table = table-cleared }
 
     in-areas : (d : Decoded Session) → Areas (inSession l t d)
@@ -101,7 +96,7 @@ made-length : (s : Bytes) → length (made s .session) ≡ length s
 unfolding made
 made-length s =
     chosen (λ (x : Made). length (x .session) ≡ length s) (leb sessionSize (length s))
-    (λ e. let r = leb-true sessionSize (length s) e in let n = session-length fresh fresh-valid in over-length (sessionBytes fresh) s (omega arith)) (λ _. refl)
+    (λ e. let r = leb-true sessionSize (length s) e in let n = session-length fresh fresh-valid in long-over (sessionBytes fresh) s (omega arith)) (λ _. refl)
 
 -- Condition 3 of two rows that were run: their trees have equal shapes, and they were lent equally much
 pub row-condition-3 : (ts us : List Bytes) → map shape ts ≡ map shape us → (l m : Lent) → EquallyLent l m → sessionSize ≤ length (l .session) → {r q : Answer} {l′ m′ : Lent}

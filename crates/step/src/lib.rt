@@ -1,6 +1,6 @@
 // The steps of the compiler on session and table area.
 mod closing;
-pub mod pool;
+mod pool;
 
 use closing::close;
 use definition::limit;

@@ -118,7 +118,7 @@ fn find_outermost(
 }
 
 // A name's symbol, seen from inside so many open functions: outward one function at a time, capturing on the way back.
-pub fn resolve(
+fn resolve(
     words: &[u8],
     count: usize,
     tree: &[u8],

@@ -1,15 +1,18 @@
 -- Chain in a row: the first of them, and how many there are.
-use Prim.Native.Nat.{ℕ, zero, suc, _+_, _*_, _≤_, _<_}
+use Prim.Native.Nat.{ℕ, zero, suc, _+_, _-_, _*_, _≤_, _<_}
 use native.Mathlib.Nat.{zero-add}
+use native.Mathlib.Numerals.{one-add}
 use native.Mathlib.Omega.{arith}
 use mathlib.Core.List.{List, [], _∷_}
-use mathlib.Core.Path.{_≡_, refl, ap, subst}
+use mathlib.Core.Path.{_≡_, refl, sym, ap, subst, _∙_}
 use lib.ListN.{length}
+use borrow.Author.Tests.{lt-ltb, le-ltb}
 use Rattle.definition.specs.Basic.{Bytes}
 use Rattle.definition.specs.Syntax.{Stmts, Exprs, count}
 use Rattle.field.specs.Layout.{after, Whole}
+use Rattle.definition.proofs.Basic.{pick-true, pick-false}
 use Rattle.tree.specs.At.{Row, exprList, NamedAt, ReadsNames}
-use Rattle.tree.specs.Reads.{Some, ReadsStmt, ReadsStmts, ReadsExpr, ReadsExprs, Chain, InRow, Counted}
+use Rattle.tree.specs.Reads.{Some, ReadsStmt, ReadsStmts, ReadsExpr, ReadsExprs, Chain, InRow, fieldsIn, Counted}
 
 -- the first of a row, and the others behind it
 pub record First {A B : Type 0} (tree : Bytes) (cons : A → B → B) (P : ℕ → A → Type 0) (R : ℕ → ℕ → B → Type 0) (at end : ℕ) (b : B) : Type 0 where
@@ -76,6 +79,14 @@ module _ (tree : Bytes) where
   names-fields : (at end : ℕ) (ns : List Bytes) → ReadsNames tree at end ns → Chain tree at end (length ns)
   names-fields at end ns r = row-fields (λ _ _ n. n .named .whole) at end ns (r .row)
 
+-- fields in a row are as many as are counted
+count-is : (tree : Bytes) (at end n : ℕ) → Chain tree at end n → (k : ℕ) → n ≤ k → fieldsIn k tree at end ≡ n
+unfolding fieldsIn
+count-is tree at end zero f zero h = refl
+count-is tree at end zero f (suc k) h = pick-false (1 + fieldsIn k tree (after tree at) end) 0 (le-ltb at end (omega (arith, f)))
+count-is tree at end (suc n) f zero h = absurd (omega arith)
+count-is tree at end (suc n) f (suc k) h = pick-true (1 + fieldsIn k tree (after tree at) end) 0 (lt-ltb at end (omega (arith, f .1))) ∙ ap (λ m. 1 + m) (count-is tree (after tree at) end n (f .2) k (omega arith)) ∙ one-add n
+
 -- a turn of counting: n fields stand before `at`
 pub record CountTurn (tree : Bytes) (from end at n : ℕ) : Type 0 where
   pub left : Some (InRow tree at end)
@@ -122,6 +133,7 @@ module _ {tree : Bytes} {from end : ℕ} where
           let e : n + 0 ≡ n = omega arith in
           let r : InRow tree from end n = rw e at (t .counted 0 (record { fields = f })) in
           record {
+            is = sym (count-is tree from end n (r .fields) (end - from) (omega (arith, t .small)));
             exprs = λ es x. fields-same tree from end n (count es) (r .fields) (exprs-fields tree from end es x);
             names = λ ns x. fields-same tree from end n (length ns) (r .fields) (names-fields tree from end ns x);
             small = omega (arith, t .small);

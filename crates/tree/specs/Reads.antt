@@ -1,9 +1,10 @@
 -- What the bytes of a tree read as: the statement, block or expression at an offset, and those in a row.
-use Prim.Native.Nat.{ℕ, zero, suc, _+_, _*_, _≤_}
+use Prim.Native.Nat.{ℕ, zero, suc, _+_, _-_, _*_, _≤_}
 use mathlib.Core.List.{List}
 use mathlib.Core.Path.{_≡_}
 use lib.ListN.{length}
-use Rattle.definition.specs.Basic.{Bytes}
+use lib.Dec.{ltb}
+use Rattle.definition.specs.Basic.{Bytes, pick}
 use Rattle.definition.specs.Tag.{tagExprStmt, tagReturn, tagBlock, tagIdentifier, tagMacro}
 use Rattle.definition.specs.Syntax.{Stmt, Stmts, Else, Expr, Exprs, count}
 use Rattle.definition.specs.Tree.{stmtTag}
@@ -78,8 +79,18 @@ Chain tree at end (suc n) = Whole tree at × (after tree at ≤ end) × Chain tr
 pub record InRow (tree : Bytes) (at end n : ℕ) : Type 0 where
   pub fields : Chain tree at end n
 
--- how many fields stand in a row: expressions, or names
+-- how many fields stand from an offset up to an end, counting so many at most
+unfoldable pub fieldsIn : ℕ → Bytes → ℕ → ℕ → ℕ
+fieldsIn zero tree at end = 0
+fieldsIn (suc k) tree at end = let behind = fieldsIn k tree (after tree at) end in pick (ltb at end) (1 + behind) 0
+
+-- no more than there are bytes
+abbrev pub fieldCount : Bytes → ℕ → ℕ → ℕ
+fieldCount tree from end = fieldsIn (end - from) tree from end
+
+-- how many fields stand in a row: so many expressions, or names, as are read there
 pub record Counted (tree : Bytes) (from end n : ℕ) : Type 0 where
+  pub is : n ≡ fieldCount tree from end
   pub exprs : (es : Exprs) → ReadsExprs tree from end es → n ≡ count es
   pub names : (ns : List Bytes) → ReadsNames tree from end ns → n ≡ length ns
   pub small : n * 3 + from ≤ end

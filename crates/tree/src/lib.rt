@@ -41,7 +41,7 @@ fn refused(number: usize, place: usize) -> Checked
 }
 
 // The byte at an offset, 0 past the end.
-pub fn byte_at(tree: &[u8], at: usize) -> usize
+fn byte_at(tree: &[u8], at: usize) -> usize
     ensures { λ r. ⌜ r ≡ byteAt (now (tree .entry)) at ⌝ }
 {
     if at < tree.len() { wide(tree[at]) } else { 0 }
