@@ -3,18 +3,29 @@
 
 usage: bytecode_cases.py CASES CRATE
 
-CASES is the folder of image17.txt, instruction16.txt, listing.txt, check-and-list.txt, session-broken.txt and frames.txt. Each question goes to data/cases as it stands
+CASES is the folder of image17.txt, instruction16.txt, listing.txt, check-and-list.txt, session-broken.txt, frames.txt and chin.txt. Each question goes to data/cases as it stands
 there, but that numbers stand before the image as bytes: the length of a listing's output in three, a frame's size (`frames`, which is `count` there)
-and its number (`frame`, `part`) in four each. Its answer goes to stdout: of a session only whether its layout is sound, and a listing as text
+and its number (`frame`, `part`) in four each, the length of a translation's output (`chin`, `turn`; `unchin`, `unturn`) in three; images to translate of over 2,000
+bytes are left out. Its answer goes to stdout: of a session only whether its layout is sound, and a listing as text
 behind its answer.
 """
+import re
 import sys
+
+
+
+def size_of(text):
+    """The number of bytes of a text in which {2900}12. stands for the bytes between the braces twelve times."""
+    groups = re.findall(r"\{([0-9a-f]*)\}(\d+)\.", text)
+    plain = re.sub(r"\{[0-9a-f]*\}\d+\.", "", text).replace("-", "")
+    return len(plain) // 2 + sum(len(g) // 2 * int(n) for g, n in groups)
+
 
 folder, crate = sys.argv[1], sys.argv[2] + "/"
 questions, answers = [], []
 for topic, word in ("instruction16", "decode"), ("image17", "image"), ("listing", "list"), ("check-and-list", "list"), ("session-broken", "start"), \
-        ("frames", "frames"), ("frames", "frame"):
-    asked = False
+        ("frames", "frames"), ("frames", "frame"), ("chin", "chin"), ("chin", "unchin"):
+    asked, lent = False, None
     for line in open(f"{folder}/{topic}.txt"):
         first = line.split(" ")[0].strip()
         if first == word:
@@ -27,8 +38,18 @@ for topic, word in ("instruction16", "decode"), ("image17", "image"), ("listing"
             elif word == "frame":
                 _, size, number, image = line.split(" ")
                 line = f"part {int(size):08x}{int(number):08x}{image}"
+            elif word in ("chin", "unchin"):
+                image = line.split(" ")[1].strip()
+                room = min(lent if lent is not None else size_of(image), 65536)
+                line = f"{'turn' if word == 'chin' else 'unturn'} {room:06x}{image}\n"
+                if size_of(image) > 2000:
+                    continue
             questions.append(line)
             asked = True
+        elif first == "lend":
+            lent = int(line.split(" ")[1])
+        elif first == "end":
+            lent = None
         elif asked and first in ("ok", "refused"):
             broken = line.startswith("refused 2 ")
             if word == "list" and first == "ok":

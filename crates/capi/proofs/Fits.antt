@@ -21,6 +21,10 @@ use Rattle.definition.proofs.Basic.{pick-false}
 use Rattle.definition.proofs.Numbers.{each, of-each, below}
 use Rattle.definition.proofs.Places.{Within, made-within, call-within-limit}
 use Rattle.definition.proofs.ListingLength.{list-within}
+use Rattle.bytecode.specs.declared.Form.{Form}
+use Rattle.chin.specs.Chin.{translate, answerOf}
+use Rattle.chin.specs.Rows.{otherForm, jumpOf}
+use Rattle.chin.proofs.Fits.{chinNumbers, translate-within}
 use Rattle.capi.specs.Packed.{halfBound, packed, ofHalves, unpacked, Fits, Packs, Told}
 
 -- the halves of a number whose halves fit
@@ -58,6 +62,9 @@ call-fits tree l a = within-fits callNumbers tt (omega arith) (omega arith) (cal
 
 pub list-fits : (b : Bytes) → AreBytes b → (room : ℕ) → Fits (listAnswer (readImage b) room)
 list-fits b a room = within-fits listNumbers tt (omega arith) (omega arith) (list-within b a room)
+
+pub turn-fits : (f : Form) (b : Bytes) → AreBytes b → (room : ℕ) → Fits (answerOf (translate f (otherForm f) (jumpOf f) b) room)
+turn-fits f b a room = within-fits chinNumbers tt (omega arith) (omega arith) (translate-within f b a room)
 
 -- a number of a refusal is not 0
 abbrev isNumber : ℕ → Bool

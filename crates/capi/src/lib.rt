@@ -6,6 +6,8 @@ ghost use mathlib.Core.Path.{_≡_};
 ghost use Prim.Native.Nat.{_<_};
 ghost use Rattle.compiler.specs.Stage.{lentOf};
 ghost use Rattle.capi.specs.Packed.{Fits, Packs, MakesPacked, CompilesPacked, ListsPacked, halfBound};
+ghost use Rattle.chin.specs.Chin.{toChin, fromChin};
+ghost use Rattle.capi.specs.Turned.{TurnsPacked};
 ghost use Rattle.capi.specs.Framed.{paired, countAnswer, placeAnswer, CountsPacked, PlacesPacked, RefusesPacked};
 
 // What the numbers of a half are below: 2 to the 32nd.
@@ -114,5 +116,23 @@ pub extern "C" fn monkey_frame_refusal(image: &[u8], size: usize, number: usize)
 {
     let refusal = frames::frame_refusal(image, size, number);
     let answer = Answer::Refused(refusal);
+    pack(answer)
+}
+
+// Translates an image into the chin form: its length; or 17 or 26 and the place, or 15, and the output stays.
+#[no_mangle]
+pub extern "C" fn monkey_to_chin(image: &[u8], output: &mut [u8]) -> u64
+    ensures { λ r. ⌜ TurnsPacked (toChin (now (image .entry))) (now (output .entry)) r (now (output .exit)) ⌝ }
+{
+    let answer = chin::to_chin(image, output);
+    pack(answer)
+}
+
+// Translates the chin form back into an image, likewise.
+#[no_mangle]
+pub extern "C" fn monkey_from_chin(image: &[u8], output: &mut [u8]) -> u64
+    ensures { λ r. ⌜ TurnsPacked (fromChin (now (image .entry))) (now (output .entry)) r (now (output .exit)) ⌝ }
+{
+    let answer = chin::from_chin(image, output);
     pack(answer)
 }

@@ -16,3 +16,5 @@ pub mod Functions
 pub mod Pools
 pub mod Whole
 pub mod Calls
+pub mod Places
+pub mod Fits

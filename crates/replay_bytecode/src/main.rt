@@ -2,7 +2,8 @@
 // The file `cases` has a question on each line: a word (image, list, decode or start), a space, and bytes in hexadecimal, where `{6100}3.`
 // stands for the bytes between the braces three times over. A session's bytes (start) are followed by zeros up to 65,536. A listing's image
 // (list) stands behind the length of its output in three bytes; the listing follows its answer. Frames are counted (count) in an image behind
-// a size in four bytes, and found (part) in one behind size and number.
+// a size in four bytes, and found (part) in one behind size and number. An image (turn) or a chin form (unturn) behind the length of its output in three
+// bytes is translated, and the answer has the bytes.
 use bytecode::Layout;
 use definition::Answer;
 use definition::number;
@@ -11,7 +12,7 @@ use frames::FramePlace;
 use libc::STDOUT_FILENO;
 use opcode::Decoded;
 use opcode::Instruction;
-ghost use Prim.Native.Nat.{_≤_};
+ghost use Prim.Native.Nat.{_≤_, _<_};
 
 // Where reading stands in a line: its first letter, whether its bytes have begun, how many there are, the digit that waits for a
 // second one, where the last group began, and how often it is to stand.
@@ -188,6 +189,70 @@ fn answer_part(bytes: &[u8]) {
     show_part(&bytes[8..], size, index);
 }
 
+// A digit in hexadecimal.
+fn hex_digit(d: u8) -> u8
+    requires { ⌜ d < 16 ⌝ }
+{
+    if d < 10 {
+        return 48 + d;
+    }
+    87 + d
+}
+
+// Write a byte in hexadecimal.
+fn write_byte(b: u8) {
+    let pair = [hex_digit(b / 16), hex_digit(b % 16)];
+    io::write_all(STDOUT_FILENO, &pair);
+}
+
+// Write the first bytes of an output in hexadecimal.
+fn write_hex(output: &[u8], length: usize) {
+    let mut i = 0;
+    while i < length {
+        if output.len() <= i {
+            return;
+        }
+        write_byte(output[i]);
+        i += 1;
+    }
+}
+
+// Write the line of a translation's bytes.
+fn write_bytes(output: &[u8], length: usize) {
+    io::write_all(STDOUT_FILENO, b"ok ");
+    write_hex(output, length);
+    io::write_all(STDOUT_FILENO, b"\n");
+}
+
+// Translate an image into an output.
+fn turn_into(image: &[u8], output: &mut [u8], to_chin: bool) -> Answer {
+    if to_chin {
+        return chin::to_chin(image, output);
+    }
+    chin::from_chin(image, output)
+}
+
+// Write what a translation answers.
+fn write_turned(image: &[u8], output: &mut [u8], to_chin: bool) {
+    match turn_into(image, output, to_chin) {
+        Answer::Length(n) => write_bytes(output, n),
+        Answer::Refused(r) => write_refusal(r.number, r.place),
+    }
+}
+
+// Answer a question on the chin form: the length of its output in three bytes, then the image or the chin form.
+fn answer_turn(bytes: &[u8], to_chin: bool) {
+    if bytes.len() < 3 {
+        return;
+    }
+    let room = field::wide(bytes[0]) * 65536 + field::word(bytes[1], bytes[2]);
+    if room > 65536 {
+        return;
+    }
+    let mut output = io::large_buffer();
+    write_turned(&bytes[3..], &mut output[..room], to_chin);
+}
+
 // Answer a question on the sending of an image.
 fn answer_sending(bytes: &[u8], kind: u8) {
     if kind == b'c' {
@@ -196,7 +261,9 @@ fn answer_sending(bytes: &[u8], kind: u8) {
     }
     if kind == b'p' {
         answer_part(bytes);
+        return;
     }
+    answer_turn(bytes, kind == b't');
 }
 
 // Zero the bytes from an offset on.
