@@ -18,3 +18,4 @@ pub mod Whole
 pub mod Calls
 pub mod Places
 pub mod Fits
+pub mod Compiled
