@@ -47,7 +47,9 @@ pub +put-letters-spec : {M : Type 1} → statement M
     let b = set (s .out .now) 0 (0x61 + c .before .choice .result) in
     let l = length-set (s .out .now) 0 (0x61 + c .before .choice .result) in
     (omega arith, omega (arith, l, length-left 1 b (omega arith))))
-    (λ c. same-len-mid 1 _ _ _ (c .before .before .put-letters .kept .0) ∙ length-set _ 0 _)
+    (λ c. let b = c .before .before .before .before .before .before .before .before .args .out .now in
+    let v = 0x61 + c .before .before .before .before .choice .result in
+    same-len-mid 1 (length (set b 0 v) - 1) (set b 0 v) (c .before .before .put-letters .last .0) (c .before .before .put-letters .kept .0) ∙ length-set b 0 v)
     (λ c. let s = c .before .before .before .before .before .before .before .before .args in
     let v = 0x61 + c .before .before .before .before .choice .result in
     let l = length-set (s .out .now) 0 v in
