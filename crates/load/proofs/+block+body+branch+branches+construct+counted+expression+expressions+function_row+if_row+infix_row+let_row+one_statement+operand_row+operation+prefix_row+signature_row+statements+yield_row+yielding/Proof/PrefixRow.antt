@@ -1,0 +1,50 @@
+-- The needs of `prefix_row`.
+use Prim.Native.Nat.{ℕ}
+use borrow.Author.Needs.{needs}
+use native.Mathlib.Omega.{arith}
+use Rattle.load.proofs.+block+body+branch+branches+construct+counted+expression+expressions+function_row+if_row+infix_row+let_row+one_statement+operand_row+operation+prefix_row+signature_row+statements+yield_row+yielding.Proof.Setting.{prefix-row-at, expression-below}
+use Rattle.load.proofs.prefix_row.Reads as prefix-row
+use Rattle.load.proofs.leaf.put_prefix_operator.Reads as put-prefix-operator-reads
+use Rattle.load.proofs.expression.Reads as expression
+use Rattle.load.proofs.joined.Reads as joined-reads
+use Rattle.load.proofs.+block+body+branch+branches+construct+counted+expression+expressions+function_row+if_row+infix_row+let_row+one_statement+operand_row+operation+prefix_row+signature_row+statements+yield_row+yielding.Lts-prefix_row as lts
+
+abbrev calls : ℕ → lts.Claims
+calls t = (put-prefix-operator-reads.Asked, put-prefix-operator-reads.Learnt, expression-below t, expression.Post, joined-reads.Asked, joined-reads.Learnt)
+
+module _ (t : ℕ) where
+  put-prefix-operator-requires : lts.Need-put-prefix-operator-requires (calls t) (prefix-row-at t) prefix-row.Post
+  put-prefix-operator-requires c κs = search needs
+
+  sub-expression : lts.Need-sub-expression (calls t) (prefix-row-at t) prefix-row.Post
+  sub-expression c = search needs
+
+  part-expression-start : lts.Need-part-expression-start (calls t) (prefix-row-at t) prefix-row.Post
+  part-expression-start c = search needs
+
+  part-expression-end : lts.Need-part-expression-end (calls t) (prefix-row-at t) prefix-row.Post
+  part-expression-end c = search needs
+
+  expression-requires : lts.Need-expression-requires (calls t) (prefix-row-at t) prefix-row.Post
+  expression-requires c κs = search needs
+
+  joined-requires : lts.Need-joined-requires (calls t) (prefix-row-at t) prefix-row.Post
+  joined-requires c κs = search needs
+
+  same-length : lts.Need-same-length (calls t) (prefix-row-at t) prefix-row.Post
+  same-length c = search needs
+
+  returns : lts.Need-returns (calls t) (prefix-row-at t) prefix-row.Post
+  returns c = search needs
+
+pub met : {M : Type 1} (t : ℕ) → lts.Closed (calls t) (prefix-row-at t) prefix-row.Post M
+met t =
+    lts.spec (calls t) (prefix-row-at t) prefix-row.Post
+    (put-prefix-operator-requires t)
+    (sub-expression t)
+    (part-expression-start t)
+    (part-expression-end t)
+    (expression-requires t)
+    (joined-requires t)
+    (same-length t)
+    (returns t)

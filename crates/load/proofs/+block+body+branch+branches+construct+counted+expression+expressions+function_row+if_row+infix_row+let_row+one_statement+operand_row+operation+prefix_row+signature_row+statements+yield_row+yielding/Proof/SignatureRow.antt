@@ -1,0 +1,50 @@
+-- The needs of `signature_row`.
+use Prim.Native.Nat.{ℕ}
+use borrow.Author.Needs.{needs}
+use native.Mathlib.Omega.{arith}
+use Rattle.load.proofs.+block+body+branch+branches+construct+counted+expression+expressions+function_row+if_row+infix_row+let_row+one_statement+operand_row+operation+prefix_row+signature_row+statements+yield_row+yielding.Proof.Setting.{signature-row-at, body-below}
+use Rattle.load.proofs.signature_row.Reads as signature-row
+use Rattle.load.proofs.leaf.put_parameters.Reads as put-parameters-reads
+use Rattle.load.proofs.body.Reads as body
+use Rattle.load.proofs.joined.Reads as joined-reads
+use Rattle.load.proofs.+block+body+branch+branches+construct+counted+expression+expressions+function_row+if_row+infix_row+let_row+one_statement+operand_row+operation+prefix_row+signature_row+statements+yield_row+yielding.Lts-signature_row as lts
+
+abbrev calls : ℕ → lts.Claims
+calls t = (put-parameters-reads.Asked, put-parameters-reads.Learnt, body-below t, body.Post, joined-reads.Asked, joined-reads.Learnt)
+
+module _ (t : ℕ) where
+  put-parameters-requires : lts.Need-put-parameters-requires (calls t) (signature-row-at t) signature-row.Post
+  put-parameters-requires c κs = search needs
+
+  sub-body : lts.Need-sub-body (calls t) (signature-row-at t) signature-row.Post
+  sub-body c = search needs
+
+  part-body-start : lts.Need-part-body-start (calls t) (signature-row-at t) signature-row.Post
+  part-body-start c = search needs
+
+  part-body-end : lts.Need-part-body-end (calls t) (signature-row-at t) signature-row.Post
+  part-body-end c = search needs
+
+  body-requires : lts.Need-body-requires (calls t) (signature-row-at t) signature-row.Post
+  body-requires c κs = search needs
+
+  joined-requires : lts.Need-joined-requires (calls t) (signature-row-at t) signature-row.Post
+  joined-requires c κs = search needs
+
+  same-length : lts.Need-same-length (calls t) (signature-row-at t) signature-row.Post
+  same-length c = search needs
+
+  returns : lts.Need-returns (calls t) (signature-row-at t) signature-row.Post
+  returns c = search needs
+
+pub met : {M : Type 1} (t : ℕ) → lts.Closed (calls t) (signature-row-at t) signature-row.Post M
+met t =
+    lts.spec (calls t) (signature-row-at t) signature-row.Post
+    (put-parameters-requires t)
+    (sub-body t)
+    (part-body-start t)
+    (part-body-end t)
+    (body-requires t)
+    (joined-requires t)
+    (same-length t)
+    (returns t)
