@@ -82,3 +82,12 @@ room-behind least n b {mid = mid} h w e =
 -- a row of parts is no longer than what was lent
 pub row-room : {xs : Drawn Nodes} {rest : Grown} (n : ℕ) (b mid : Bytes) {inner : Bytes} → length mid ≡ length b → n ≤ length mid → WroteAll xs rest (midOf n (length mid - n) mid) inner → n + rest .len ≤ length b
 row-room n b mid e h v = omega (arith, length-left n mid h, v .len, v .within)
+
+-- nor are a part that was written into a front part, and the rest
+pub rest-room : {x : Drawn Node} {xs : Drawn Nodes} {first rest : Grown} (k n : ℕ) (b : Bytes) {part mid inner : Bytes} → k ≤ length b → Wrote x first (midOf 0 k b) part → mid ≡ putMid 0 k b part → n ≡ first .len
+    → WroteAll xs rest (midOf n (length mid - n) mid) inner → n + rest .len ≤ length b
+rest-room k n b {mid = mid} h w g e v = row-room n b mid (wrote-length (front-wrote b k h w g)) (room-left 0 k n b h (omega arith) w g e .0) v
+
+-- nor one that was written into the whole, and the rest
+pub behind-room : {x : Drawn Node} {xs : Drawn Nodes} {first rest : Grown} (n : ℕ) (b : Bytes) {mid inner : Bytes} → Wrote x first b mid → n ≡ first .len → WroteAll xs rest (midOf n (length mid - n) mid) inner → n + rest .len ≤ length b
+behind-room n b {mid = mid} w e v = let l = wrote-length w in row-room n b mid l (omega (arith, w .len, w .within)) v

@@ -193,9 +193,10 @@ letters-wrote (suc n) s b k {c = c} {t = t} {u = u} {inner = inner} {after = aft
     let v = next s / 65536 % 26 in
     let d : c ≡ v = f ∙ ap (λ t. t / 65536 % 26) e in
     let m = letters n (next s) in
-    let i : inner ≡ over (m .value) (midOf 1 k (set b 0 (0x61 + v))) = w .0 ∙ (λ j. over (letters (p j) (e j) .value) (midOf 1 k (set b 0 (0x61 + d j)))) in
-    (part-behind b ((0x61 + v) ∷ []) (m .value) {k = k} {n = 1} refl (omega (arith, letters-length n (next s))) (set-front b (0x61 + v) (omega arith)) i (q ∙ (λ j. putMid 1 k (set b 0 (0x61 + d j)) inner)),
-      w .1 ∙ (λ j. letters (p j) (e j) .state))
+    let i : inner ≡ over (m .value) (midOf 1 k (set b 0 (0x61 + v))) = w .0 ∙ (λ j. over (letters (p j) (e j) .value) (midOf 1 k (set b 0 (0x61 + d j)))) in (
+      part-behind b ((0x61 + v) ∷ []) (m .value) {k = k} {n = 1} refl (omega (arith, letters-length n (next s))) (set-front b (0x61 + v) (omega arith)) i (q ∙ (λ j. putMid 1 k (set b 0 (0x61 + d j)) inner)),
+      w .1 ∙ (λ j. letters (p j) (e j) .state),
+    )
 
 -- a String: letters behind the place of its head, then the head
 pub string-wrote : (state : ℕ) {n s u : ℕ} (b : Bytes) (k : ℕ) {inner after : Bytes} → s ≡ next state → n ≡ s / 65536 % 9 → 3 + n ≤ length b → k ≡ length b - 3

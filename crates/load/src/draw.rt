@@ -5,6 +5,7 @@ ghost use Prim.Native.Nat.{_*_, _/_, _%_, _<_, _^_};
 ghost use Rattle.load.specs.Draw.{next};
 
 const MULTIPLIER: u32 = 1664525;
+
 const INCREMENT: u32 = 1013904223;
 
 // The product modulo 2^32, of sums that wrap.

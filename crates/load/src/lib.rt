@@ -22,8 +22,11 @@ ghost use Rattle.load.specs.Writing.{Wrote, WroteAll};
 
 // The bytes that a tree may take, and the least that its parts need.
 const TREE_MOST: usize = 2048;
+
 const EXPRESSION_NEED: usize = 11;
+
 const STATEMENT_NEED: usize = 18;
+
 const BLOCK_NEED: usize = 39;
 
 // The levels below a statement of Program.
@@ -76,7 +79,7 @@ fn statement_choices(below: usize, most: usize) -> u32
 
 // A row of one part and the rest behind it.
 fn joined(at: usize, rest: Grown) -> Grown
-    requires { ⌜ at + rest .len ≤ 65536 ⌝ }
+    requires { ⌜ at + rest .len ≤ 18446744073709551615 ⌝ }
     ensures { λ r. ⌜ r ≡ record { len = at + rest .len; state = rest .state } ⌝ }
 {
     Grown {

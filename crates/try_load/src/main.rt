@@ -1,6 +1,7 @@
 // Prints the trees of seeds from standard input's count.
 use definition::Answer;
 use libc::STDOUT_FILENO;
+
 fn hex(x: u8) {
     let d = b"0123456789abcdef";
     let h = (x / 16) as usize;
@@ -8,6 +9,7 @@ fn hex(x: u8) {
     let two = [d[h], d[l]];
     io::write_all(STDOUT_FILENO, &two);
 }
+
 fn show(seed: u32) {
     let mut tree = [0u8; 2048];
     match load::make_tree(seed, &mut tree) {
@@ -28,6 +30,7 @@ fn show(seed: u32) {
         }
     }
 }
+
 fn length(seed: u32) {
     let mut tree = [0u8; 2048];
     match load::make_tree(seed, &mut tree) {
@@ -38,6 +41,7 @@ fn length(seed: u32) {
         Answer::Refused(_) => {}
     }
 }
+
 fn main() {
     show(0);
     show(1);

@@ -1,7 +1,13 @@
 -- The needs of `block`.
-use Prim.Native.Nat.{ℕ}
-use borrow.Author.Needs.{needs}
 use native.Mathlib.Omega.{arith}
+use Prim.Native.Nat.{ℕ}
+use Rattle.definition.specs.Tag.{tagBlock}
+use Rattle.load.proofs.Rows.{draw-wrote, field-wrote}
+use Rattle.load.specs.Draw.{fieldOf, times}
+use Rattle.load.specs.Load.{aStatement}
+use borrow.Author.Needs.{needs}
+use lib.ListN.{length}
+use mathlib.Core.Path.{refl}
 use Rattle.load.proofs.+block+body+branch+branches+construct+counted+expression+expressions+function_row+if_row+infix_row+let_row+one_statement+operand_row+operation+prefix_row+signature_row+statements+yield_row+yielding.Proof.Setting.{block-at, statements-below}
 use Rattle.load.proofs.block.Reads as block
 use Rattle.load.proofs.draw.step.Reads as step-reads
@@ -45,7 +51,7 @@ module _ (t : ℕ) where
   same-length c = search needs
 
   returns : lts.Need-returns (calls t) (block-at t) block.Post
-  returns c = search needs
+  returns c = draw-wrote (λ k. fieldOf tagBlock (times k (aStatement (c .before .before .before .before .before .before .before .before .before .before .before .args .below))) (length (c .before .before .before .before .before .before .before .before .before .before .before .args .out .now))) 3 (c .before .before .before .before .before .before .before .before .before .before .before .args .state) (c .before .before .before .before .before .before .before .before .before .step .ensures) (c .before .before .before .before .before .before .before .before .choice .ensures .0) (field-wrote tagBlock (times (c .before .before .before .before .before .before .before .before .choice .result) (aStatement (c .before .before .before .before .before .before .before .before .before .before .before .args .below))) (c .before .before .before .before .before .before .before .before .before .before .before .args .out .now) (c .before .before .before .before .before .before .before .before .before .step .result) (omega arith) (c .before .before .before .before .before .before .statements .ensures) refl (c .before .before .close .ensures .1) (c .before .before .close .ensures .0))
 
 pub met : {M : Type 1} (t : ℕ) → lts.Closed (calls t) (block-at t) block.Post M
 met t =

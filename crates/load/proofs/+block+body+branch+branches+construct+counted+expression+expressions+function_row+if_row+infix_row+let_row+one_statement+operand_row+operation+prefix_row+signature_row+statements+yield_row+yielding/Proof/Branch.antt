@@ -1,7 +1,11 @@
 -- The needs of `branch`.
-use Prim.Native.Nat.{ℕ}
-use borrow.Author.Needs.{needs}
 use native.Mathlib.Omega.{arith}
+use Prim.Native.Nat.{_-_, ℕ}
+use Rattle.definition.specs.Tag.{tagBlock}
+use Rattle.load.proofs.Rows.{branch-high, branch-low, branchParts, empty-wrote, field-wrote}
+use Rattle.load.specs.declared.Grown.{Grown}
+use borrow.Author.Needs.{needs}
+use mathlib.Core.Path.{ap, refl}
 use Rattle.load.proofs.+block+body+branch+branches+construct+counted+expression+expressions+function_row+if_row+infix_row+let_row+one_statement+operand_row+operation+prefix_row+signature_row+statements+yield_row+yielding.Proof.Setting.{branch-at, yield-row-below}
 use Rattle.load.proofs.branch.Reads as branch
 use Rattle.load.proofs.nothing.Reads as nothing-reads
@@ -22,13 +26,13 @@ module _ (t : ℕ) where
   nothing-requires c κs = search needs
 
   close-requires : lts.Need-close-requires (calls t) (branch-at t) branch.Post
-  close-requires c κs = search needs
+  close-requires c κs = omega (arith, ap (λ (z : Grown). z .len) (c .nothing .ensures))
 
   same-length : lts.Need-same-length (calls t) (branch-at t) branch.Post
   same-length c = search needs
 
   returns : lts.Need-returns (calls t) (branch-at t) branch.Post
-  returns c = search needs
+  returns c = branch-low (c .before .before .before .before .before .before .before .args .below) _ (c .before .before .before .before .before .before .before .args .state) (c .before .before .before .before .before .if1 .taken) (empty-wrote (c .before .before .before .before .before .before .before .args .out .now) (c .before .before .before .before .before .before .before .args .state) (omega arith) (c .before .before .before .nothing .ensures) (c .before .before .close .ensures .1) (c .before .before .close .ensures .0))
 
   step-requires : lts.Need-step-requires (calls t) (branch-at t) branch.Post
   step-requires c κs = search needs
@@ -64,7 +68,7 @@ module _ (t : ℕ) where
   same-length-2 c = search needs
 
   returns-2 : lts.Need-returns-2 (calls t) (branch-at t) branch.Post
-  returns-2 c = search needs
+  returns-2 c = branch-high (c .before .before .before .before .before .before .before .before .before .before .before .before .args .below) _ (c .before .before .before .before .before .before .before .before .before .before .before .before .args .state) (omega arith) (c .before .before .before .before .before .before .before .before .before .step .ensures) (c .before .before .before .before .before .before .before .before .choice .ensures .0) (field-wrote tagBlock (branchParts ((c .before .before .before .before .before .before .before .before .before .before .before .before .args .below) - 1) (c .before .before .before .before .before .before .before .before .choice .result)) (c .before .before .before .before .before .before .before .before .before .before .before .before .args .out .now) (c .before .before .before .before .before .before .before .before .before .step .result) (omega arith) (c .before .before .before .before .before .before .yield-row .ensures) refl (c .before .before .close2 .ensures .1) (c .before .before .close2 .ensures .0))
 
 pub met : {M : Type 1} (t : ℕ) → lts.Closed (calls t) (branch-at t) branch.Post M
 met t =

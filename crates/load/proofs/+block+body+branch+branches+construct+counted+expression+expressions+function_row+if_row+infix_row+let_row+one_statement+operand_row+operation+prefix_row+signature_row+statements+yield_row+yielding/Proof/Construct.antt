@@ -1,7 +1,14 @@
 -- The needs of `construct`.
-use Prim.Native.Nat.{ℕ}
-use borrow.Author.Needs.{needs}
 use native.Mathlib.Omega.{arith}
+use Prim.Native.Nat.{ℕ}
+use Rattle.definition.specs.Tag.{tagFunction, tagIf}
+use Rattle.load.proofs.Rows.{field-wrote, row-at}
+use Rattle.load.specs.Draw.{times}
+use Rattle.load.specs.Load.{aBlock, aBranch, anExpression, functionName, functionParameters}
+use borrow.Author.Needs.{needs}
+use lib.ListN.{length}
+use mathlib.Core.List.{[], _∷_}
+use mathlib.Core.Path.{refl}
 use Rattle.load.proofs.+block+body+branch+branches+construct+counted+expression+expressions+function_row+if_row+infix_row+let_row+one_statement+operand_row+operation+prefix_row+signature_row+statements+yield_row+yielding.Proof.Setting.{construct-at, if-row-below, function-row-below}
 use Rattle.load.proofs.construct.Reads as construct
 use Rattle.load.proofs.if_row.Reads as if-row
@@ -35,7 +42,7 @@ module _ (t : ℕ) where
   same-length c = search needs
 
   returns : lts.Need-returns (calls t) (construct-at t) construct.Post
-  returns c = search needs
+  returns c = row-at (c .before .before .before .before .before .before .before .before .before .before .args .k) 10 (anExpression (c .before .before .before .before .before .before .before .before .before .before .args .below)) (aBranch (c .before .before .before .before .before .before .before .before .before .before .args .below)) (aBlock (c .before .before .before .before .before .before .before .before .before .before .args .below)) (length (c .before .before .before .before .before .before .before .before .before .before .args .out .now)) (c .before .before .before .before .before .before .before .before .before .before .args .s) (c .before .before .before .before .before .before .before .before .if1 .taken) (field-wrote tagIf ((anExpression (c .before .before .before .before .before .before .before .before .before .before .args .below)) ∷ times 1 (aBranch (c .before .before .before .before .before .before .before .before .before .before .args .below))) (c .before .before .before .before .before .before .before .before .before .before .args .out .now) (c .before .before .before .before .before .before .before .before .before .before .args .s) (omega arith) (c .before .before .before .before .before .before .if-row .ensures) refl (c .before .before .close .ensures .1) (c .before .before .close .ensures .0))
 
   sub-if-row-2 : lts.Need-sub-if-row-2 (calls t) (construct-at t) construct.Post
   sub-if-row-2 c = search needs
@@ -59,7 +66,7 @@ module _ (t : ℕ) where
   same-length-2 c = search needs
 
   returns-2 : lts.Need-returns-2 (calls t) (construct-at t) construct.Post
-  returns-2 c = search needs
+  returns-2 c = row-at (c .before .before .before .before .before .before .before .before .before .before .before .args .k) 11 (anExpression (c .before .before .before .before .before .before .before .before .before .before .before .args .below)) (aBranch (c .before .before .before .before .before .before .before .before .before .before .before .args .below)) (aBlock (c .before .before .before .before .before .before .before .before .before .before .before .args .below)) (length (c .before .before .before .before .before .before .before .before .before .before .before .args .out .now)) (c .before .before .before .before .before .before .before .before .before .before .before .args .s) (c .before .before .before .before .before .before .before .before .if2 .taken) (field-wrote tagIf ((anExpression (c .before .before .before .before .before .before .before .before .before .before .before .args .below)) ∷ times 2 (aBranch (c .before .before .before .before .before .before .before .before .before .before .before .args .below))) (c .before .before .before .before .before .before .before .before .before .before .before .args .out .now) (c .before .before .before .before .before .before .before .before .before .before .before .args .s) (omega arith) (c .before .before .before .before .before .before .if-row2 .ensures) refl (c .before .before .close2 .ensures .1) (c .before .before .close2 .ensures .0))
 
   sub-function-row : lts.Need-sub-function-row (calls t) (construct-at t) construct.Post
   sub-function-row c = search needs
@@ -83,7 +90,7 @@ module _ (t : ℕ) where
   same-length-3 c = search needs
 
   returns-3 : lts.Need-returns-3 (calls t) (construct-at t) construct.Post
-  returns-3 c = search needs
+  returns-3 c = row-at (c .before .before .before .before .before .before .before .before .before .before .before .args .k) 12 (anExpression (c .before .before .before .before .before .before .before .before .before .before .before .args .below)) (aBranch (c .before .before .before .before .before .before .before .before .before .before .before .args .below)) (aBlock (c .before .before .before .before .before .before .before .before .before .before .before .args .below)) (length (c .before .before .before .before .before .before .before .before .before .before .before .args .out .now)) (c .before .before .before .before .before .before .before .before .before .before .before .args .s) (omega arith) (field-wrote tagFunction (functionName ∷ functionParameters ∷ (aBlock (c .before .before .before .before .before .before .before .before .before .before .before .args .below)) ∷ []) (c .before .before .before .before .before .before .before .before .before .before .before .args .out .now) (c .before .before .before .before .before .before .before .before .before .before .before .args .s) (omega arith) (c .before .before .before .before .before .before .function-row .ensures) refl (c .before .before .close3 .ensures .1) (c .before .before .close3 .ensures .0))
 
 pub met : {M : Type 1} (t : ℕ) → lts.Closed (calls t) (construct-at t) construct.Post M
 met t =

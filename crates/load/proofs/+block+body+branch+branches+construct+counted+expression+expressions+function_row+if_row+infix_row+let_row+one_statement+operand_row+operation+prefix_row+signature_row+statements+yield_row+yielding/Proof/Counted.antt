@@ -1,7 +1,15 @@
 -- The needs of `counted`.
-use Prim.Native.Nat.{ℕ}
-use borrow.Author.Needs.{needs}
 use native.Mathlib.Omega.{arith}
+use Prim.Native.Nat.{_*_, _+_, ℕ}
+use Rattle.definition.specs.Tag.{tagArray, tagCall, tagHash}
+use Rattle.load.proofs.Laws.{wrote-as}
+use Rattle.load.proofs.Rows.{call-times, draw-wrote, field-wrote, pairs-times, row-at}
+use Rattle.load.specs.Draw.{fieldOf, times}
+use Rattle.load.specs.Load.{aBlock, aBranch, anExpression, pairs}
+use borrow.Author.Needs.{needs}
+use lib.ListN.{length}
+use mathlib.Core.List.{_∷_}
+use mathlib.Core.Path.{ap, refl}
 use Rattle.load.proofs.+block+body+branch+branches+construct+counted+expression+expressions+function_row+if_row+infix_row+let_row+one_statement+operand_row+operation+prefix_row+signature_row+statements+yield_row+yielding.Proof.Setting.{counted-at, expressions-below}
 use Rattle.load.proofs.counted.Reads as counted
 use Rattle.load.proofs.draw.step.Reads as step-reads
@@ -48,7 +56,7 @@ module _ (t : ℕ) where
   same-length c = search needs
 
   returns : lts.Need-returns (calls t) (counted-at t) counted.Post
-  returns c = search needs
+  returns c = row-at (c .before .before .before .before .before .before .before .before .before .before .before .before .args .k) 6 (anExpression (c .before .before .before .before .before .before .before .before .before .before .before .before .args .below)) (aBranch (c .before .before .before .before .before .before .before .before .before .before .before .before .args .below)) (aBlock (c .before .before .before .before .before .before .before .before .before .before .before .before .args .below)) (length (c .before .before .before .before .before .before .before .before .before .before .before .before .args .out .now)) (c .before .before .before .before .before .before .before .before .before .before .before .before .args .s) (c .before .before .before .before .before .before .before .before .before .if1 .taken) (draw-wrote (λ k. fieldOf tagCall ((anExpression (c .before .before .before .before .before .before .before .before .before .before .before .before .args .below)) ∷ times k (anExpression (c .before .before .before .before .before .before .before .before .before .before .before .before .args .below))) (length (c .before .before .before .before .before .before .before .before .before .before .before .before .args .out .now))) 3 (c .before .before .before .before .before .before .before .before .before .before .before .before .args .s) (c .before .before .before .before .before .before .before .before .before .before .step .ensures) (c .before .before .before .before .before .before .before .before .choice .ensures .0) (wrote-as (ap (λ ps. fieldOf tagCall ps (length (c .before .before .before .before .before .before .before .before .before .before .before .before .args .out .now)) (c .before .before .before .before .before .before .before .before .before .before .step .result)) (call-times (1 + c .before .before .before .before .before .before .before .before .choice .result) (c .before .before .before .before .before .before .before .before .choice .result) (anExpression (c .before .before .before .before .before .before .before .before .before .before .before .before .args .below)) refl)) (field-wrote tagCall (times (1 + c .before .before .before .before .before .before .before .before .choice .result) (anExpression (c .before .before .before .before .before .before .before .before .before .before .before .before .args .below))) (c .before .before .before .before .before .before .before .before .before .before .before .before .args .out .now) (c .before .before .before .before .before .before .before .before .before .before .step .result) (omega arith) (c .before .before .before .before .before .before .expressions .ensures) refl (c .before .before .close .ensures .1) (c .before .before .close .ensures .0))))
 
   choice-requires-2 : lts.Need-choice-requires-2 (calls t) (counted-at t) counted.Post
   choice-requires-2 c κs = search needs
@@ -78,7 +86,7 @@ module _ (t : ℕ) where
   same-length-2 c = search needs
 
   returns-2 : lts.Need-returns-2 (calls t) (counted-at t) counted.Post
-  returns-2 c = search needs
+  returns-2 c = row-at (c .before .before .before .before .before .before .before .before .before .before .before .before .before .args .k) 7 (anExpression (c .before .before .before .before .before .before .before .before .before .before .before .before .before .args .below)) (aBranch (c .before .before .before .before .before .before .before .before .before .before .before .before .before .args .below)) (aBlock (c .before .before .before .before .before .before .before .before .before .before .before .before .before .args .below)) (length (c .before .before .before .before .before .before .before .before .before .before .before .before .before .args .out .now)) (c .before .before .before .before .before .before .before .before .before .before .before .before .before .args .s) (c .before .before .before .before .before .before .before .before .before .if2 .taken) (draw-wrote (λ k. fieldOf tagArray (times k (anExpression (c .before .before .before .before .before .before .before .before .before .before .before .before .before .args .below))) (length (c .before .before .before .before .before .before .before .before .before .before .before .before .before .args .out .now))) 4 (c .before .before .before .before .before .before .before .before .before .before .before .before .before .args .s) (c .before .before .before .before .before .before .before .before .before .before .before .step .ensures) (c .before .before .before .before .before .before .before .before .choice2 .ensures .0) (field-wrote tagArray (times (c .before .before .before .before .before .before .before .before .choice2 .result) (anExpression (c .before .before .before .before .before .before .before .before .before .before .before .before .before .args .below))) (c .before .before .before .before .before .before .before .before .before .before .before .before .before .args .out .now) (c .before .before .before .before .before .before .before .before .before .before .before .step .result) (omega arith) (c .before .before .before .before .before .before .expressions2 .ensures) refl (c .before .before .close2 .ensures .1) (c .before .before .close2 .ensures .0)))
 
   choice-requires-3 : lts.Need-choice-requires-3 (calls t) (counted-at t) counted.Post
   choice-requires-3 c κs = search needs
@@ -111,7 +119,7 @@ module _ (t : ℕ) where
   same-length-3 c = search needs
 
   returns-3 : lts.Need-returns-3 (calls t) (counted-at t) counted.Post
-  returns-3 c = search needs
+  returns-3 c = row-at (c .before .before .before .before .before .before .before .before .before .before .before .before .before .args .k) 9 (anExpression (c .before .before .before .before .before .before .before .before .before .before .before .before .before .args .below)) (aBranch (c .before .before .before .before .before .before .before .before .before .before .before .before .before .args .below)) (aBlock (c .before .before .before .before .before .before .before .before .before .before .before .before .before .args .below)) (length (c .before .before .before .before .before .before .before .before .before .before .before .before .before .args .out .now)) (c .before .before .before .before .before .before .before .before .before .before .before .before .before .args .s) (omega arith) (draw-wrote (λ k. fieldOf tagHash (pairs k (anExpression (c .before .before .before .before .before .before .before .before .before .before .before .before .before .args .below))) (length (c .before .before .before .before .before .before .before .before .before .before .before .before .before .args .out .now))) 3 (c .before .before .before .before .before .before .before .before .before .before .before .before .before .args .s) (c .before .before .before .before .before .before .before .before .before .before .before .step .ensures) (c .before .before .before .before .before .before .before .before .choice3 .ensures .0) (wrote-as (ap (λ ps. fieldOf tagHash ps (length (c .before .before .before .before .before .before .before .before .before .before .before .before .before .args .out .now)) (c .before .before .before .before .before .before .before .before .before .before .before .step .result)) (pairs-times (c .before .before .before .before .before .before .before .before .choice3 .result) (anExpression (c .before .before .before .before .before .before .before .before .before .before .before .before .before .args .below)))) (field-wrote tagHash (times (2 * c .before .before .before .before .before .before .before .before .choice3 .result) (anExpression (c .before .before .before .before .before .before .before .before .before .before .before .before .before .args .below))) (c .before .before .before .before .before .before .before .before .before .before .before .before .before .args .out .now) (c .before .before .before .before .before .before .before .before .before .before .before .step .result) (omega arith) (c .before .before .before .before .before .before .expressions3 .ensures) refl (c .before .before .close3 .ensures .1) (c .before .before .close3 .ensures .0))))
 
 pub met : {M : Type 1} (t : ℕ) → lts.Closed (calls t) (counted-at t) counted.Post M
 met t =

@@ -1,7 +1,12 @@
 -- The needs of `function_row`.
-use Prim.Native.Nat.{ℕ}
-use borrow.Author.Needs.{needs}
 use native.Mathlib.Omega.{arith}
+use Prim.Native.Nat.{ℕ}
+use Rattle.load.proofs.InRow.{behind-room, row-wrote}
+use Rattle.load.proofs.Rows.{name-room}
+use Rattle.load.specs.Load.{aBlock, functionName, functionParameters}
+use borrow.Author.Needs.{needs}
+use mathlib.Core.List.{[], _∷_}
+use mathlib.Core.Path.{refl}
 use Rattle.load.proofs.+block+body+branch+branches+construct+counted+expression+expressions+function_row+if_row+infix_row+let_row+one_statement+operand_row+operation+prefix_row+signature_row+statements+yield_row+yielding.Proof.Setting.{function-row-at, signature-row-below}
 use Rattle.load.proofs.function_row.Reads as function-row
 use Rattle.load.proofs.leaf.put_function_name.Reads as put-function-name-reads
@@ -26,16 +31,16 @@ module _ (t : ℕ) where
   part-signature-row-end c = search needs
 
   signature-row-requires : lts.Need-signature-row-requires (calls t) (function-row-at t) function-row.Post
-  signature-row-requires c κs = search needs
+  signature-row-requires c κs = (omega arith, (name-room (c .before .before .before .before .before .before .args .out .now) (c .before .before .before .before .before .before .args .state) (omega arith) (c .before .before .before .put-function-name .ensures), omega arith))
 
   joined-requires : lts.Need-joined-requires (calls t) (function-row-at t) function-row.Post
-  joined-requires c κs = search needs
+  joined-requires c κs = omega (arith, behind-room _ (c .before .before .before .before .before .before .before .before .before .args .out .now) (c .before .before .before .before .before .before .put-function-name .ensures) refl (c .before .before .signature-row .ensures))
 
   same-length : lts.Need-same-length (calls t) (function-row-at t) function-row.Post
   same-length c = search needs
 
   returns : lts.Need-returns (calls t) (function-row-at t) function-row.Post
-  returns c = search needs
+  returns c = row-wrote functionName (functionParameters ∷ (aBlock (c .before .before .before .before .before .before .before .before .before .before .args .below)) ∷ []) (c .before .before .before .before .before .before .before .before .before .before .args .out .now) (c .before .before .before .before .before .before .before .before .before .before .args .state) _ (c .before .before .before .before .before .before .before .put-function-name .ensures) refl (c .before .before .before .signature-row .ensures) refl (c .joined .ensures)
 
 pub met : {M : Type 1} (t : ℕ) → lts.Closed (calls t) (function-row-at t) function-row.Post M
 met t =

@@ -1,7 +1,15 @@
 -- The needs of `one_statement`.
-use Prim.Native.Nat.{ℕ}
-use borrow.Author.Needs.{needs}
 use native.Mathlib.Omega.{arith}
+use Prim.Native.Nat.{_-_, ℕ}
+use Rattle.definition.specs.Tag.{tagExprStmt, tagLet, tagReturn}
+use Rattle.load.proofs.Rows.{block-room, empty-wrote, field-wrote, statement-choices-least, statement-choices-most, statement-high, statement-low, statement-row-at}
+use Rattle.load.specs.Draw.{times}
+use Rattle.load.specs.Load.{aStatement, anExpression, letName}
+use Rattle.load.specs.declared.Grown.{Grown}
+use borrow.Author.Needs.{needs}
+use lib.ListN.{length}
+use mathlib.Core.List.{[], _∷_}
+use mathlib.Core.Path.{ap, refl}
 use Rattle.load.proofs.+block+body+branch+branches+construct+counted+expression+expressions+function_row+if_row+infix_row+let_row+one_statement+operand_row+operation+prefix_row+signature_row+statements+yield_row+yielding.Proof.Setting.{one-statement-at, expressions-below, let-row-below, block-below}
 use Rattle.load.proofs.one_statement.Reads as one-statement
 use Rattle.load.proofs.nothing.Reads as nothing-reads
@@ -25,13 +33,13 @@ module _ (t : ℕ) where
   nothing-requires c κs = search needs
 
   close-requires : lts.Need-close-requires (calls t) (one-statement-at t) one-statement.Post
-  close-requires c κs = search needs
+  close-requires c κs = omega (arith, ap (λ (z : Grown). z .len) (c .nothing .ensures))
 
   same-length : lts.Need-same-length (calls t) (one-statement-at t) one-statement.Post
   same-length c = search needs
 
   returns : lts.Need-returns (calls t) (one-statement-at t) one-statement.Post
-  returns c = search needs
+  returns c = statement-low (c .before .before .before .before .before .before .before .args .below) _ (c .before .before .before .before .before .before .before .args .state) (c .before .before .before .before .before .if1 .taken) (empty-wrote (c .before .before .before .before .before .before .before .args .out .now) (c .before .before .before .before .before .before .before .args .state) (omega arith) (c .before .before .before .nothing .ensures) (c .before .before .close .ensures .1) (c .before .before .close .ensures .0))
 
   step-requires : lts.Need-step-requires (calls t) (one-statement-at t) one-statement.Post
   step-requires c κs = search needs
@@ -40,7 +48,7 @@ module _ (t : ℕ) where
   statement-choices-requires c κs = search needs
 
   choice-requires : lts.Need-choice-requires (calls t) (one-statement-at t) one-statement.Post
-  choice-requires c κs = search needs
+  choice-requires c κs = omega (arith, c .statement-choices .ensures, statement-choices-least (c .before .before .before .before .args .below) (length (c .before .before .before .before .args .out .now)))
 
   sub-expressions : lts.Need-sub-expressions (calls t) (one-statement-at t) one-statement.Post
   sub-expressions c = search needs
@@ -67,7 +75,7 @@ module _ (t : ℕ) where
   same-length-2 c = search needs
 
   returns-2 : lts.Need-returns-2 (calls t) (one-statement-at t) one-statement.Post
-  returns-2 c = search needs
+  returns-2 c = statement-high (c .before .before .before .before .before .before .before .before .before .before .before .before .before .before .args .below) _ (c .before .before .before .before .before .before .before .before .before .before .before .before .before .before .args .state) (omega arith) (c .before .before .before .before .before .before .before .before .before .before .before .step .ensures) (c .before .before .before .before .before .before .before .before .before .before .statement-choices .ensures) (c .before .before .before .before .before .before .before .before .before .choice .ensures .0) (statement-row-at (c .before .before .before .before .before .before .before .before .before .choice .result) 0 (anExpression ((c .before .before .before .before .before .before .before .before .before .before .before .before .before .before .args .below) - 1)) (aStatement ((c .before .before .before .before .before .before .before .before .before .before .before .before .before .before .args .below) - 1)) (length (c .before .before .before .before .before .before .before .before .before .before .before .before .before .before .args .out .now)) (c .before .before .before .before .before .before .before .before .before .before .before .step .result) (c .before .before .before .before .before .before .before .before .if2 .taken) (field-wrote tagExprStmt (times 1 (anExpression ((c .before .before .before .before .before .before .before .before .before .before .before .before .before .before .args .below) - 1))) (c .before .before .before .before .before .before .before .before .before .before .before .before .before .before .args .out .now) (c .before .before .before .before .before .before .before .before .before .before .before .step .result) (omega arith) (c .before .before .before .before .before .before .expressions .ensures) refl (c .before .before .close2 .ensures .1) (c .before .before .close2 .ensures .0)))
 
   sub-let-row : lts.Need-sub-let-row (calls t) (one-statement-at t) one-statement.Post
   sub-let-row c = search needs
@@ -94,7 +102,7 @@ module _ (t : ℕ) where
   same-length-3 c = search needs
 
   returns-3 : lts.Need-returns-3 (calls t) (one-statement-at t) one-statement.Post
-  returns-3 c = search needs
+  returns-3 c = statement-high (c .before .before .before .before .before .before .before .before .before .before .before .before .before .before .before .args .below) _ (c .before .before .before .before .before .before .before .before .before .before .before .before .before .before .before .args .state) (omega arith) (c .before .before .before .before .before .before .before .before .before .before .before .before .step .ensures) (c .before .before .before .before .before .before .before .before .before .before .before .statement-choices .ensures) (c .before .before .before .before .before .before .before .before .before .before .choice .ensures .0) (statement-row-at (c .before .before .before .before .before .before .before .before .before .before .choice .result) 1 (anExpression ((c .before .before .before .before .before .before .before .before .before .before .before .before .before .before .before .args .below) - 1)) (aStatement ((c .before .before .before .before .before .before .before .before .before .before .before .before .before .before .before .args .below) - 1)) (length (c .before .before .before .before .before .before .before .before .before .before .before .before .before .before .before .args .out .now)) (c .before .before .before .before .before .before .before .before .before .before .before .before .step .result) (c .before .before .before .before .before .before .before .before .if3 .taken) (field-wrote tagLet (letName ∷ (anExpression ((c .before .before .before .before .before .before .before .before .before .before .before .before .before .before .before .args .below) - 1)) ∷ []) (c .before .before .before .before .before .before .before .before .before .before .before .before .before .before .before .args .out .now) (c .before .before .before .before .before .before .before .before .before .before .before .before .step .result) (omega arith) (c .before .before .before .before .before .before .let-row .ensures) refl (c .before .before .close3 .ensures .1) (c .before .before .close3 .ensures .0)))
 
   sub-expressions-3 : lts.Need-sub-expressions-3 (calls t) (one-statement-at t) one-statement.Post
   sub-expressions-3 c = search needs
@@ -121,19 +129,19 @@ module _ (t : ℕ) where
   same-length-4 c = search needs
 
   returns-4 : lts.Need-returns-4 (calls t) (one-statement-at t) one-statement.Post
-  returns-4 c = search needs
+  returns-4 c = statement-high (c .before .before .before .before .before .before .before .before .before .before .before .before .before .before .before .before .args .below) _ (c .before .before .before .before .before .before .before .before .before .before .before .before .before .before .before .before .args .state) (omega arith) (c .before .before .before .before .before .before .before .before .before .before .before .before .before .step .ensures) (c .before .before .before .before .before .before .before .before .before .before .before .before .statement-choices .ensures) (c .before .before .before .before .before .before .before .before .before .before .before .choice .ensures .0) (statement-row-at (c .before .before .before .before .before .before .before .before .before .before .before .choice .result) 2 (anExpression ((c .before .before .before .before .before .before .before .before .before .before .before .before .before .before .before .before .args .below) - 1)) (aStatement ((c .before .before .before .before .before .before .before .before .before .before .before .before .before .before .before .before .args .below) - 1)) (length (c .before .before .before .before .before .before .before .before .before .before .before .before .before .before .before .before .args .out .now)) (c .before .before .before .before .before .before .before .before .before .before .before .before .before .step .result) (c .before .before .before .before .before .before .before .before .if4 .taken) (field-wrote tagReturn (times 1 (anExpression ((c .before .before .before .before .before .before .before .before .before .before .before .before .before .before .before .before .args .below) - 1))) (c .before .before .before .before .before .before .before .before .before .before .before .before .before .before .before .before .args .out .now) (c .before .before .before .before .before .before .before .before .before .before .before .before .before .step .result) (omega arith) (c .before .before .before .before .before .before .expressions2 .ensures) refl (c .before .before .close4 .ensures .1) (c .before .before .close4 .ensures .0)))
 
   sub-block : lts.Need-sub-block (calls t) (one-statement-at t) one-statement.Post
   sub-block c = search needs
 
   block-requires : lts.Need-block-requires (calls t) (one-statement-at t) one-statement.Post
-  block-requires c κs = search needs
+  block-requires c κs = (omega arith, (omega (arith, block-room (c .before .before .before .before .before .before .before .before .before .args .below) (length (c .before .before .before .before .before .before .before .before .before .args .out .now)) (c .before .before .before .before .choice .result) (omega (arith, c .before .before .before .before .before .statement-choices .ensures, c .before .before .before .before .choice .ensures .1)) (omega arith)), omega arith))
 
   same-length-5 : lts.Need-same-length-5 (calls t) (one-statement-at t) one-statement.Post
   same-length-5 c = search needs
 
   returns-5 : lts.Need-returns-5 (calls t) (one-statement-at t) one-statement.Post
-  returns-5 c = search needs
+  returns-5 c = statement-high (c .before .before .before .before .before .before .before .before .before .before .before .before .args .below) _ (c .before .before .before .before .before .before .before .before .before .before .before .before .args .state) (omega arith) (c .before .before .before .before .before .before .before .before .before .step .ensures) (c .before .before .before .before .before .before .before .before .statement-choices .ensures) (c .before .before .before .before .before .before .before .choice .ensures .0) (statement-row-at (c .before .before .before .before .before .before .before .choice .result) 3 (anExpression ((c .before .before .before .before .before .before .before .before .before .before .before .before .args .below) - 1)) (aStatement ((c .before .before .before .before .before .before .before .before .before .before .before .before .args .below) - 1)) (length (c .before .before .before .before .before .before .before .before .before .before .before .before .args .out .now)) (c .before .before .before .before .before .before .before .before .before .step .result) (omega (arith, c .before .before .before .before .before .before .before .before .statement-choices .ensures, c .before .before .before .before .before .before .before .choice .ensures .1, statement-choices-most (c .before .before .before .before .before .before .before .before .before .before .before .before .args .below) (length (c .before .before .before .before .before .before .before .before .before .before .before .before .args .out .now)))) (c .before .before .block .ensures))
 
 pub met : {M : Type 1} (t : ℕ) → lts.Closed (calls t) (one-statement-at t) one-statement.Post M
 met t =

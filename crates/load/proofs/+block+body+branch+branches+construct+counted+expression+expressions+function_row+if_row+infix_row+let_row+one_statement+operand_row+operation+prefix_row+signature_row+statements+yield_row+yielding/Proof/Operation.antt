@@ -1,7 +1,14 @@
 -- The needs of `operation`.
-use Prim.Native.Nat.{ℕ}
-use borrow.Author.Needs.{needs}
 use native.Mathlib.Omega.{arith}
+use Prim.Native.Nat.{ℕ}
+use Rattle.definition.specs.Tag.{tagIndex, tagInfix, tagPrefix}
+use Rattle.load.proofs.Rows.{field-wrote, row-at}
+use Rattle.load.specs.Draw.{times}
+use Rattle.load.specs.Load.{aBlock, aBranch, anExpression, infixOperator, prefixOperator}
+use borrow.Author.Needs.{needs}
+use lib.ListN.{length}
+use mathlib.Core.List.{[], _∷_}
+use mathlib.Core.Path.{refl}
 use Rattle.load.proofs.+block+body+branch+branches+construct+counted+expression+expressions+function_row+if_row+infix_row+let_row+one_statement+operand_row+operation+prefix_row+signature_row+statements+yield_row+yielding.Proof.Setting.{operation-at, prefix-row-below, infix-row-below, expressions-below, counted-below}
 use Rattle.load.proofs.operation.Reads as operation
 use Rattle.load.proofs.prefix_row.Reads as prefix-row
@@ -37,7 +44,7 @@ module _ (t : ℕ) where
   same-length c = search needs
 
   returns : lts.Need-returns (calls t) (operation-at t) operation.Post
-  returns c = search needs
+  returns c = row-at (c .before .before .before .before .before .before .before .before .before .before .args .k) 4 (anExpression (c .before .before .before .before .before .before .before .before .before .before .args .below)) (aBranch (c .before .before .before .before .before .before .before .before .before .before .args .below)) (aBlock (c .before .before .before .before .before .before .before .before .before .before .args .below)) (length (c .before .before .before .before .before .before .before .before .before .before .args .out .now)) (c .before .before .before .before .before .before .before .before .before .before .args .s) (c .before .before .before .before .before .before .before .before .if1 .taken) (field-wrote tagPrefix (prefixOperator ∷ (anExpression (c .before .before .before .before .before .before .before .before .before .before .args .below)) ∷ []) (c .before .before .before .before .before .before .before .before .before .before .args .out .now) (c .before .before .before .before .before .before .before .before .before .before .args .s) (omega arith) (c .before .before .before .before .before .before .prefix-row .ensures) refl (c .before .before .close .ensures .1) (c .before .before .close .ensures .0))
 
   sub-infix-row : lts.Need-sub-infix-row (calls t) (operation-at t) operation.Post
   sub-infix-row c = search needs
@@ -61,7 +68,7 @@ module _ (t : ℕ) where
   same-length-2 c = search needs
 
   returns-2 : lts.Need-returns-2 (calls t) (operation-at t) operation.Post
-  returns-2 c = search needs
+  returns-2 c = row-at (c .before .before .before .before .before .before .before .before .before .before .before .args .k) 5 (anExpression (c .before .before .before .before .before .before .before .before .before .before .before .args .below)) (aBranch (c .before .before .before .before .before .before .before .before .before .before .before .args .below)) (aBlock (c .before .before .before .before .before .before .before .before .before .before .before .args .below)) (length (c .before .before .before .before .before .before .before .before .before .before .before .args .out .now)) (c .before .before .before .before .before .before .before .before .before .before .before .args .s) (c .before .before .before .before .before .before .before .before .if2 .taken) (field-wrote tagInfix ((anExpression (c .before .before .before .before .before .before .before .before .before .before .before .args .below)) ∷ infixOperator ∷ (anExpression (c .before .before .before .before .before .before .before .before .before .before .before .args .below)) ∷ []) (c .before .before .before .before .before .before .before .before .before .before .before .args .out .now) (c .before .before .before .before .before .before .before .before .before .before .before .args .s) (omega arith) (c .before .before .before .before .before .before .infix-row .ensures) refl (c .before .before .close2 .ensures .1) (c .before .before .close2 .ensures .0))
 
   sub-expressions : lts.Need-sub-expressions (calls t) (operation-at t) operation.Post
   sub-expressions c = search needs
@@ -85,7 +92,7 @@ module _ (t : ℕ) where
   same-length-3 c = search needs
 
   returns-3 : lts.Need-returns-3 (calls t) (operation-at t) operation.Post
-  returns-3 c = search needs
+  returns-3 c = row-at (c .before .before .before .before .before .before .before .before .before .before .before .before .args .k) 8 (anExpression (c .before .before .before .before .before .before .before .before .before .before .before .before .args .below)) (aBranch (c .before .before .before .before .before .before .before .before .before .before .before .before .args .below)) (aBlock (c .before .before .before .before .before .before .before .before .before .before .before .before .args .below)) (length (c .before .before .before .before .before .before .before .before .before .before .before .before .args .out .now)) (c .before .before .before .before .before .before .before .before .before .before .before .before .args .s) (c .before .before .before .before .before .before .before .before .if3 .taken) (field-wrote tagIndex (times 2 (anExpression (c .before .before .before .before .before .before .before .before .before .before .before .before .args .below))) (c .before .before .before .before .before .before .before .before .before .before .before .before .args .out .now) (c .before .before .before .before .before .before .before .before .before .before .before .before .args .s) (omega arith) (c .before .before .before .before .before .before .expressions .ensures) refl (c .before .before .close3 .ensures .1) (c .before .before .close3 .ensures .0))
 
   counted-requires : lts.Need-counted-requires (calls t) (operation-at t) operation.Post
   counted-requires c κs = search needs

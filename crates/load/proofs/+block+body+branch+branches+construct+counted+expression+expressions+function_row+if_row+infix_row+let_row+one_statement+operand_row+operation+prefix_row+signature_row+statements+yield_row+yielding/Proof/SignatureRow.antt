@@ -1,7 +1,12 @@
 -- The needs of `signature_row`.
-use Prim.Native.Nat.{ℕ}
-use borrow.Author.Needs.{needs}
 use native.Mathlib.Omega.{arith}
+use Prim.Native.Nat.{ℕ}
+use Rattle.load.proofs.InRow.{behind-room, last-wrote, row-wrote}
+use Rattle.load.proofs.Rows.{parameters-room}
+use Rattle.load.specs.Load.{aBlock, functionParameters}
+use borrow.Author.Needs.{needs}
+use mathlib.Core.List.{[], _∷_}
+use mathlib.Core.Path.{refl}
 use Rattle.load.proofs.+block+body+branch+branches+construct+counted+expression+expressions+function_row+if_row+infix_row+let_row+one_statement+operand_row+operation+prefix_row+signature_row+statements+yield_row+yielding.Proof.Setting.{signature-row-at, body-below}
 use Rattle.load.proofs.signature_row.Reads as signature-row
 use Rattle.load.proofs.leaf.put_parameters.Reads as put-parameters-reads
@@ -26,16 +31,16 @@ module _ (t : ℕ) where
   part-body-end c = search needs
 
   body-requires : lts.Need-body-requires (calls t) (signature-row-at t) signature-row.Post
-  body-requires c κs = search needs
+  body-requires c κs = (omega arith, (parameters-room (c .before .before .before .before .before .before .args .out .now) (c .before .before .before .before .before .before .args .state) (omega arith) (c .before .before .before .put-parameters .ensures), omega arith))
 
   joined-requires : lts.Need-joined-requires (calls t) (signature-row-at t) signature-row.Post
-  joined-requires c κs = search needs
+  joined-requires c κs = omega (arith, behind-room _ (c .before .before .before .before .before .before .before .before .before .args .out .now) (c .before .before .before .before .before .before .put-parameters .ensures) refl (last-wrote (aBlock (c .before .before .before .before .before .before .before .before .before .args .below)) _ _ (c .before .before .body .ensures)))
 
   same-length : lts.Need-same-length (calls t) (signature-row-at t) signature-row.Post
   same-length c = search needs
 
   returns : lts.Need-returns (calls t) (signature-row-at t) signature-row.Post
-  returns c = search needs
+  returns c = row-wrote functionParameters ((aBlock (c .before .before .before .before .before .before .before .before .before .before .args .below)) ∷ []) (c .before .before .before .before .before .before .before .before .before .before .args .out .now) (c .before .before .before .before .before .before .before .before .before .before .args .state) _ (c .before .before .before .before .before .before .before .put-parameters .ensures) refl (last-wrote (aBlock (c .before .before .before .before .before .before .before .before .before .before .args .below)) _ _ (c .before .before .before .body .ensures)) refl (c .joined .ensures)
 
 pub met : {M : Type 1} (t : ℕ) → lts.Closed (calls t) (signature-row-at t) signature-row.Post M
 met t =

@@ -1,7 +1,12 @@
 -- The needs of `statements`.
-use Prim.Native.Nat.{ℕ}
-use borrow.Author.Needs.{needs}
 use native.Mathlib.Omega.{arith}
+use Prim.Native.Nat.{_*_, _-_, ℕ}
+use Rattle.load.proofs.InRow.{no-row, rest-room, room-front, room-left, times-wrote}
+use Rattle.load.proofs.Laws.{length-mid}
+use Rattle.load.specs.Load.{aStatement}
+use borrow.Author.Needs.{counted-is, needs}
+use lib.ListN.{length}
+use mathlib.Core.Path.{refl}
 use Rattle.load.proofs.+block+body+branch+branches+construct+counted+expression+expressions+function_row+if_row+infix_row+let_row+one_statement+operand_row+operation+prefix_row+signature_row+statements+yield_row+yielding.Proof.Setting.{statements-at, one-statement-below, statements-below}
 use Rattle.load.proofs.statements.Reads as statements
 use Rattle.load.proofs.nothing.Reads as nothing-reads
@@ -17,7 +22,7 @@ module _ (t : ℕ) where
   nothing-requires c κs = search needs
 
   returns : lts.Need-returns (calls t) (statements-at t) statements.Post
-  returns c = search needs
+  returns c = no-row (aStatement (c .before .before .before .args .below)) (c .before .before .before .args .n) _ (c .before .before .before .args .state) (c .before .if1 .taken) (c .nothing .ensures)
 
   sub-end : lts.Need-sub-end (calls t) (statements-at t) statements.Post
   sub-end c = search needs
@@ -32,16 +37,16 @@ module _ (t : ℕ) where
   slice-relend-prefix-one-statement c = search needs
 
   slice-aggregate-one-statement : lts.Need-slice-aggregate-one-statement (calls t) (statements-at t) statements.Post
-  slice-aggregate-one-statement c = search needs
+  slice-aggregate-one-statement c = counted-is _ _ _ _ _ _ (length-mid 0 (length (c .before .before .before .args .out .now) - ((c .before .before .before .args .n) - 1) * 18) (c .before .before .before .args .out .now) (omega arith))
 
   one-statement-requires : lts.Need-one-statement-requires (calls t) (statements-at t) statements.Post
-  one-statement-requires c κs = search needs
+  one-statement-requires c κs = (omega arith, (room-front 18 (length (c .before .before .before .args .out .now) - ((c .before .before .before .args .n) - 1) * 18) (c .before .before .before .args .out .now) (omega arith) (omega arith), omega arith))
 
   sub-statements : lts.Need-sub-statements (calls t) (statements-at t) statements.Post
-  sub-statements c = search needs
+  sub-statements c = omega (arith, room-left (18 * ((c .before .before .before .before .before .before .args .n) - 1)) (length (c .before .before .before .before .before .before .args .out .now) - ((c .before .before .before .before .before .before .args .n) - 1) * 18) _ (c .before .before .before .before .before .before .args .out .now) (omega arith) (omega arith) (c .before .before .one-statement .ensures) refl refl .0)
 
   part-statements-start : lts.Need-part-statements-start (calls t) (statements-at t) statements.Post
-  part-statements-start c = search needs
+  part-statements-start c = omega (arith, room-left (18 * ((c .before .before .before .before .before .before .args .n) - 1)) (length (c .before .before .before .before .before .before .args .out .now) - ((c .before .before .before .before .before .before .args .n) - 1) * 18) _ (c .before .before .before .before .before .before .args .out .now) (omega arith) (omega arith) (c .before .before .one-statement .ensures) refl refl .0)
 
   part-statements-end : lts.Need-part-statements-end (calls t) (statements-at t) statements.Post
   part-statements-end c = search needs
@@ -50,16 +55,16 @@ module _ (t : ℕ) where
   sub-statements-2 c = search needs
 
   statements-requires : lts.Need-statements-requires (calls t) (statements-at t) statements.Post
-  statements-requires c κs = search needs
+  statements-requires c κs = (omega arith, (room-left (18 * ((c .before .before .before .before .before .before .before .args .n) - 1)) (length (c .before .before .before .before .before .before .before .args .out .now) - ((c .before .before .before .before .before .before .before .args .n) - 1) * 18) _ (c .before .before .before .before .before .before .before .args .out .now) (omega arith) (omega arith) (c .before .before .before .one-statement .ensures) refl refl .1, (omega arith, omega arith)))
 
   joined-requires : lts.Need-joined-requires (calls t) (statements-at t) statements.Post
-  joined-requires c κs = search needs
+  joined-requires c κs = omega (arith, rest-room (length (c .before .before .before .before .before .before .before .before .before .before .args .out .now) - ((c .before .before .before .before .before .before .before .before .before .before .args .n) - 1) * 18) _ (c .before .before .before .before .before .before .before .before .before .before .args .out .now) (omega arith) (c .before .before .before .before .before .before .one-statement .ensures) refl refl (c .before .before .statements .ensures))
 
   same-length : lts.Need-same-length (calls t) (statements-at t) statements.Post
   same-length c = search needs
 
   returns-2 : lts.Need-returns-2 (calls t) (statements-at t) statements.Post
-  returns-2 c = search needs
+  returns-2 c = times-wrote (aStatement (c .before .before .before .before .before .before .before .before .before .before .before .args .below)) (c .before .before .before .before .before .before .before .before .before .before .before .args .out .now) (c .before .before .before .before .before .before .before .before .before .before .before .args .state) (c .before .before .before .before .before .before .before .before .before .before .before .args .n) _ (length (c .before .before .before .before .before .before .before .before .before .before .before .args .out .now) - ((c .before .before .before .before .before .before .before .before .before .before .before .args .n) - 1) * 18) (omega arith) refl (c .before .before .before .before .before .before .before .one-statement .ensures) refl refl (c .before .before .before .statements .ensures) refl (c .joined .ensures)
 
 pub met : {M : Type 1} (t : ℕ) → lts.Closed (calls t) (statements-at t) statements.Post M
 met t =

@@ -1,7 +1,13 @@
 -- The needs of `yielding`.
-use Prim.Native.Nat.{ℕ}
-use borrow.Author.Needs.{needs}
 use native.Mathlib.Omega.{arith}
+use Prim.Native.Nat.{_-_, ℕ}
+use Rattle.definition.specs.Tag.{tagExprStmt}
+use Rattle.load.proofs.Rows.{empty-wrote, field-wrote, yielding-high, yielding-low}
+use Rattle.load.specs.Draw.{times}
+use Rattle.load.specs.Load.{anExpression}
+use Rattle.load.specs.declared.Grown.{Grown}
+use borrow.Author.Needs.{needs}
+use mathlib.Core.Path.{ap, refl}
 use Rattle.load.proofs.+block+body+branch+branches+construct+counted+expression+expressions+function_row+if_row+infix_row+let_row+one_statement+operand_row+operation+prefix_row+signature_row+statements+yield_row+yielding.Proof.Setting.{yielding-at, expressions-below}
 use Rattle.load.proofs.yielding.Reads as yielding
 use Rattle.load.proofs.nothing.Reads as nothing-reads
@@ -20,13 +26,13 @@ module _ (t : ℕ) where
   nothing-requires c κs = search needs
 
   close-requires : lts.Need-close-requires (calls t) (yielding-at t) yielding.Post
-  close-requires c κs = search needs
+  close-requires c κs = omega (arith, ap (λ (z : Grown). z .len) (c .nothing .ensures))
 
   same-length : lts.Need-same-length (calls t) (yielding-at t) yielding.Post
   same-length c = search needs
 
   returns : lts.Need-returns (calls t) (yielding-at t) yielding.Post
-  returns c = search needs
+  returns c = yielding-low (c .before .before .before .before .before .before .before .args .below) _ (c .before .before .before .before .before .before .before .args .state) (c .before .before .before .before .before .if1 .taken) (empty-wrote (c .before .before .before .before .before .before .before .args .out .now) (c .before .before .before .before .before .before .before .args .state) (omega arith) (c .before .before .before .nothing .ensures) (c .before .before .close .ensures .1) (c .before .before .close .ensures .0))
 
   sub-expressions : lts.Need-sub-expressions (calls t) (yielding-at t) yielding.Post
   sub-expressions c = search needs
@@ -53,7 +59,7 @@ module _ (t : ℕ) where
   same-length-2 c = search needs
 
   returns-2 : lts.Need-returns-2 (calls t) (yielding-at t) yielding.Post
-  returns-2 c = search needs
+  returns-2 c = yielding-high (c .before .before .before .before .before .before .before .before .before .before .args .below) _ (c .before .before .before .before .before .before .before .before .before .before .args .state) (omega arith) (field-wrote tagExprStmt (times 1 (anExpression ((c .before .before .before .before .before .before .before .before .before .before .args .below) - 1))) (c .before .before .before .before .before .before .before .before .before .before .args .out .now) (c .before .before .before .before .before .before .before .before .before .before .args .state) (omega arith) (c .before .before .before .before .before .before .expressions .ensures) refl (c .before .before .close2 .ensures .1) (c .before .before .close2 .ensures .0))
 
 pub met : {M : Type 1} (t : ℕ) → lts.Closed (calls t) (yielding-at t) yielding.Post M
 met t =
