@@ -4,9 +4,9 @@ use Prim.Native.Nat.{_*_, _-_, ℕ}
 use Rattle.load.proofs.InRow.{no-row, rest-room, room-front, room-left, times-wrote}
 use Rattle.load.proofs.Laws.{length-mid}
 use Rattle.load.specs.Load.{anExpression}
-use borrow.Author.Needs.{counted-is, needs}
+use borrow.Author.Needs.{needs}
 use lib.ListN.{length}
-use mathlib.Core.Path.{refl}
+use mathlib.Core.Path.{refl, sym}
 use Rattle.load.proofs.+block+body+branch+branches+construct+counted+expression+expressions+function_row+if_row+infix_row+let_row+one_statement+operand_row+operation+prefix_row+signature_row+statements+yield_row+yielding.Proof.Setting.{expressions-at, expression-below, expressions-below}
 use Rattle.load.proofs.expressions.Reads as expressions
 use Rattle.load.proofs.nothing.Reads as nothing-reads
@@ -37,7 +37,7 @@ module _ (t : ℕ) where
   slice-relend-prefix-expression c = search needs
 
   slice-aggregate-expression : lts.Need-slice-aggregate-expression (calls t) (expressions-at t) expressions.Post
-  slice-aggregate-expression c = counted-is _ _ _ _ _ _ (length-mid 0 (length (c .before .before .before .args .out .now) - ((c .before .before .before .args .n) - 1) * 11) (c .before .before .before .args .out .now) (omega arith))
+  slice-aggregate-expression c = sym (length-mid 0 (length (c .before .before .before .args .out .now) - ((c .before .before .before .args .n) - 1) * 11) (c .before .before .before .args .out .now) (omega arith))
 
   expression-requires : lts.Need-expression-requires (calls t) (expressions-at t) expressions.Post
   expression-requires c κs = (omega arith, (room-front 11 (length (c .before .before .before .args .out .now) - ((c .before .before .before .args .n) - 1) * 11) (c .before .before .before .args .out .now) (omega arith) (omega arith), omega arith))

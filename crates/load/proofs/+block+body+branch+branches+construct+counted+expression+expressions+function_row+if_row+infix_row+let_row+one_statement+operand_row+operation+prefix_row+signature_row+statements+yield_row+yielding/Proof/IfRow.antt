@@ -6,7 +6,7 @@ use Rattle.load.proofs.Laws.{length-mid}
 use Rattle.load.proofs.Parts.{needs-times}
 use Rattle.load.specs.Draw.{times}
 use Rattle.load.specs.Load.{aBranch, anExpression}
-use borrow.Author.Needs.{counted-is, needs}
+use borrow.Author.Needs.{needs}
 use lib.ListN.{length}
 use mathlib.Core.Path.{ap, refl, sym}
 use Rattle.load.proofs.+block+body+branch+branches+construct+counted+expression+expressions+function_row+if_row+infix_row+let_row+one_statement+operand_row+operation+prefix_row+signature_row+statements+yield_row+yielding.Proof.Setting.{if-row-at, expression-below, branches-below}
@@ -30,7 +30,7 @@ module _ (t : ℕ) where
   slice-relend-prefix-expression c = search needs
 
   slice-aggregate-expression : lts.Need-slice-aggregate-expression (calls t) (if-row-at t) if-row.Post
-  slice-aggregate-expression c = counted-is _ _ _ _ _ _ (length-mid 0 (length (c .before .before .args .out .now) - (c .before .before .args .n) * 39) (c .before .before .args .out .now) (omega arith))
+  slice-aggregate-expression c = sym (length-mid 0 (length (c .before .before .args .out .now) - (c .before .before .args .n) * 39) (c .before .before .args .out .now) (omega arith))
 
   expression-requires : lts.Need-expression-requires (calls t) (if-row-at t) if-row.Post
   expression-requires c κs = (omega arith, (room-front 11 (length (c .before .before .args .out .now) - (c .before .before .args .n) * 39) (c .before .before .args .out .now) (omega arith) (omega arith), omega arith))

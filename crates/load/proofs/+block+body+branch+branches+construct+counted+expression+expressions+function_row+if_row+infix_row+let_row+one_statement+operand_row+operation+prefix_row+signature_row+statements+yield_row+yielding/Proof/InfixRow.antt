@@ -4,10 +4,10 @@ use Prim.Native.Nat.{_-_, ℕ}
 use Rattle.load.proofs.InRow.{first-wrote, rest-room, room-front, room-left}
 use Rattle.load.proofs.Laws.{length-mid}
 use Rattle.load.specs.Load.{anExpression, infixOperator}
-use borrow.Author.Needs.{counted-is, needs}
+use borrow.Author.Needs.{needs}
 use lib.ListN.{length}
 use mathlib.Core.List.{[], _∷_}
-use mathlib.Core.Path.{refl}
+use mathlib.Core.Path.{refl, sym}
 use Rattle.load.proofs.+block+body+branch+branches+construct+counted+expression+expressions+function_row+if_row+infix_row+let_row+one_statement+operand_row+operation+prefix_row+signature_row+statements+yield_row+yielding.Proof.Setting.{infix-row-at, expression-below, operand-row-below}
 use Rattle.load.proofs.infix_row.Reads as infix-row
 use Rattle.load.proofs.expression.Reads as expression
@@ -26,7 +26,7 @@ module _ (t : ℕ) where
   slice-relend-prefix-expression c = search needs
 
   slice-aggregate-expression : lts.Need-slice-aggregate-expression (calls t) (infix-row-at t) infix-row.Post
-  slice-aggregate-expression c = counted-is _ _ _ _ _ _ (length-mid 0 (length (c .before .before .args .out .now) - 15) (c .before .before .args .out .now) (omega arith))
+  slice-aggregate-expression c = sym (length-mid 0 (length (c .before .before .args .out .now) - 15) (c .before .before .args .out .now) (omega arith))
 
   expression-requires : lts.Need-expression-requires (calls t) (infix-row-at t) infix-row.Post
   expression-requires c κs = (omega arith, (room-front 11 (length (c .before .before .args .out .now) - 15) (c .before .before .args .out .now) (omega arith) (omega arith), omega arith))

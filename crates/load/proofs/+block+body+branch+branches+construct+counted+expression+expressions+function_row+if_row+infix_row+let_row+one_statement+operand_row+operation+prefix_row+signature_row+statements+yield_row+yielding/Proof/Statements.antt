@@ -4,9 +4,9 @@ use Prim.Native.Nat.{_*_, _-_, ℕ}
 use Rattle.load.proofs.InRow.{no-row, rest-room, room-front, room-left, times-wrote}
 use Rattle.load.proofs.Laws.{length-mid}
 use Rattle.load.specs.Load.{aStatement}
-use borrow.Author.Needs.{counted-is, needs}
+use borrow.Author.Needs.{needs}
 use lib.ListN.{length}
-use mathlib.Core.Path.{refl}
+use mathlib.Core.Path.{refl, sym}
 use Rattle.load.proofs.+block+body+branch+branches+construct+counted+expression+expressions+function_row+if_row+infix_row+let_row+one_statement+operand_row+operation+prefix_row+signature_row+statements+yield_row+yielding.Proof.Setting.{statements-at, one-statement-below, statements-below}
 use Rattle.load.proofs.statements.Reads as statements
 use Rattle.load.proofs.nothing.Reads as nothing-reads
@@ -37,7 +37,7 @@ module _ (t : ℕ) where
   slice-relend-prefix-one-statement c = search needs
 
   slice-aggregate-one-statement : lts.Need-slice-aggregate-one-statement (calls t) (statements-at t) statements.Post
-  slice-aggregate-one-statement c = counted-is _ _ _ _ _ _ (length-mid 0 (length (c .before .before .before .args .out .now) - ((c .before .before .before .args .n) - 1) * 18) (c .before .before .before .args .out .now) (omega arith))
+  slice-aggregate-one-statement c = sym (length-mid 0 (length (c .before .before .before .args .out .now) - ((c .before .before .before .args .n) - 1) * 18) (c .before .before .before .args .out .now) (omega arith))
 
   one-statement-requires : lts.Need-one-statement-requires (calls t) (statements-at t) statements.Post
   one-statement-requires c κs = (omega arith, (room-front 18 (length (c .before .before .before .args .out .now) - ((c .before .before .before .args .n) - 1) * 18) (c .before .before .before .args .out .now) (omega arith) (omega arith), omega arith))

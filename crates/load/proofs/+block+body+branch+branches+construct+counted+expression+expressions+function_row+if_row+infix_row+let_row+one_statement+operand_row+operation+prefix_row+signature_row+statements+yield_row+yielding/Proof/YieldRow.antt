@@ -5,10 +5,10 @@ use Rattle.load.proofs.InRow.{first-wrote, last-wrote, rest-room, room-
 use Rattle.load.proofs.Laws.{length-mid}
 use Rattle.load.proofs.Rows.{no-statement, one-before, row-as}
 use Rattle.load.specs.Load.{aStatement, aYielding}
-use borrow.Author.Needs.{counted-is, needs}
+use borrow.Author.Needs.{needs}
 use lib.ListN.{length}
 use mathlib.Core.List.{[], _∷_}
-use mathlib.Core.Path.{refl}
+use mathlib.Core.Path.{refl, sym}
 use Rattle.load.proofs.+block+body+branch+branches+construct+counted+expression+expressions+function_row+if_row+infix_row+let_row+one_statement+operand_row+operation+prefix_row+signature_row+statements+yield_row+yielding.Proof.Setting.{yield-row-at, yielding-below, one-statement-below}
 use Rattle.load.proofs.yield_row.Reads as yield-row
 use Rattle.load.proofs.yielding.Reads as yielding
@@ -36,7 +36,7 @@ module _ (t : ℕ) where
   slice-relend-prefix-one-statement c = search needs
 
   slice-aggregate-one-statement : lts.Need-slice-aggregate-one-statement (calls t) (yield-row-at t) yield-row.Post
-  slice-aggregate-one-statement c = counted-is _ _ _ _ _ _ (length-mid 0 (length (c .before .before .before .args .out .now) - 18) (c .before .before .before .args .out .now) (omega arith))
+  slice-aggregate-one-statement c = sym (length-mid 0 (length (c .before .before .before .args .out .now) - 18) (c .before .before .before .args .out .now) (omega arith))
 
   one-statement-requires : lts.Need-one-statement-requires (calls t) (yield-row-at t) yield-row.Post
   one-statement-requires c κs = (omega arith, (room-front 18 (length (c .before .before .before .args .out .now) - 18) (c .before .before .before .args .out .now) (omega arith) (omega arith), omega arith))
