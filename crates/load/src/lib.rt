@@ -21,7 +21,7 @@ ghost use Rattle.load.specs.Load.{anExpression, aStatement, aBlock, aBra
 ghost use Rattle.load.specs.Writing.{Wrote, WroteAll};
 
 // The bytes that a tree may take, and the least that its parts need.
-const TREE_MOST: usize = 2048;
+pub const TREE_MOST: usize = 2048;
 
 const EXPRESSION_NEED: usize = 11;
 
