@@ -2,16 +2,18 @@
 use Prim.Native.Nat.{ℕ, _+_, _*_, _≤_, _<_}
 use native.Mathlib.Omega.{arith}
 use mathlib.Core.Path.{_≡_, refl, sym, ap, subst}
+use mathlib.Core.Bool.{Bool, true, false}
 use mathlib.Core.List.{List}
-use lib.Dec.{T, ltb}
-use lib.ListN.{take}
-use Rattle.definition.specs.Basic.{Bytes}
+use lib.Dec.{T, ltb, leb}
+use lib.ListN.{length, take}
+use Rattle.definition.specs.Basic.{Bytes, pick}
 use Rattle.definition.specs.Limit.{sessionSize, imageLimit}
-use Rattle.definition.specs.Number.{callNumbers, makeNumbers, listNumbers}
+use Rattle.definition.specs.Number.{callNumbers, makeNumbers, listNumbers, refusal, outputShort}
 use Rattle.definition.specs.Bytecode.{Image}
 use Rattle.definition.specs.Decode.{Decoded, decoded, malformed, readImage}
 use Rattle.definition.specs.Call.{Lent, call, made}
 use Rattle.definition.specs.Listing.{listAnswer}
+use Rattle.definition.specs.Output.{outputAnswer}
 use Rattle.definition.specs.Valid.{AreBytes}
 use Rattle.definition.specs.declared.Refusal.{Refusal}
 use Rattle.definition.specs.declared.Answer.{Answer}
@@ -21,6 +23,8 @@ use Rattle.definition.proofs.Places.{Within, made-within, call-within-limit}
 use Rattle.definition.proofs.ImagePlaces.{image-place}
 use Rattle.definition.proofs.ListingLength.{list-within}
 use Rattle.bytecode.specs.Checked.{imageAnswer}
+use Rattle.load.specs.Load.{treeOf}
+use Rattle.load.proofs.Theorems.{tree-short}
 use Rattle.capi.specs.Packed.{halfBound, packed, Fits, Packs, checkAnswer}
 
 -- the halves of a number whose halves fit
@@ -65,3 +69,10 @@ image-fits b = go (readImage b) (image-place b)
 
 pub list-fits : (b : Bytes) → AreBytes b → (room : ℕ) → Fits (listAnswer (readImage b) room)
 list-fits b a room = within-fits listNumbers tt (omega arith) (omega arith) (list-within b a room)
+
+pub load-fits : (seed room : ℕ) → Fits (outputAnswer (treeOf seed) room)
+load-fits seed room = go (leb (length (treeOf seed)) room)
+  where
+    go : (b : Bool) → Fits (pick b (Length (length (treeOf seed))) (Refused (refusal outputShort 0)))
+    go true = record { number = omega arith; value = omega (arith, tree-short seed) }
+    go false = record { number = omega arith; value = omega arith }

@@ -6,8 +6,10 @@ use Rattle.definition.specs.Basic.{Bytes}
 use Rattle.definition.specs.Decode.{readImage}
 use Rattle.definition.specs.Call.{Lent, call, made}
 use Rattle.definition.specs.Listing.{listAnswer, listInto}
+use Rattle.definition.specs.Output.{outputAnswer, outputAfter}
 use Rattle.definition.specs.declared.Answer.{Answer}
 use Rattle.definition.specs.declared.Answer.the-variants.{Length, Refused}
+use Rattle.load.specs.Load.{treeOf}
 use Rattle.bytecode.specs.Checked.{imageAnswer}
 use Rattle.bytecode.specs.declared.ImageCheck.{ImageCheck}
 use Rattle.bytecode.specs.declared.ImageCheck.the-variants.{Sound, Refused as Bad}
@@ -64,3 +66,8 @@ pub record ChecksPacked (image : Bytes) (r : ℕ) : Type 0 where
 pub record ListsPacked (image o : Bytes) (r : ℕ) (o′ : Bytes) : Type 0 where
   pub answer : Packs (listAnswer (readImage image) (length o)) r
   pub output : o′ ≡ listInto (readImage image) o
+
+-- the tree of a seed: answer and output are the list's
+pub record LoadsPacked (seed : ℕ) (o : Bytes) (r : ℕ) (o′ : Bytes) : Type 0 where
+  pub answer : Packs (outputAnswer (treeOf seed) (length o)) r
+  pub output : o′ ≡ outputAfter (treeOf seed) o

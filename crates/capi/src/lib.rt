@@ -3,7 +3,7 @@ use bytecode::ImageCheck;
 use definition::Answer;
 ghost use mathlib.Core.Path.{_≡_};
 ghost use Rattle.compiler.specs.Stage.{lentOf};
-ghost use Rattle.capi.specs.Packed.{Fits, Packs, checkAnswer, MakesPacked, CompilesPacked, ChecksPacked, ListsPacked};
+ghost use Rattle.capi.specs.Packed.{Fits, Packs, checkAnswer, MakesPacked, CompilesPacked, ChecksPacked, ListsPacked, LoadsPacked};
 
 // What the numbers of a half are below: 2 to the 32nd.
 const HALF_BOUND: u64 = 4294967296;
@@ -68,5 +68,14 @@ pub extern "C" fn monkey_list_image(image: &[u8], output: &mut [u8]) -> u64
     ensures { λ r. ⌜ ListsPacked (now (image .entry)) (now (output .entry)) r (now (output .exit)) ⌝ }
 {
     let answer = listing::list_image(image, output);
+    pack(answer)
+}
+
+// Writes the tree of a seed to the output: its length; or 15 where the output is too short, and the output stays.
+#[no_mangle]
+pub extern "C" fn monkey_load_tree(seed: u32, output: &mut [u8]) -> u64
+    ensures { λ r. ⌜ LoadsPacked seed (now (output .entry)) r (now (output .exit)) ⌝ }
+{
+    let answer = load::make_tree(seed, output);
     pack(answer)
 }
