@@ -1,5 +1,4 @@
 -- The needs of `block`.
-use native.Mathlib.Omega.{arith}
 use Prim.Native.Nat.{ℕ}
 use Rattle.definition.specs.Tag.{tagBlock}
 use Rattle.load.proofs.Rows.{draw-wrote, field-wrote}
@@ -8,6 +7,7 @@ use Rattle.load.specs.Load.{aStatement}
 use borrow.Author.Needs.{needs}
 use lib.ListN.{length}
 use mathlib.Core.Path.{refl}
+use native.Mathlib.Omega.{arith}
 use Rattle.load.proofs.+block+body+branch+branches+construct+counted+expression+expressions+function_row+if_row+infix_row+let_row+one_statement+operand_row+operation+prefix_row+signature_row+statements+yield_row+yielding.Proof.Setting.{block-at, statements-below}
 use Rattle.load.proofs.block.Reads as block
 use Rattle.load.proofs.draw.step.Reads as step-reads
@@ -20,50 +20,32 @@ abbrev calls : ℕ → lts.Claims
 calls t = (step-reads.Asked, step-reads.Learnt, choice-reads.Asked, choice-reads.Learnt, statements-below t, statements.Post, close-reads.Asked, close-reads.Learnt)
 
 module _ (t : ℕ) where
-  step-requires : lts.Need-step-requires (calls t) (block-at t) block.Post
-  step-requires c κs = search needs
-
-  choice-requires : lts.Need-choice-requires (calls t) (block-at t) block.Post
-  choice-requires c κs = search needs
-
-  cast-n : lts.Need-cast-n (calls t) (block-at t) block.Post
-  cast-n c = search needs
-
-  sub-statements : lts.Need-sub-statements (calls t) (block-at t) block.Post
-  sub-statements c = search needs
-
-  part-statements-start : lts.Need-part-statements-start (calls t) (block-at t) block.Post
-  part-statements-start c = search needs
-
-  part-statements-end : lts.Need-part-statements-end (calls t) (block-at t) block.Post
-  part-statements-end c = search needs
-
-  statements-requires : lts.Need-statements-requires (calls t) (block-at t) block.Post
-  statements-requires c κs = search needs
-
-  cast-close : lts.Need-cast-close (calls t) (block-at t) block.Post
-  cast-close c = search needs
-
-  close-requires : lts.Need-close-requires (calls t) (block-at t) block.Post
-  close-requires c κs = search needs
-
-  same-length : lts.Need-same-length (calls t) (block-at t) block.Post
-  same-length c = search needs
-
   returns : lts.Need-returns (calls t) (block-at t) block.Post
-  returns c = draw-wrote (λ k. fieldOf tagBlock (times k (aStatement (c .before .before .before .before .before .before .before .before .before .before .before .args .below))) (length (c .before .before .before .before .before .before .before .before .before .before .before .args .out .now))) 3 (c .before .before .before .before .before .before .before .before .before .before .before .args .state) (c .before .before .before .before .before .before .before .before .before .step .ensures) (c .before .before .before .before .before .before .before .before .choice .ensures .0) (field-wrote tagBlock (times (c .before .before .before .before .before .before .before .before .choice .result) (aStatement (c .before .before .before .before .before .before .before .before .before .before .before .args .below))) (c .before .before .before .before .before .before .before .before .before .before .before .args .out .now) (c .before .before .before .before .before .before .before .before .before .step .result) (omega arith) (c .before .before .before .before .before .before .statements .ensures) refl (c .before .before .close .ensures .1) (c .before .before .close .ensures .0))
+  returns c =
+      let args = c .before .before .before .before .before .before .before .before .before .before .before .args in
+      let out = args .out .now in
+      let below = args .below in
+      let state = args .state in
+      let given = c .before .before .before .before .before .before .before .before .before .before .before .pre in
+      let step = c .before .before .before .before .before .before .before .before .before .step in
+      let choice = c .before .before .before .before .before .before .before .before .choice in
+      let statements = c .before .before .before .before .before .before .statements in
+      let close = c .before .before .close in
+      let p = aStatement below in
+      draw-wrote (λ k. fieldOf tagBlock (times k p) (length out)) 3 state (step .ensures) (choice .ensures .0)
+      (field-wrote tagBlock (times (choice .result) p) out (step .result) (omega (arith, given .1 .0)) (statements .ensures) refl (close .ensures .1) (close .ensures .0))
 
 pub met : {M : Type 1} (t : ℕ) → lts.Closed (calls t) (block-at t) block.Post M
 met t =
     lts.spec (calls t) (block-at t) block.Post
-    (step-requires t)
-    (choice-requires t)
-    (cast-n t)
-    (sub-statements t)
-    (part-statements-start t)
-    (part-statements-end t)
-    (statements-requires t)
-    (cast-close t)
-    (close-requires t)
-    (same-length t)
+    (λ c κs. search needs)
+    (λ c κs. search needs)
+    (λ c. search needs)
+    (λ c. search needs)
+    (λ c. search needs)
+    (λ c. search needs)
+    (λ c κs. search needs)
+    (λ c. search needs)
+    (λ c κs. search needs)
+    (λ c. search needs)
     (returns t)

@@ -1,5 +1,4 @@
 -- The needs of `expressions`.
-use native.Mathlib.Omega.{arith}
 use Prim.Native.Nat.{_*_, _-_, ℕ}
 use Rattle.load.proofs.InRow.{no-row, rest-room, room-front, room-left, times-wrote}
 use Rattle.load.proofs.Laws.{length-mid}
@@ -7,6 +6,7 @@ use Rattle.load.specs.Load.{anExpression}
 use borrow.Author.Needs.{needs}
 use lib.ListN.{length}
 use mathlib.Core.Path.{refl, sym}
+use native.Mathlib.Omega.{arith}
 use Rattle.load.proofs.+block+body+branch+branches+construct+counted+expression+expressions+function_row+if_row+infix_row+let_row+one_statement+operand_row+operation+prefix_row+signature_row+statements+yield_row+yielding.Proof.Setting.{expressions-at, expression-below, expressions-below}
 use Rattle.load.proofs.expressions.Reads as expressions
 use Rattle.load.proofs.nothing.Reads as nothing-reads
@@ -18,70 +18,99 @@ abbrev calls : ℕ → lts.Claims
 calls t = (nothing-reads.Asked, nothing-reads.Learnt, expression-below t, expression.Post, expressions-below t, expressions.Post, joined-reads.Asked, joined-reads.Learnt)
 
 module _ (t : ℕ) where
-  nothing-requires : lts.Need-nothing-requires (calls t) (expressions-at t) expressions.Post
-  nothing-requires c κs = search needs
-
   returns : lts.Need-returns (calls t) (expressions-at t) expressions.Post
-  returns c = no-row (anExpression (c .before .before .before .args .below)) (c .before .before .before .args .n) _ (c .before .before .before .args .state) (c .before .if1 .taken) (c .nothing .ensures)
-
-  sub-end : lts.Need-sub-end (calls t) (expressions-at t) expressions.Post
-  sub-end c = search needs
-
-  mul-end : lts.Need-mul-end (calls t) (expressions-at t) expressions.Post
-  mul-end c = search needs
-
-  sub-end-2 : lts.Need-sub-end-2 (calls t) (expressions-at t) expressions.Post
-  sub-end-2 c = search needs
-
-  slice-relend-prefix-expression : lts.Need-slice-relend-prefix-expression (calls t) (expressions-at t) expressions.Post
-  slice-relend-prefix-expression c = search needs
+  returns c =
+      let args = c .before .before .before .args in
+      let below = args .below in
+      let n = args .n in
+      let state = args .state in
+      let if1 = c .before .if1 in
+      let nothing = c .nothing in
+      no-row (anExpression below) n _ state (if1 .taken) (nothing .ensures)
 
   slice-aggregate-expression : lts.Need-slice-aggregate-expression (calls t) (expressions-at t) expressions.Post
-  slice-aggregate-expression c = sym (length-mid 0 (length (c .before .before .before .args .out .now) - ((c .before .before .before .args .n) - 1) * 11) (c .before .before .before .args .out .now) (omega arith))
+  slice-aggregate-expression c =
+      let args = c .before .before .before .args in
+      let out = args .out .now in
+      let n = args .n in
+      let end = length out - (n - 1) * 11 in
+      sym (length-mid 0 end out (omega arith))
 
   expression-requires : lts.Need-expression-requires (calls t) (expressions-at t) expressions.Post
-  expression-requires c κs = (omega arith, (room-front 11 (length (c .before .before .before .args .out .now) - ((c .before .before .before .args .n) - 1) * 11) (c .before .before .before .args .out .now) (omega arith) (omega arith), omega arith))
+  expression-requires c κs =
+      let args = c .before .before .before .args in
+      let out = args .out .now in
+      let n = args .n in
+      let end = length out - (n - 1) * 11 in
+      (omega arith, (room-front 11 end out (omega arith) (omega arith), omega arith))
 
   sub-expressions : lts.Need-sub-expressions (calls t) (expressions-at t) expressions.Post
-  sub-expressions c = omega (arith, room-left (11 * ((c .before .before .before .before .before .before .args .n) - 1)) (length (c .before .before .before .before .before .before .args .out .now) - ((c .before .before .before .before .before .before .args .n) - 1) * 11) _ (c .before .before .before .before .before .before .args .out .now) (omega arith) (omega arith) (c .before .before .expression .ensures) refl refl .0)
+  sub-expressions c =
+      let args = c .before .before .before .before .before .before .args in
+      let out = args .out .now in
+      let n = args .n in
+      let expression = c .before .before .expression in
+      let end = length out - (n - 1) * 11 in
+      omega (arith, room-left (11 * (n - 1)) end _ out (omega arith) (omega arith) (expression .ensures) refl refl .0)
 
   part-expressions-start : lts.Need-part-expressions-start (calls t) (expressions-at t) expressions.Post
-  part-expressions-start c = omega (arith, room-left (11 * ((c .before .before .before .before .before .before .args .n) - 1)) (length (c .before .before .before .before .before .before .args .out .now) - ((c .before .before .before .before .before .before .args .n) - 1) * 11) _ (c .before .before .before .before .before .before .args .out .now) (omega arith) (omega arith) (c .before .before .expression .ensures) refl refl .0)
-
-  part-expressions-end : lts.Need-part-expressions-end (calls t) (expressions-at t) expressions.Post
-  part-expressions-end c = search needs
-
-  sub-expressions-2 : lts.Need-sub-expressions-2 (calls t) (expressions-at t) expressions.Post
-  sub-expressions-2 c = search needs
+  part-expressions-start c =
+      let args = c .before .before .before .before .before .before .args in
+      let out = args .out .now in
+      let n = args .n in
+      let expression = c .before .before .expression in
+      let end = length out - (n - 1) * 11 in
+      omega (arith, room-left (11 * (n - 1)) end _ out (omega arith) (omega arith) (expression .ensures) refl refl .0)
 
   expressions-requires : lts.Need-expressions-requires (calls t) (expressions-at t) expressions.Post
-  expressions-requires c κs = (omega arith, (room-left (11 * ((c .before .before .before .before .before .before .before .args .n) - 1)) (length (c .before .before .before .before .before .before .before .args .out .now) - ((c .before .before .before .before .before .before .before .args .n) - 1) * 11) _ (c .before .before .before .before .before .before .before .args .out .now) (omega arith) (omega arith) (c .before .before .before .expression .ensures) refl refl .1, (omega arith, omega arith)))
+  expressions-requires c κs =
+      let args = c .before .before .before .before .before .before .before .args in
+      let out = args .out .now in
+      let n = args .n in
+      let expression = c .before .before .before .expression in
+      let end = length out - (n - 1) * 11 in
+      (omega arith, (room-left (11 * (n - 1)) end _ out (omega arith) (omega arith) (expression .ensures) refl refl .1, (omega arith, omega arith)))
 
   joined-requires : lts.Need-joined-requires (calls t) (expressions-at t) expressions.Post
-  joined-requires c κs = omega (arith, rest-room (length (c .before .before .before .before .before .before .before .before .before .before .args .out .now) - ((c .before .before .before .before .before .before .before .before .before .before .args .n) - 1) * 11) _ (c .before .before .before .before .before .before .before .before .before .before .args .out .now) (omega arith) (c .before .before .before .before .before .before .expression .ensures) refl refl (c .before .before .expressions .ensures))
-
-  same-length : lts.Need-same-length (calls t) (expressions-at t) expressions.Post
-  same-length c = search needs
+  joined-requires c κs =
+      let args = c .before .before .before .before .before .before .before .before .before .before .args in
+      let out = args .out .now in
+      let n = args .n in
+      let expression = c .before .before .before .before .before .before .expression in
+      let expressions = c .before .before .expressions in
+      let end = length out - (n - 1) * 11 in
+      omega (arith, rest-room end _ out (omega arith) (expression .ensures) refl refl (expressions .ensures))
 
   returns-2 : lts.Need-returns-2 (calls t) (expressions-at t) expressions.Post
-  returns-2 c = times-wrote (anExpression (c .before .before .before .before .before .before .before .before .before .before .before .args .below)) (c .before .before .before .before .before .before .before .before .before .before .before .args .out .now) (c .before .before .before .before .before .before .before .before .before .before .before .args .state) (c .before .before .before .before .before .before .before .before .before .before .before .args .n) _ (length (c .before .before .before .before .before .before .before .before .before .before .before .args .out .now) - ((c .before .before .before .before .before .before .before .before .before .before .before .args .n) - 1) * 11) (omega arith) refl (c .before .before .before .before .before .before .before .expression .ensures) refl refl (c .before .before .before .expressions .ensures) refl (c .joined .ensures)
+  returns-2 c =
+      let args = c .before .before .before .before .before .before .before .before .before .before .before .args in
+      let out = args .out .now in
+      let below = args .below in
+      let n = args .n in
+      let state = args .state in
+      let if1 = c .before .before .before .before .before .before .before .before .before .if1 in
+      let expression = c .before .before .before .before .before .before .before .expression in
+      let expressions = c .before .before .before .expressions in
+      let joined = c .joined in
+      let end = length out - (n - 1) * 11 in
+      times-wrote (anExpression below) out state n _ end (omega (arith, if1 .left)) refl (expression .ensures) refl refl (expressions .ensures) refl (joined .ensures)
 
 pub met : {M : Type 1} (t : ℕ) → lts.Closed (calls t) (expressions-at t) expressions.Post M
 met t =
     lts.spec (calls t) (expressions-at t) expressions.Post
-    (nothing-requires t)
+    (λ c κs. search needs)
     (returns t)
-    (sub-end t)
-    (mul-end t)
-    (sub-end-2 t)
-    (slice-relend-prefix-expression t)
+    (λ c. search needs)
+    (λ c. search needs)
+    (λ c. search needs)
+    (λ c. search needs)
     (slice-aggregate-expression t)
     (expression-requires t)
     (sub-expressions t)
     (part-expressions-start t)
-    (part-expressions-end t)
-    (sub-expressions-2 t)
+    (λ c. search needs)
+    (λ c. search needs)
     (expressions-requires t)
     (joined-requires t)
-    (same-length t)
+    (λ c. search needs)
     (returns-2 t)

@@ -1,5 +1,4 @@
 -- The needs of `one_statement`.
-use native.Mathlib.Omega.{arith}
 use Prim.Native.Nat.{_-_, ℕ}
 use Rattle.definition.specs.Tag.{tagExprStmt, tagLet, tagReturn}
 use Rattle.load.proofs.Rows.{block-room, empty-wrote, field-wrote, statement-choices-least, statement-choices-most, statement-high, statement-low, statement-row-at}
@@ -10,6 +9,7 @@ use borrow.Author.Needs.{needs}
 use lib.ListN.{length}
 use mathlib.Core.List.{[], _∷_}
 use mathlib.Core.Path.{ap, refl}
+use native.Mathlib.Omega.{arith}
 use Rattle.load.proofs.+block+body+branch+branches+construct+counted+expression+expressions+function_row+if_row+infix_row+let_row+one_statement+operand_row+operation+prefix_row+signature_row+statements+yield_row+yielding.Proof.Setting.{one-statement-at, expressions-below, let-row-below, block-below}
 use Rattle.load.proofs.one_statement.Reads as one-statement
 use Rattle.load.proofs.nothing.Reads as nothing-reads
@@ -26,162 +26,155 @@ abbrev calls : ℕ → lts.Claims
 calls t = (nothing-reads.Asked, nothing-reads.Learnt, close-reads.Asked, close-reads.Learnt, step-reads.Asked, step-reads.Learnt, statement-choices-reads.Asked, statement-choices-reads.Learnt, choice-reads.Asked, choice-reads.Learnt, expressions-below t, expressions.Post, let-row-below t, let-row.Post, block-below t, block.Post)
 
 module _ (t : ℕ) where
-  cast-close : lts.Need-cast-close (calls t) (one-statement-at t) one-statement.Post
-  cast-close c = search needs
-
-  nothing-requires : lts.Need-nothing-requires (calls t) (one-statement-at t) one-statement.Post
-  nothing-requires c κs = search needs
-
   close-requires : lts.Need-close-requires (calls t) (one-statement-at t) one-statement.Post
-  close-requires c κs = omega (arith, ap (λ (z : Grown). z .len) (c .nothing .ensures))
-
-  same-length : lts.Need-same-length (calls t) (one-statement-at t) one-statement.Post
-  same-length c = search needs
+  close-requires c κs =
+      let nothing = c .nothing in
+      omega (arith, ap (λ (z : Grown). z .len) (nothing .ensures))
 
   returns : lts.Need-returns (calls t) (one-statement-at t) one-statement.Post
-  returns c = statement-low (c .before .before .before .before .before .before .before .args .below) _ (c .before .before .before .before .before .before .before .args .state) (c .before .before .before .before .before .if1 .taken) (empty-wrote (c .before .before .before .before .before .before .before .args .out .now) (c .before .before .before .before .before .before .before .args .state) (omega arith) (c .before .before .before .nothing .ensures) (c .before .before .close .ensures .1) (c .before .before .close .ensures .0))
-
-  step-requires : lts.Need-step-requires (calls t) (one-statement-at t) one-statement.Post
-  step-requires c κs = search needs
-
-  statement-choices-requires : lts.Need-statement-choices-requires (calls t) (one-statement-at t) one-statement.Post
-  statement-choices-requires c κs = search needs
+  returns c =
+      let args = c .before .before .before .before .before .before .before .args in
+      let out = args .out .now in
+      let below = args .below in
+      let state = args .state in
+      let given = c .before .before .before .before .before .before .before .pre in
+      let if1 = c .before .before .before .before .before .if1 in
+      let nothing = c .before .before .before .nothing in
+      let close = c .before .before .close in
+      statement-low below _ state (if1 .taken)
+      (empty-wrote out state (omega (arith, given .1 .0)) (nothing .ensures) (close .ensures .1) (close .ensures .0))
 
   choice-requires : lts.Need-choice-requires (calls t) (one-statement-at t) one-statement.Post
-  choice-requires c κs = omega (arith, c .statement-choices .ensures, statement-choices-least (c .before .before .before .before .args .below) (length (c .before .before .before .before .args .out .now)))
-
-  sub-expressions : lts.Need-sub-expressions (calls t) (one-statement-at t) one-statement.Post
-  sub-expressions c = search needs
-
-  part-expressions-start : lts.Need-part-expressions-start (calls t) (one-statement-at t) one-statement.Post
-  part-expressions-start c = search needs
-
-  part-expressions-end : lts.Need-part-expressions-end (calls t) (one-statement-at t) one-statement.Post
-  part-expressions-end c = search needs
-
-  sub-expressions-2 : lts.Need-sub-expressions-2 (calls t) (one-statement-at t) one-statement.Post
-  sub-expressions-2 c = search needs
-
-  expressions-requires : lts.Need-expressions-requires (calls t) (one-statement-at t) one-statement.Post
-  expressions-requires c κs = search needs
-
-  cast-close-2 : lts.Need-cast-close-2 (calls t) (one-statement-at t) one-statement.Post
-  cast-close-2 c = search needs
-
-  close-requires-2 : lts.Need-close-requires-2 (calls t) (one-statement-at t) one-statement.Post
-  close-requires-2 c κs = search needs
-
-  same-length-2 : lts.Need-same-length-2 (calls t) (one-statement-at t) one-statement.Post
-  same-length-2 c = search needs
+  choice-requires c κs =
+      let args = c .before .before .before .before .args in
+      let out = args .out .now in
+      let below = args .below in
+      let statement-choices = c .statement-choices in
+      omega (arith, statement-choices .ensures, statement-choices-least below (length out))
 
   returns-2 : lts.Need-returns-2 (calls t) (one-statement-at t) one-statement.Post
-  returns-2 c = statement-high (c .before .before .before .before .before .before .before .before .before .before .before .before .before .before .args .below) _ (c .before .before .before .before .before .before .before .before .before .before .before .before .before .before .args .state) (omega arith) (c .before .before .before .before .before .before .before .before .before .before .before .step .ensures) (c .before .before .before .before .before .before .before .before .before .before .statement-choices .ensures) (c .before .before .before .before .before .before .before .before .before .choice .ensures .0) (statement-row-at (c .before .before .before .before .before .before .before .before .before .choice .result) 0 (anExpression ((c .before .before .before .before .before .before .before .before .before .before .before .before .before .before .args .below) - 1)) (aStatement ((c .before .before .before .before .before .before .before .before .before .before .before .before .before .before .args .below) - 1)) (length (c .before .before .before .before .before .before .before .before .before .before .before .before .before .before .args .out .now)) (c .before .before .before .before .before .before .before .before .before .before .before .step .result) (c .before .before .before .before .before .before .before .before .if2 .taken) (field-wrote tagExprStmt (times 1 (anExpression ((c .before .before .before .before .before .before .before .before .before .before .before .before .before .before .args .below) - 1))) (c .before .before .before .before .before .before .before .before .before .before .before .before .before .before .args .out .now) (c .before .before .before .before .before .before .before .before .before .before .before .step .result) (omega arith) (c .before .before .before .before .before .before .expressions .ensures) refl (c .before .before .close2 .ensures .1) (c .before .before .close2 .ensures .0)))
-
-  sub-let-row : lts.Need-sub-let-row (calls t) (one-statement-at t) one-statement.Post
-  sub-let-row c = search needs
-
-  part-let-row-start : lts.Need-part-let-row-start (calls t) (one-statement-at t) one-statement.Post
-  part-let-row-start c = search needs
-
-  part-let-row-end : lts.Need-part-let-row-end (calls t) (one-statement-at t) one-statement.Post
-  part-let-row-end c = search needs
-
-  sub-let-row-2 : lts.Need-sub-let-row-2 (calls t) (one-statement-at t) one-statement.Post
-  sub-let-row-2 c = search needs
-
-  let-row-requires : lts.Need-let-row-requires (calls t) (one-statement-at t) one-statement.Post
-  let-row-requires c κs = search needs
-
-  cast-close-3 : lts.Need-cast-close-3 (calls t) (one-statement-at t) one-statement.Post
-  cast-close-3 c = search needs
-
-  close-requires-3 : lts.Need-close-requires-3 (calls t) (one-statement-at t) one-statement.Post
-  close-requires-3 c κs = search needs
-
-  same-length-3 : lts.Need-same-length-3 (calls t) (one-statement-at t) one-statement.Post
-  same-length-3 c = search needs
+  returns-2 c =
+      let args = c .before .before .before .before .before .before .before .before .before .before .before .before .before .before .args in
+      let out = args .out .now in
+      let below = args .below in
+      let state = args .state in
+      let given = c .before .before .before .before .before .before .before .before .before .before .before .before .before .before .pre in
+      let if1 = c .before .before .before .before .before .before .before .before .before .before .before .before .if1 in
+      let step = c .before .before .before .before .before .before .before .before .before .before .before .step in
+      let statement-choices = c .before .before .before .before .before .before .before .before .before .before .statement-choices in
+      let choice = c .before .before .before .before .before .before .before .before .before .choice in
+      let if2 = c .before .before .before .before .before .before .before .before .if2 in
+      let expressions = c .before .before .before .before .before .before .expressions in
+      let close2 = c .before .before .close2 in
+      let e = anExpression (below - 1) in
+      statement-high below _ state (omega (arith, if1 .left)) (step .ensures) (statement-choices .ensures) (choice .ensures .0)
+      (statement-row-at (choice .result) 0 e (aStatement (below - 1)) (length out) (step .result) (if2 .taken)
+      (field-wrote tagExprStmt (times 1 e) out (step .result) (omega (arith, given .1 .0)) (expressions .ensures) refl (close2 .ensures .1) (close2 .ensures .0)))
 
   returns-3 : lts.Need-returns-3 (calls t) (one-statement-at t) one-statement.Post
-  returns-3 c = statement-high (c .before .before .before .before .before .before .before .before .before .before .before .before .before .before .before .args .below) _ (c .before .before .before .before .before .before .before .before .before .before .before .before .before .before .before .args .state) (omega arith) (c .before .before .before .before .before .before .before .before .before .before .before .before .step .ensures) (c .before .before .before .before .before .before .before .before .before .before .before .statement-choices .ensures) (c .before .before .before .before .before .before .before .before .before .before .choice .ensures .0) (statement-row-at (c .before .before .before .before .before .before .before .before .before .before .choice .result) 1 (anExpression ((c .before .before .before .before .before .before .before .before .before .before .before .before .before .before .before .args .below) - 1)) (aStatement ((c .before .before .before .before .before .before .before .before .before .before .before .before .before .before .before .args .below) - 1)) (length (c .before .before .before .before .before .before .before .before .before .before .before .before .before .before .before .args .out .now)) (c .before .before .before .before .before .before .before .before .before .before .before .before .step .result) (c .before .before .before .before .before .before .before .before .if3 .taken) (field-wrote tagLet (letName ∷ (anExpression ((c .before .before .before .before .before .before .before .before .before .before .before .before .before .before .before .args .below) - 1)) ∷ []) (c .before .before .before .before .before .before .before .before .before .before .before .before .before .before .before .args .out .now) (c .before .before .before .before .before .before .before .before .before .before .before .before .step .result) (omega arith) (c .before .before .before .before .before .before .let-row .ensures) refl (c .before .before .close3 .ensures .1) (c .before .before .close3 .ensures .0)))
-
-  sub-expressions-3 : lts.Need-sub-expressions-3 (calls t) (one-statement-at t) one-statement.Post
-  sub-expressions-3 c = search needs
-
-  part-expressions-start-2 : lts.Need-part-expressions-start-2 (calls t) (one-statement-at t) one-statement.Post
-  part-expressions-start-2 c = search needs
-
-  part-expressions-end-2 : lts.Need-part-expressions-end-2 (calls t) (one-statement-at t) one-statement.Post
-  part-expressions-end-2 c = search needs
-
-  sub-expressions-4 : lts.Need-sub-expressions-4 (calls t) (one-statement-at t) one-statement.Post
-  sub-expressions-4 c = search needs
-
-  expressions-requires-2 : lts.Need-expressions-requires-2 (calls t) (one-statement-at t) one-statement.Post
-  expressions-requires-2 c κs = search needs
-
-  cast-close-4 : lts.Need-cast-close-4 (calls t) (one-statement-at t) one-statement.Post
-  cast-close-4 c = search needs
-
-  close-requires-4 : lts.Need-close-requires-4 (calls t) (one-statement-at t) one-statement.Post
-  close-requires-4 c κs = search needs
-
-  same-length-4 : lts.Need-same-length-4 (calls t) (one-statement-at t) one-statement.Post
-  same-length-4 c = search needs
+  returns-3 c =
+      let args = c .before .before .before .before .before .before .before .before .before .before .before .before .before .before .before .args in
+      let out = args .out .now in
+      let below = args .below in
+      let state = args .state in
+      let given = c .before .before .before .before .before .before .before .before .before .before .before .before .before .before .before .pre in
+      let if1 = c .before .before .before .before .before .before .before .before .before .before .before .before .before .if1 in
+      let step = c .before .before .before .before .before .before .before .before .before .before .before .before .step in
+      let statement-choices = c .before .before .before .before .before .before .before .before .before .before .before .statement-choices in
+      let choice = c .before .before .before .before .before .before .before .before .before .before .choice in
+      let if3 = c .before .before .before .before .before .before .before .before .if3 in
+      let let-row = c .before .before .before .before .before .before .let-row in
+      let close3 = c .before .before .close3 in
+      let e = anExpression (below - 1) in
+      statement-high below _ state (omega (arith, if1 .left)) (step .ensures) (statement-choices .ensures) (choice .ensures .0)
+      (statement-row-at (choice .result) 1 e (aStatement (below - 1)) (length out) (step .result) (if3 .taken)
+      (field-wrote tagLet (letName ∷ e ∷ []) out (step .result) (omega (arith, given .1 .0)) (let-row .ensures) refl (close3 .ensures .1) (close3 .ensures .0)))
 
   returns-4 : lts.Need-returns-4 (calls t) (one-statement-at t) one-statement.Post
-  returns-4 c = statement-high (c .before .before .before .before .before .before .before .before .before .before .before .before .before .before .before .before .args .below) _ (c .before .before .before .before .before .before .before .before .before .before .before .before .before .before .before .before .args .state) (omega arith) (c .before .before .before .before .before .before .before .before .before .before .before .before .before .step .ensures) (c .before .before .before .before .before .before .before .before .before .before .before .before .statement-choices .ensures) (c .before .before .before .before .before .before .before .before .before .before .before .choice .ensures .0) (statement-row-at (c .before .before .before .before .before .before .before .before .before .before .before .choice .result) 2 (anExpression ((c .before .before .before .before .before .before .before .before .before .before .before .before .before .before .before .before .args .below) - 1)) (aStatement ((c .before .before .before .before .before .before .before .before .before .before .before .before .before .before .before .before .args .below) - 1)) (length (c .before .before .before .before .before .before .before .before .before .before .before .before .before .before .before .before .args .out .now)) (c .before .before .before .before .before .before .before .before .before .before .before .before .before .step .result) (c .before .before .before .before .before .before .before .before .if4 .taken) (field-wrote tagReturn (times 1 (anExpression ((c .before .before .before .before .before .before .before .before .before .before .before .before .before .before .before .before .args .below) - 1))) (c .before .before .before .before .before .before .before .before .before .before .before .before .before .before .before .before .args .out .now) (c .before .before .before .before .before .before .before .before .before .before .before .before .before .step .result) (omega arith) (c .before .before .before .before .before .before .expressions2 .ensures) refl (c .before .before .close4 .ensures .1) (c .before .before .close4 .ensures .0)))
-
-  sub-block : lts.Need-sub-block (calls t) (one-statement-at t) one-statement.Post
-  sub-block c = search needs
+  returns-4 c =
+      let args = c .before .before .before .before .before .before .before .before .before .before .before .before .before .before .before .before .args in
+      let out = args .out .now in
+      let below = args .below in
+      let state = args .state in
+      let given = c .before .before .before .before .before .before .before .before .before .before .before .before .before .before .before .before .pre in
+      let if1 = c .before .before .before .before .before .before .before .before .before .before .before .before .before .before .if1 in
+      let step = c .before .before .before .before .before .before .before .before .before .before .before .before .before .step in
+      let statement-choices = c .before .before .before .before .before .before .before .before .before .before .before .before .statement-choices in
+      let choice = c .before .before .before .before .before .before .before .before .before .before .before .choice in
+      let if4 = c .before .before .before .before .before .before .before .before .if4 in
+      let expressions2 = c .before .before .before .before .before .before .expressions2 in
+      let close4 = c .before .before .close4 in
+      let e = anExpression (below - 1) in
+      statement-high below _ state (omega (arith, if1 .left)) (step .ensures) (statement-choices .ensures) (choice .ensures .0)
+      (statement-row-at (choice .result) 2 e (aStatement (below - 1)) (length out) (step .result) (if4 .taken)
+      (field-wrote tagReturn (times 1 e) out (step .result) (omega (arith, given .1 .0)) (expressions2 .ensures) refl (close4 .ensures .1) (close4 .ensures .0)))
 
   block-requires : lts.Need-block-requires (calls t) (one-statement-at t) one-statement.Post
-  block-requires c κs = (omega arith, (omega (arith, block-room (c .before .before .before .before .before .before .before .before .before .args .below) (length (c .before .before .before .before .before .before .before .before .before .args .out .now)) (c .before .before .before .before .choice .result) (omega (arith, c .before .before .before .before .before .statement-choices .ensures, c .before .before .before .before .choice .ensures .1)) (omega arith)), omega arith))
-
-  same-length-5 : lts.Need-same-length-5 (calls t) (one-statement-at t) one-statement.Post
-  same-length-5 c = search needs
+  block-requires c κs =
+      let args = c .before .before .before .before .before .before .before .before .before .args in
+      let out = args .out .now in
+      let below = args .below in
+      let choice = c .before .before .before .before .choice in
+      let statement-choices = c .before .before .before .before .before .statement-choices in
+      (omega arith, (omega (arith, block-room below (length out) (choice .result) (omega (arith, statement-choices .ensures, choice .ensures .1)) (omega arith)), omega arith))
 
   returns-5 : lts.Need-returns-5 (calls t) (one-statement-at t) one-statement.Post
-  returns-5 c = statement-high (c .before .before .before .before .before .before .before .before .before .before .before .before .args .below) _ (c .before .before .before .before .before .before .before .before .before .before .before .before .args .state) (omega arith) (c .before .before .before .before .before .before .before .before .before .step .ensures) (c .before .before .before .before .before .before .before .before .statement-choices .ensures) (c .before .before .before .before .before .before .before .choice .ensures .0) (statement-row-at (c .before .before .before .before .before .before .before .choice .result) 3 (anExpression ((c .before .before .before .before .before .before .before .before .before .before .before .before .args .below) - 1)) (aStatement ((c .before .before .before .before .before .before .before .before .before .before .before .before .args .below) - 1)) (length (c .before .before .before .before .before .before .before .before .before .before .before .before .args .out .now)) (c .before .before .before .before .before .before .before .before .before .step .result) (omega (arith, c .before .before .before .before .before .before .before .before .statement-choices .ensures, c .before .before .before .before .before .before .before .choice .ensures .1, statement-choices-most (c .before .before .before .before .before .before .before .before .before .before .before .before .args .below) (length (c .before .before .before .before .before .before .before .before .before .before .before .before .args .out .now)))) (c .before .before .block .ensures))
+  returns-5 c =
+      let args = c .before .before .before .before .before .before .before .before .before .before .before .before .args in
+      let out = args .out .now in
+      let below = args .below in
+      let state = args .state in
+      let if1 = c .before .before .before .before .before .before .before .before .before .before .if1 in
+      let step = c .before .before .before .before .before .before .before .before .before .step in
+      let statement-choices = c .before .before .before .before .before .before .before .before .statement-choices in
+      let choice = c .before .before .before .before .before .before .before .choice in
+      let if2 = c .before .before .before .before .before .before .if2 in
+      let if3 = c .before .before .before .before .before .if3 in
+      let if4 = c .before .before .before .before .if4 in
+      let block = c .before .before .block in
+      let m = length out in
+      statement-high below _ state (omega (arith, if1 .left)) (step .ensures) (statement-choices .ensures) (choice .ensures .0)
+      (statement-row-at (choice .result) 3 (anExpression (below - 1)) (aStatement (below - 1)) m (step .result) (omega (arith, statement-choices .ensures, choice .ensures .1, if2 .left, if3 .left, if4 .left, statement-choices-most below m)) (block .ensures))
 
 pub met : {M : Type 1} (t : ℕ) → lts.Closed (calls t) (one-statement-at t) one-statement.Post M
 met t =
     lts.spec (calls t) (one-statement-at t) one-statement.Post
-    (cast-close t)
-    (nothing-requires t)
+    (λ c. search needs)
+    (λ c κs. search needs)
     (close-requires t)
-    (same-length t)
+    (λ c. search needs)
     (returns t)
-    (step-requires t)
-    (statement-choices-requires t)
+    (λ c κs. search needs)
+    (λ c κs. search needs)
     (choice-requires t)
-    (sub-expressions t)
-    (part-expressions-start t)
-    (part-expressions-end t)
-    (sub-expressions-2 t)
-    (expressions-requires t)
-    (cast-close-2 t)
-    (close-requires-2 t)
-    (same-length-2 t)
+    (λ c. search needs)
+    (λ c. search needs)
+    (λ c. search needs)
+    (λ c. search needs)
+    (λ c κs. search needs)
+    (λ c. search needs)
+    (λ c κs. search needs)
+    (λ c. search needs)
     (returns-2 t)
-    (sub-let-row t)
-    (part-let-row-start t)
-    (part-let-row-end t)
-    (sub-let-row-2 t)
-    (let-row-requires t)
-    (cast-close-3 t)
-    (close-requires-3 t)
-    (same-length-3 t)
+    (λ c. search needs)
+    (λ c. search needs)
+    (λ c. search needs)
+    (λ c. search needs)
+    (λ c κs. search needs)
+    (λ c. search needs)
+    (λ c κs. search needs)
+    (λ c. search needs)
     (returns-3 t)
-    (sub-expressions-3 t)
-    (part-expressions-start-2 t)
-    (part-expressions-end-2 t)
-    (sub-expressions-4 t)
-    (expressions-requires-2 t)
-    (cast-close-4 t)
-    (close-requires-4 t)
-    (same-length-4 t)
+    (λ c. search needs)
+    (λ c. search needs)
+    (λ c. search needs)
+    (λ c. search needs)
+    (λ c κs. search needs)
+    (λ c. search needs)
+    (λ c κs. search needs)
+    (λ c. search needs)
     (returns-4 t)
-    (sub-block t)
+    (λ c. search needs)
     (block-requires t)
-    (same-length-5 t)
+    (λ c. search needs)
     (returns-5 t)
