@@ -1,6 +1,6 @@
 /*
- * Compiles profiles in one session, checks and lists their images in one call, sends one in frames, and shows refusals: two profiles and damaged ones of its
- * own, or the trees in the files that it is given. examples/run compares what it prints.
+ * Compiles profiles in one session, checks and lists their images in one call, sends one in frames, and shows refusals: two profiles, damaged ones and
+ * the tree of a seed of its own, or the trees in the files that it is given. examples/run compares what it prints.
  */
 #include <stdio.h>
 #include <string.h>
@@ -133,6 +133,15 @@ static void send_again(const uint8_t *image, size_t length, size_t size, size_t 
     }
 }
 
+/* The tree of a seed, and an output that is one byte too short for it. */
+static void show_seed(uint32_t seed) {
+    static uint8_t tree[MONKEY_LOAD_LIMIT];
+    uint64_t answer = monkey_load_tree(seed, tree, sizeof tree);
+    print_answer("tree of a seed", answer);
+    print_answer("output too short", monkey_load_tree(seed, tree, monkey_value(answer) - 1));
+    show("its image", tree, monkey_value(answer));
+}
+
 /* The profiles of this file, and what is refused. */
 static void show_own(void) {
     static uint8_t before[MONKEY_SESSION_SIZE];
@@ -155,6 +164,8 @@ static void show_own(void) {
     output[7] = 0xff; /* where limit's image has its second instruction */
     check(output, 68);
     list(output, 68);
+
+    show_seed(619);
 }
 
 /* The tree in a file. One byte more than the longest tree is enough to have a longer one refused. */

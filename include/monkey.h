@@ -30,7 +30,8 @@ enum {
     MONKEY_TABLE_SIZE = 16384,   /* 32-bit numbers of the table area */
     MONKEY_TREE_LIMIT = 32768,   /* bytes of the longest tree */
     MONKEY_IMAGE_LIMIT = 61446,  /* bytes of the longest image: 6, and 32,768 of main code, and 28,672 of pool */
-    MONKEY_LISTING_LIMIT = 6144100 /* no listing has more bytes; most have far fewer */
+    MONKEY_LISTING_LIMIT = 6144100, /* no listing has more bytes; most have far fewer */
+    MONKEY_LOAD_LIMIT = 2048     /* bytes of the longest tree of a seed */
 };
 
 /* The numbers of refusals. The place is an offset in the tree, 0 where none is named here. */
@@ -126,6 +127,13 @@ static inline uint32_t monkey_frame_length(uint64_t answer) { return monkey_valu
 
 /* Why monkey_frame refuses the same arguments; 0 where it does not. */
 uint64_t monkey_frame_refusal(const uint8_t *image, size_t image_length, size_t size, size_t number);
+
+/*
+ * Writes the tree of a seed, by the list of choices in docs/LOAD.md: the answer is its length, at most MONKEY_LOAD_LIMIT, and the tree stands at the
+ * front of the output, whose other bytes stay as they were. The same seed has the same tree always; every tree passes the tree check.
+ *   Refused, and the output is as it was: 15, where the tree is longer than the output.
+ */
+uint64_t monkey_load_tree(uint32_t seed, uint8_t *output, size_t output_length);
 
 #ifdef __cplusplus
 }

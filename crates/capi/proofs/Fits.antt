@@ -1,18 +1,19 @@
 -- Every answer fits its two halves, and its number has them.
 use Prim.Native.Nat.{ℕ, _+_, _*_, _<_}
 use native.Mathlib.Omega.{arith}
-use mathlib.Core.Bool.{Bool}
+use mathlib.Core.Bool.{Bool, true, false}
 use mathlib.Core.Path.{_≡_, refl, sym, ap, subst, _∙_}
 use mathlib.Core.List.{List}
-use lib.Dec.{T, ltb, ltb→lt}
+use lib.Dec.{T, ltb, leb, ltb→lt}
 use borrow.Author.Tests.{ne-eqb}
-use lib.ListN.{take}
-use Rattle.definition.specs.Basic.{Bytes}
+use lib.ListN.{length, take}
+use Rattle.definition.specs.Basic.{Bytes, pick}
 use Rattle.definition.specs.Limit.{sessionSize}
-use Rattle.definition.specs.Number.{refusal, callNumbers, makeNumbers, listNumbers}
+use Rattle.definition.specs.Number.{refusal, outputShort, callNumbers, makeNumbers, listNumbers}
 use Rattle.definition.specs.Decode.{readImage}
 use Rattle.definition.specs.Call.{Lent, call, made}
 use Rattle.definition.specs.Listing.{listAnswer}
+use Rattle.definition.specs.Output.{outputAnswer}
 use Rattle.definition.specs.Valid.{AreBytes}
 use Rattle.definition.specs.declared.Refusal.{Refusal}
 use Rattle.definition.specs.declared.Answer.{Answer}
@@ -21,6 +22,8 @@ use Rattle.definition.proofs.Basic.{pick-false}
 use Rattle.definition.proofs.Numbers.{each, of-each, below}
 use Rattle.definition.proofs.Places.{Within, made-within, call-within-limit}
 use Rattle.definition.proofs.ListingLength.{list-within}
+use Rattle.load.specs.Load.{treeOf}
+use Rattle.load.proofs.Theorems.{tree-short}
 use Rattle.bytecode.specs.declared.Form.{Form}
 use Rattle.chin.specs.Chin.{translate, answerOf}
 use Rattle.chin.specs.Rows.{otherForm, jumpOf}
@@ -62,6 +65,13 @@ call-fits tree l a = within-fits callNumbers tt (omega arith) (omega arith) (cal
 
 pub list-fits : (b : Bytes) → AreBytes b → (room : ℕ) → Fits (listAnswer (readImage b) room)
 list-fits b a room = within-fits listNumbers tt (omega arith) (omega arith) (list-within b a room)
+
+pub load-fits : (seed room : ℕ) → Fits (outputAnswer (treeOf seed) room)
+load-fits seed room = go (leb (length (treeOf seed)) room)
+  where
+    go : (b : Bool) → Fits (pick b (Length (length (treeOf seed))) (Refused (refusal outputShort 0)))
+    go true = record { number = omega arith; value = omega (arith, tree-short seed) }
+    go false = record { number = omega arith; value = omega arith }
 
 pub turn-fits : (f : Form) (b : Bytes) → AreBytes b → (room : ℕ) → Fits (answerOf (translate f (otherForm f) (jumpOf f) b) room)
 turn-fits f b a room = within-fits chinNumbers tt (omega arith) (omega arith) (translate-within f b a room)

@@ -10,8 +10,10 @@ use Rattle.definition.specs.Decode.{readImage}
 use Rattle.definition.specs.Call.{Lent, Called, call, made}
 use Rattle.definition.specs.Series.{Call, sessionAfter, lent}
 use Rattle.definition.specs.Listing.{listAnswer, listInto}
+use Rattle.definition.specs.Output.{outputAnswer, outputAfter}
 use Rattle.definition.specs.declared.Answer.{Answer}
 use Rattle.definition.specs.declared.Answer.the-variants.{Length, Refused}
+use Rattle.load.specs.Load.{treeOf}
 
 -- what the numbers of a half are below: 2 to the 32nd
 abbrev pub halfBound : ℕ
@@ -80,3 +82,8 @@ pub data RanPacked : Bytes → List Call → List Called → Type 0 where
 pub record ListsPacked (image o : Bytes) (r : ℕ) (o′ : Bytes) : Type 0 where
   pub answer : Packs (listAnswer (readImage image) (length o)) r
   pub output : o′ ≡ listInto (readImage image) o
+
+-- the tree of a seed: answer and output are the list's
+pub record LoadsPacked (seed : ℕ) (o : Bytes) (r : ℕ) (o′ : Bytes) : Type 0 where
+  pub answer : Packs (outputAnswer (treeOf seed) (length o)) r
+  pub output : o′ ≡ outputAfter (treeOf seed) o

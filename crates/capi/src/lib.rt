@@ -5,7 +5,7 @@ use frames::FramePlace;
 ghost use mathlib.Core.Path.{_≡_};
 ghost use Prim.Native.Nat.{_<_};
 ghost use Rattle.compiler.specs.Stage.{lentOf};
-ghost use Rattle.capi.specs.Packed.{Fits, Packs, MakesPacked, CompilesPacked, ListsPacked, halfBound};
+ghost use Rattle.capi.specs.Packed.{Fits, Packs, MakesPacked, CompilesPacked, ListsPacked, LoadsPacked, halfBound};
 ghost use Rattle.chin.specs.Chin.{toChin, fromChin};
 ghost use Rattle.capi.specs.Turned.{TurnsPacked};
 ghost use Rattle.capi.specs.Framed.{paired, countAnswer, placeAnswer, CountsPacked, PlacesPacked, RefusesPacked};
@@ -134,5 +134,14 @@ pub extern "C" fn monkey_from_chin(image: &[u8], output: &mut [u8]) -> u64
     ensures { λ r. ⌜ TurnsPacked (fromChin (now (image .entry))) (now (output .entry)) r (now (output .exit)) ⌝ }
 {
     let answer = chin::from_chin(image, output);
+    pack(answer)
+}
+
+// Writes the tree of a seed to the output: its length; or 15 where the output is too short, and the output stays.
+#[no_mangle]
+pub extern "C" fn monkey_load_tree(seed: u32, output: &mut [u8]) -> u64
+    ensures { λ r. ⌜ LoadsPacked seed (now (output .entry)) r (now (output .exit)) ⌝ }
+{
+    let answer = load::make_tree(seed, output);
     pack(answer)
 }
