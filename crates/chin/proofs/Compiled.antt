@@ -92,7 +92,7 @@ unfolding translate
 trusted-turned x t =
     record {
       turned = λ n e. let o = t .wrote n e in
-      subst IsGiven (ap (turn Chin distance) (sym (read-plain (take n (x .lent .output)) ∙ o .reads))) (made-given (turnImage distance (o .image)) (trusted-made (o .image) (o .session) (o .trusted)));
+          subst IsGiven (ap (turn Chin distance) (sym (read-plain (take n (x .lent .output)) ∙ o .reads))) (made-given (turnImage distance (o .image)) (trusted-made (o .image) (o .session) (o .trusted)));
     }
 
 all-turned : (xs : List Called) → All TrustedCall xs → All Turned xs
