@@ -19,6 +19,7 @@ extern "C" {
         table_length: usize,
     ) -> u64;
     fn monkey_list_image(image: *const u8, image_length: usize, output: *mut u8, output_length: usize) -> u64;
+    fn monkey_load_tree(seed: u32, output: *mut u8, output_length: usize) -> u64;
 }
 
 /// What a call answers.
@@ -68,4 +69,14 @@ pub fn check_image(image: &[u8]) -> Answer {
 
 pub fn list_image(image: &[u8], output: &mut [u8]) -> Answer {
     unpack(unsafe { monkey_list_image(image.as_ptr(), image.len(), output.as_mut_ptr(), output.len()) })
+}
+
+/// The tree of a seed (docs/LOAD.md).
+pub fn load_tree(seed: u32) -> Vec<u8> {
+    let mut tree = vec![0; 2048];
+    match unpack(unsafe { monkey_load_tree(seed, tree.as_mut_ptr(), tree.len()) }) {
+        Answer::Length(length) => tree.truncate(length),
+        Answer::Refused(number, _) => panic!("the tree of seed {seed} was refused {number}"),
+    }
+    tree
 }

@@ -211,12 +211,32 @@ fn table(counting: bool) {
     println!("\nThe Rust's lookups alone of \"{}\": {:.1} µs.", input.name, lookups(input));
 }
 
+/// Makes and compiles the trees of so many seeds, each in a fresh session, and says how many a second.
+fn load(seeds: u32) {
+    let (mut output, mut code, mut table) = (vec![0; SESSION_SIZE], vec![0; CODE_SIZE], vec![0; TABLE_SIZE]);
+    let mut session = vec![0; SESSION_SIZE];
+    let (mut making, mut compiling, mut bytes) = (Duration::ZERO, Duration::ZERO, 0);
+    for seed in 0..seeds {
+        let start = Instant::now();
+        let tree = port::load_tree(seed);
+        making += start.elapsed();
+        bytes += tree.len();
+        port::make_session(&mut session);
+        let start = Instant::now();
+        std::hint::black_box(port::compile(&mut session, &tree, &mut output, &mut code, &mut table));
+        compiling += start.elapsed();
+    }
+    let rate = |time: Duration| f64::from(seeds) / time.as_secs_f64();
+    println!("{seeds} trees, {bytes} bytes: {:.0} made a second, {:.0} compiled a second", rate(making), rate(compiling));
+}
+
 fn main() {
     let words: Vec<_> = std::env::args().skip(1).collect();
     match words.first().map(String::as_str) {
         Some("once") => once(&words[1..]),
         Some("times") => table(false),
         None => table(true),
-        Some(_) => eprintln!("bench [times | once NUMBER port|rust|floor COUNT]"),
+        Some("load") => load(words.get(1).and_then(|n| n.parse().ok()).unwrap_or(1_000)),
+        Some(_) => eprintln!("bench [times | load SEEDS | once NUMBER port|rust|floor COUNT]"),
     }
 }

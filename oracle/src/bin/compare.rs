@@ -7,12 +7,12 @@ use oracle::check::Both;
 use oracle::hex::hex;
 use oracle::pairs::{twin, Pair};
 use oracle::series::Call;
-use oracle::{cases, draw, edges, enumerate, reduce, reference};
+use oracle::{cases, draw, edges, enumerate, port, reduce, reference};
 
 /// Differences after which a run ends.
 const ENOUGH: u64 = 10;
 
-const USAGE: &str = "compare [cases] [seed=N] [trees=N] [pairs=N] [short=N] [fields=N] [seconds=N] [bytes=N]";
+const USAGE: &str = "compare [cases] [seed=N] [trees=N] [pairs=N] [short=N] [fields=N] [load=N] [seconds=N] [bytes=N]";
 
 /// A run: what it has compared so far.
 struct Run {
@@ -91,6 +91,16 @@ impl Run {
         }
     }
 
+    /// The trees of the first so many seeds, each in a fresh session.
+    fn load(&mut self, seeds: u32) {
+        for seed in 0..seeds {
+            if self.over() {
+                return;
+            }
+            self.series(&format!("load, seed {seed}"), &[Call::full(port::load_tree(seed))]);
+        }
+    }
+
     /// Random series until so many trees are compared.
     fn random(&mut self, seed: u64, trees: u64) {
         let mut number = 0;
@@ -148,6 +158,7 @@ fn run(words: &[String]) -> bool {
         ("pairs", 20_000),
         ("short", 50_000),
         ("fields", 3),
+        ("load", 1_000),
         ("seconds", 600),
         ("bytes", 150_000),
     ]);
@@ -166,6 +177,7 @@ fn run(words: &[String]) -> bool {
     let mut run = Run::new(options["seconds"]);
     run.edges();
     run.short(options["short"] as usize, options["fields"] as usize);
+    run.load(options["load"] as u32);
     run.random(options["seed"], options["trees"]);
     run.alike(options["seed"], options["pairs"]);
     run.summary();
