@@ -1,6 +1,6 @@
 /*
- * Compiles profiles in one session, checks and lists their images in one call, sends one in frames, and shows refusals: two profiles, damaged ones and
- * the tree of a seed of its own, or the trees in the files that it is given. examples/run compares what it prints.
+ * Compiles profiles in one session, checks and lists their images in one call, sends one in frames and in the chin form, and shows refusals: two profiles, damaged
+ * ones and the tree of a seed of its own, or the trees in the files that it is given. examples/run compares what it prints.
  */
 #include <stdio.h>
 #include <string.h>
@@ -133,6 +133,19 @@ static void send_again(const uint8_t *image, size_t length, size_t size, size_t 
     }
 }
 
+/* An image in the chin form, and back. */
+static void turn(const uint8_t *image, size_t length) {
+    static uint8_t form[MONKEY_IMAGE_LIMIT], back[MONKEY_IMAGE_LIMIT];
+
+    uint64_t answer = monkey_to_chin(image, length, form, sizeof form);
+    print_answer("chin form", answer);
+    if (monkey_number(answer) == 0) {
+        print_answer("and back", monkey_from_chin(form, monkey_value(answer), back, sizeof back));
+        printf("as it was: %s\n", memcmp(image, back, length) == 0 ? "yes" : "no");
+        print_answer("output too short", monkey_to_chin(image, length, form, length - 1));
+    }
+}
+
 /* The tree of a seed, and an output that is one byte too short for it. */
 static void show_seed(uint32_t seed) {
     static uint8_t tree[MONKEY_LOAD_LIMIT];
@@ -152,6 +165,7 @@ static void show_own(void) {
     send(output, 68, 15);
     send_again(output, 68, 32, 2);
     send_again(output, 68, 32, 3);
+    turn(output, 68);
 
     memcpy(before, session, sizeof session);
     show("unknown", unknown, sizeof unknown);

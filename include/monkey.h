@@ -10,7 +10,7 @@
  *
  * Answers
  *   Each function answers one 64-bit number. Where the high half is 0, the low half is a length, of what was written. Otherwise the
- *   call was refused: the high half is the number of the refusal, 1 to 17 or 22 to 24, the low half its place, an offset.
+ *   call was refused: the high half is the number of the refusal, 1 to 17 or 22 to 26, the low half its place, an offset.
  *   monkey_number and monkey_value take the halves. Every call ends with an answer, whatever bytes the buffers hold.
  */
 #ifndef MONKEY_H
@@ -55,7 +55,8 @@ enum monkey_refusal {
     MONKEY_BAD_IMAGE = 17,       /* place: the offset in the image of its first wrong field or instruction */
     MONKEY_NO_VALUE = 22,        /* a branch that yields no value: it is empty or ends in a let; place: the If */
     MONKEY_FRAME_SIZE = 23,      /* a frame's size is below 16 or above 1,024 */
-    MONKEY_NO_FRAME = 24         /* the image has no frame of this number */
+    MONKEY_NO_FRAME = 24,        /* the image has no frame of this number */
+    MONKEY_BAD_JUMP = 26         /* a jump has no operand in the other form; place: its offset in the image that was given */
 };
 
 /* The number of a refusal, 0 where there is none. */
@@ -127,6 +128,19 @@ static inline uint32_t monkey_frame_length(uint64_t answer) { return monkey_valu
 
 /* Why monkey_frame refuses the same arguments; 0 where it does not. */
 uint64_t monkey_frame_refusal(const uint8_t *image, size_t image_length, size_t size, size_t number);
+
+/*
+ * Translates an image into the chin unit's form (docs/FORMAT.md): the answer is the length, which is the image's own, and the form stands at the front of the
+ * output, whose other bytes stay as they were. Image and output do not overlap.
+ *   Refused, and the output is as it was: 17 and the place; then 26, the first jump to before its own end; then 15, where the output is shorter than the image.
+ */
+uint64_t monkey_to_chin(const uint8_t *image, size_t image_length, uint8_t *output, size_t output_length);
+
+/*
+ * Translates the chin form back into an image, likewise. 17 is judged as for images, with the chin form's tags; 26 is the first distance whose target passes
+ * 65,535. What monkey_to_chin wrote is never refused 17 or 26, and gives the image that it came from.
+ */
+uint64_t monkey_from_chin(const uint8_t *image, size_t image_length, uint8_t *output, size_t output_length);
 
 /*
  * Writes the tree of a seed, by the list of choices in docs/LOAD.md: the answer is its length, at most MONKEY_LOAD_LIMIT, and the tree stands at the

@@ -14,11 +14,14 @@ import sys
 
 
 
+def expanded(text):
+    """The text with the bytes written out: {2900}12. stands for the bytes between the braces twelve times."""
+    return re.sub(r"\{([0-9a-f]*)\}(\d+)\.", lambda m: m[1] * int(m[2]), text)
+
+
 def size_of(text):
-    """The number of bytes of a text in which {2900}12. stands for the bytes between the braces twelve times."""
-    groups = re.findall(r"\{([0-9a-f]*)\}(\d+)\.", text)
-    plain = re.sub(r"\{[0-9a-f]*\}\d+\.", "", text).replace("-", "")
-    return len(plain) // 2 + sum(len(g) // 2 * int(n) for g, n in groups)
+    """The number of bytes of a text."""
+    return len(expanded(text).replace("-", "")) // 2
 
 
 folder, crate = sys.argv[1], sys.argv[2] + "/"
@@ -54,6 +57,8 @@ for topic, word in ("instruction16", "decode"), ("image17", "image"), ("listing"
             broken = line.startswith("refused 2 ")
             if word == "list" and first == "ok":
                 line = "ok\n" + bytes.fromhex(line.split(" ")[1]).decode()
+            if word in ("chin", "unchin"):
+                line = expanded(line)
             answers.append(line if word != "start" or broken else "ok\n")
             asked = False
 open(crate + "data/cases", "w").writelines(questions)
