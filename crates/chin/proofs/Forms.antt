@@ -25,12 +25,7 @@ use Rattle.bytecode.specs.declared.Form.the-variants.{Plain, Chin}
 use Rattle.bytecode.specs.Form.{tagMainIn, constIn, poolIn, imageIn, readPoolIn, mainHeadIn, readIn, readForm}
 use Rattle.chin.proofs.Constants.{pool-length, read-pool, write-pool}
 
--- the plain form is read as the definition reads
-pub read-plain : (b : Bytes) → readForm Plain b ≡ readImage b
-unfolding readIn readImageOf
-read-plain b = refl
-
--- and written as it writes
+-- the plain form is written as the definition writes
 const-plain : (c : Const) → constIn Plain c ≡ constBytes c
 const-plain (Const.integer b) = refl
 const-plain (Const.string b) = refl
