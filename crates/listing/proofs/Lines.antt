@@ -12,12 +12,12 @@ use Rattle.definition.specs.Opcode.{Instr, instrAt, size, whole, width, opLast}
 use Rattle.definition.specs.Bytecode.{Code, sizeOf}
 use Rattle.definition.specs.Decode.{Decoded, decoded, readInstr, readCode}
 use Rattle.definition.specs.Listing.{also, operandFields, codeLine, codeLines}
-use Rattle.opcode.specs.Decoding.{instruction, instrOf, decodeAnswer}
+use Rattle.opcode.specs.Decoding.{instruction, instrOf, readBefore, decodeAnswer}
 use Rattle.opcode.specs.declared.Instruction.{Instruction}
 use Rattle.opcode.specs.declared.Decoded.{Decoded as Answer}
 use Rattle.opcode.specs.declared.Decoded.the-variants.{Instr as Found, Refused}
 use Rattle.definition.specs.declared.Refusal.{Refusal}
-use Rattle.opcode.proofs.Decoding.{both-left, both-right}
+use Rattle.opcode.proofs.Decoding.{both-left, both-right, before-within}
 use Rattle.bytecode.proofs.Items.{unlike}
 use Rattle.listing.specs.Put.{Puts, perByte}
 use Rattle.listing.specs.Reads.{CodeAt, HasCode}
@@ -112,7 +112,10 @@ module _ (b : Bytes) (start end : ℕ) where
         let e : pos ≡ end = omega (arith, l .order) in
         wider (reworded (l .puts) (ap codeLines (ends (readInstr (byteAt b)) end (end - start) start (l .reading) (k .reads) e))) (omega arith)
 
-    module _ (h : HasCode b start end) (before : pos < end) {r : Answer} (e : r ≡ decodeAnswer (readInstr (byteAt b) pos end)) where
+    module _ (h : HasCode b start end) (before : pos < end) {r : Answer} (t₀ : r ≡ decodeAnswer (readBefore b pos end)) where
+      e : r ≡ decodeAnswer (readInstr (byteAt b) pos end)
+      e = t₀ ∙ ap decodeAnswer (before-within b pos end (h .is .within))
+
       pub code-not-refused : {q : Refusal} → r ≡ Refused q → ⊥
       code-not-refused t = unanswered e (next (readInstr (byteAt b)) end (end - start) start (l .reading) (h .is .reads) (λ i. omega arith) .found) t
 

@@ -1,17 +1,19 @@
 -- What stands at an offset is the definition's instruction there, by its length.
-use Prim.Native.Nat.{ℕ, _+_, _≤_}
-use mathlib.Core.Path.{_≡_, refl}
+use Prim.Native.Nat.{ℕ, _+_, _≤_, _<_}
+use mathlib.Core.Path.{_≡_, refl, sym, ap, _∙_}
 use mathlib.Core.Bool.{Bool, true, false}
 use native.Mathlib.Omega.{arith}
+use lib.ListN.{length}
 use lib.Dec.{leb}
-use borrow.Author.Tests.{leb-true}
-use Rattle.definition.specs.Basic.{both}
+use borrow.Author.Tests.{leb-true, lt-ltb, le-ltb}
+use Rattle.definition.specs.Basic.{Bytes, byteAt, both}
 use Rattle.definition.specs.Number.{refusal, badInstruction}
 use Rattle.definition.specs.Opcode.{instr, instrAt, operandAt, capturesAt, width, whole, opLast}
 use Rattle.definition.specs.Decode.{decoded, malformed, readInstr}
 use Rattle.opcode.specs.declared.Instruction.{Instruction}
+use Rattle.opcode.specs.declared.Decoded.{Decoded}
 use Rattle.opcode.specs.declared.Decoded.the-variants.{Instr as Found, Refused}
-use Rattle.opcode.specs.Decoding.{sizeAt, instruction, decodeAnswer}
+use Rattle.opcode.specs.Decoding.{sizeAt, instruction, readBefore, decodeAnswer}
 
 pub both-left : (a b : Bool) → both a b ≡ true → a ≡ true
 both-left true b e = refl
@@ -63,3 +65,13 @@ module _ (byte : ℕ → ℕ) (at : ℕ) where
 
     pub refuses : {size : ℕ} → size ≡ sizeAt byte at end → size ≡ 0 → Refused (refusal badInstruction at) ≡ decodeAnswer (readInstr byte at end)
     refuses e n = rw (read-none e n)
+
+-- before an end within the bytes an instruction is read as it stands, and past them none
+pub before-within : (b : Bytes) (at end : ℕ) → end ≤ length b → readBefore b at end ≡ readInstr (byteAt b) at end
+before-within b at end h = rw (le-ltb (length b) end h)
+
+pub before-past : (b : Bytes) (at end : ℕ) → length b < end → Refused (refusal badInstruction at) ≡ decodeAnswer (readBefore b at end)
+before-past b at end h = rw (lt-ltb (length b) end h)
+
+pub answers-within : (b : Bytes) (at end : ℕ) {r : Decoded} → end ≤ length b → r ≡ decodeAnswer (readInstr (byteAt b) at end) → r ≡ decodeAnswer (readBefore b at end)
+answers-within b at end h e = e ∙ ap decodeAnswer (sym (before-within b at end h))

@@ -1,9 +1,11 @@
 -- What decoding answers, from the definition's `readInstr`.
 use Prim.Native.Nat.{ℕ, _+_}
-use Rattle.definition.specs.Basic.{pick}
+use lib.ListN.{length}
+use lib.Dec.{ltb}
+use Rattle.definition.specs.Basic.{Bytes, byteAt, pick}
 use Rattle.definition.specs.Number.{refusal, badInstruction}
 use Rattle.definition.specs.Opcode.{Instr, instr, width, whole}
-use Rattle.definition.specs.Decode.{decoded, malformed}
+use Rattle.definition.specs.Decode.{decoded, malformed, readInstr}
 use Rattle.definition.specs.Decode as Decode
 use Rattle.opcode.specs.declared.Instruction.{Instruction}
 use Rattle.opcode.specs.declared.Decoded.{Decoded}
@@ -19,6 +21,10 @@ instruction i = record { op = i .op; operand = i .a; captures = i .b }
 
 abbrev pub instrOf : Instruction → Instr
 instrOf i = instr (i .op) (i .operand) (i .captures)
+
+-- the instruction at an offset before an end; none before an end past the bytes
+abbrev pub readBefore : Bytes → ℕ → ℕ → Decode.Decoded Instr
+readBefore b at end = pick (ltb (length b) end) (malformed at) (readInstr (byteAt b) at end)
 
 -- what was read, as an answer: number 16 where nothing was
 abbrev pub decodeAnswer : Decode.Decoded Instr → Decoded

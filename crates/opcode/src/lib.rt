@@ -21,7 +21,7 @@ ghost use Rattle.definition.specs.Output.{over};
 ghost use Rattle.definition.specs.Listing.{words};
 ghost use Rattle.definition.specs.Valid.{operandBound, capturesBound};
 ghost use Rattle.opcode.specs.Table.{entry, IsTable};
-ghost use Rattle.opcode.specs.Decoding.{sizeAt, instruction, instrOf, decodeAnswer};
+ghost use Rattle.opcode.specs.Decoding.{sizeAt, instruction, instrOf, readBefore, decodeAnswer};
 ghost use Rattle.opcode.specs.Words.{joined, startOf, wordAnswer, wordInto};
 ghost use Rattle.opcode.specs.Encoding.{valid, encodeAnswer, encodeInto, Ready};
 
@@ -143,8 +143,8 @@ fn instruction_at(code: &[u8], at: usize, size: usize) -> Instruction
     }
 }
 
-// The instruction at `at`, if it stands whole before `end`; else number 16 there.
-pub fn decode_at(code: &[u8], at: usize, end: usize) -> Decoded
+// The instruction at `at`, if it stands whole before `end`, which is within the slice; else number 16 there.
+fn decode_before(code: &[u8], at: usize, end: usize) -> Decoded
     requires { ⌜ end ≤ length (now code) ⌝ }
     ensures { λ r. ⌜ r ≡ decodeAnswer (readInstr (byteAt (now (code .entry))) at end) ⌝ }
 {
@@ -158,11 +158,24 @@ pub fn decode_at(code: &[u8], at: usize, end: usize) -> Decoded
     Decoded::Instr(instruction_at(code, at, size), at + size)
 }
 
+// The instruction at `at`, if it stands whole before `end`; else, and for an `end` past the slice, number 16 there.
+pub fn decode_at(code: &[u8], at: usize, end: usize) -> Decoded
+    ensures { λ r. ⌜ r ≡ decodeAnswer (readBefore (now (code .entry)) at end) ⌝ }
+{
+    if code.len() < end {
+        return Decoded::Refused(Refusal {
+            number: number::BAD_INSTRUCTION,
+            place: at,
+        });
+    }
+    decode_before(code, at, end)
+}
+
 // The first instruction of a slice; an empty slice is refused, 16 at 0.
 pub fn decode(code: &[u8]) -> Decoded
     ensures { λ r. ⌜ r ≡ decodeAnswer (readInstr (byteAt (now (code .entry))) 0 (length (now (code .entry)))) ⌝ }
 {
-    decode_at(code, 0, code.len())
+    decode_before(code, 0, code.len())
 }
 
 // What an operand is below, by the number of operand bytes.
