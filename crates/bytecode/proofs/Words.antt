@@ -1,8 +1,8 @@
 -- A session's words, by its first byte, their fields and whether one is repeated.
-use Prim.Native.Nat.{ℕ, _+_, _≤_}
-use mathlib.Core.Path.{_≡_, _∙_, ap, sym, refl, subst}
+use Prim.Native.Nat.{ℕ, _+_}
+use mathlib.Core.Path.{_≡_, _∙_, ap, sym, refl}
 use mathlib.Core.Bool.{Bool, true, false}
-use mathlib.Core.List.{List, [], _∷_, reverse, reverse-reverse}
+use mathlib.Core.List.{List, [], _∷_, reverse}
 use native.Mathlib.Omega.{arith}
 use lib.ListN.{length}
 use lib.Dec.{eqb}
@@ -13,30 +13,15 @@ use Rattle.definition.specs.Tag.{tagWords}
 use Rattle.definition.specs.Field.{head, tagged}
 use Rattle.definition.specs.SymbolTable.{distinct}
 use Rattle.definition.specs.Session.{six, listed}
-use Rattle.definition.specs.Decode.{Decoded, decoded, malformed, then, asWords, items, readNameField, readNameFields, readWords, readHanded}
-use Rattle.field.specs.Row.{RowTo, HasRow}
-use Rattle.field.proofs.Reading.{items-row}
+use Rattle.definition.specs.Decode.{Decoded, decoded, malformed, then, asWords, readNameFields, readWords, readHanded}
+use Rattle.field.specs.Row.{HasRow}
+use Rattle.field.proofs.Reading.{Filled, filled}
 use Rattle.bytecode.specs.declared.Item.the-variants.{Next, Wrong as WrongItem}
 use Rattle.bytecode.specs.declared.Checked.{Checked}
 use Rattle.bytecode.specs.declared.Checked.the-variants.{Good, Wrong}
 use Rattle.bytecode.specs.Checked.{item, checked, isRead, nameFields}
-use Rattle.bytecode.proofs.Items.{ended}
 use Rattle.bytecode.proofs.Fields.{head-read, namesContent}
 use Rattle.bytecode.proofs.Constants.{checked-good, checked-wrong}
-
--- the fields of names that were read, in the names' other order
-record Filled (b : Bytes) (from at : ℕ) (ns : List Bytes) : Type 0 where
-  has : HasRow b from at
-  order : has .names ≡ reverse ns
-
-filled : (b : Bytes) (from end at : ℕ) {ns : List Bytes} → end ≤ length b → items (readNameField (byteAt b)) wordsLimit [] from end ≡ decoded ns at → Filled b from at ns
-filled b from end at l e =
-    let m = ended (readNameField (byteAt b)) _ _ [] _ e in
-    let r = items-row b wordsLimit [] from end l e in
-    record {
-      has = record { names = r .fields; row = subst (λ n. RowTo b n from (r .fields)) (sym (m .ends)) (r .row); within = omega (arith, m .ends) };
-      order = sym (reverse-reverse (r .fields)) ∙ ap reverse (sym (r .order));
-    }
 
 -- Words that are handed over
 
@@ -48,8 +33,8 @@ module _ (b : Bytes) {r : Checked} (e : r ≡ checked (nameFields (byteAt b) wor
     good : (ns : List Bytes) × (nameFields (byteAt b) wordsLimit 0 (length b) ≡ decoded ns at) × (length ns ≡ j)
     good = checked-good (nameFields (byteAt b) wordsLimit 0 (length b)) e w
 
-    fill : Filled b 0 at (good .0)
-    fill = filled b 0 (length b) at (omega arith) (good .1)
+    fill : Filled b wordsLimit 0 at (good .0)
+    fill = filled b wordsLimit 0 (length b) at (omega arith) (good .1)
 
     pub handed-row : HasRow b 0 at
     handed-row = fill .has
@@ -90,10 +75,10 @@ module _ (b : Bytes) where
         names = checked-good own e w
 
         -- their fields fill the part behind the head
-        own-filled : Filled b 3 at (names .0)
+        own-filled : Filled b wordsLimit 3 at (names .0)
         own-filled =
             let h = head-read (byteAt b) 0 (length b) (tagged tagWords) (namesContent (byteAt b) wordsLimit) (names .1) in
-            filled b 3 (3 + head (byteAt b) 0 .len) at (h .0 .within) (h .1)
+            filled b wordsLimit 3 (3 + head (byteAt b) 0 .len) at (h .0 .within) (h .1)
 
         pub own-row : HasRow b 3 at
         own-row = own-filled .has

@@ -1,30 +1,18 @@
 -- Reading names, as the definition does it.
 use Prim.Native.Nat.{ℕ, zero, suc, _+_, _-_, _≤_, _<_}
-use mathlib.Core.Path.{_≡_, refl, sym, ap, _∙_}
+use mathlib.Core.Path.{_≡_, refl, sym, ap, subst, _∙_}
 use mathlib.Core.Bool.{Bool, true, false}
-use mathlib.Core.List.{List, [], _∷_, reverseAux}
-use native.Mathlib.Numerals.{add-one}
+use mathlib.Core.List.{List, [], _∷_, reverse, reverseAux, reverse-reverse}
 use native.Mathlib.Omega.{arith}
-use lib.ListN.{length, getD, take, drop}
-use lib.Seq.{drop-cons}
+use lib.ListN.{length}
 use lib.Dec.{leb, eqb}
 use borrow.Author.Tests.{eq-eqb, ne-eqb, leb-true, eqb-true, eqb-false}
 use Rattle.definition.specs.Basic.{Bytes, byteAt, pick, both}
-use Rattle.definition.specs.Field.{Head, nameHead, fits, bytes, head}
-use Rattle.definition.specs.Decode.{Decoded, decoded, malformed, then, items, readHead, readNameField}
+use Rattle.definition.specs.Field.{Head, tagged, nameHead, fits, bytes, head}
+use Rattle.definition.specs.Decode.{Decoded, decoded, malformed, then, items, readHead, readNameField, readNameFields}
 use Rattle.field.specs.Layout.{len, after, content}
-use Rattle.field.specs.Row.{RowTo}
-
--- so many bytes from an offset on, as the definition reads them
-pub bytes-slice : (b : Bytes) (at n : ℕ) → at + n ≤ length b → bytes (byteAt b) at n ≡ take n (drop at b)
-bytes-slice b at zero h = refl
-bytes-slice b at (suc n) h =
-    let lt : at < length b = omega arith in
-    rw (drop-cons b at 0 lt) (ap (λ l. getD b at 0 ∷ l) (bytes-slice b (at + 1) n (omega arith) ∙ rw (add-one at) refl))
-
--- a name's content, as the definition reads it
-pub content-bytes : (b : Bytes) (at : ℕ) → after b at ≤ length b → content b at ≡ bytes (byteAt b) (at + 3) (len b at)
-content-bytes b at h = sym (bytes-slice b (at + 3) (len b at) h)
+use Rattle.field.specs.Row.{RowTo, HasRow}
+use Rattle.field.proofs.Content.{content-bytes}
 
 -- Items up to the end
 
@@ -67,15 +55,15 @@ both-right false b h = cc
 
 module _ (b : Bytes) (at end : ℕ) where
   -- a head that is read: a whole field is there
-  pub record Whole (good : Head → Bool) (h : Head) (in₀ : ℕ) : Type 0 where
+  pub record HeadRead (h : Head) (in₀ : ℕ) : Type 0 where
     pub is : h ≡ head (byteAt b) at
     pub next : in₀ ≡ at + 3
     pub fits : after b at ≤ end
 
-  pub head-read : (good : Head → Bool) (h : Head) (in₀ : ℕ) → readHead (byteAt b) good at end ≡ decoded h in₀ → Whole good h in₀
+  pub head-read : (good : Head → Bool) (h : Head) (in₀ : ℕ) → readHead (byteAt b) good at end ≡ decoded h in₀ → HeadRead h in₀
   head-read good h in₀ = go (both (fits at end (head (byteAt b) at)) (good (head (byteAt b) at))) refl
     where
-      go : (t : Bool) → both (fits at end (head (byteAt b) at)) (good (head (byteAt b) at)) ≡ t → pick t (decoded (head (byteAt b) at) (at + 3)) (malformed at) ≡ decoded h in₀ → Whole good h in₀
+      go : (t : Bool) → both (fits at end (head (byteAt b) at)) (good (head (byteAt b) at)) ≡ t → pick t (decoded (head (byteAt b) at) (at + 3)) (malformed at) ≡ decoded h in₀ → HeadRead h in₀
       go true p q =
           let whole : fits at end (head (byteAt b) at) ≡ true = both-left (fits at end (head (byteAt b) at)) (good (head (byteAt b) at)) p in
           record { is = cc; next = cc; fits = leb-true (after b at) end (both-right (leb (at + 3) end) (leb (after b at) end) whole) }
@@ -92,39 +80,67 @@ module _ (b : Bytes) (at end : ℕ) where
     where
       go : (y : Decoded Head) → readHead (byteAt b) (nameHead 1) at end ≡ y → then y (λ h in₀. decoded (bytes (byteAt b) in₀ (h .len)) (in₀ + h .len)) ≡ decoded x at₁ → IsRead x at₁
       go (decoded h in₀) p q =
-          let w : Whole (nameHead 1) h in₀ = head-read (nameHead 1) h in₀ p in
+          let w : HeadRead h in₀ = head-read (nameHead 1) h in₀ p in
           let n : bytes (byteAt b) in₀ (h .len) ≡ bytes (byteAt b) (at + 3) (len b at) = rw (w .is, w .next) in
           let m : in₀ + h .len ≡ after b at = rw (w .is, w .next) in
-          let c : content b at ≡ bytes (byteAt b) (at + 3) (len b at) = content-bytes b at (omega (arith, w .fits)) in
+          let c : bytes (byteAt b) (at + 3) (len b at) ≡ content b at = content-bytes {b = b} {at = at} (record { fits = omega (arith, w .fits) }) in
           record { name = cc; next = cc; fits = w .fits }
       go (malformed o) p q = let z : _≡_ {A = ℕ} 0 1 = cc in absurd (omega arith)
 
+-- a field of names that is read: its head, then names up to its end
+pub record NamesRead (b : Bytes) (most start : ℕ) (ns : List Bytes) (e : ℕ) : Type 0 where
+  pub fits : after b start ≤ length b
+  pub items : items (readNameField (byteAt b)) most [] (start + 3) (after b start) ≡ decoded ns e
+
+pub names-read : (b : Bytes) (tag most start : ℕ) (ns : List Bytes) (e : ℕ) → readNameFields (byteAt b) tag most start (length b) ≡ decoded ns e → NamesRead b most start ns e
+names-read b tag most start ns e = go (readHead (byteAt b) (tagged tag) start (length b)) refl
+  where
+    go : (y : Decoded Head) → readHead (byteAt b) (tagged tag) start (length b) ≡ y → then y (λ h in₀. items (readNameField (byteAt b)) most [] in₀ (in₀ + h .len)) ≡ decoded ns e → NamesRead b most start ns e
+    go (decoded h in₀) p q = let w = head-read b start (length b) (tagged tag) h in₀ p in record { fits = w .fits; items = rw (w .is, w .next) at q }
+    go (malformed o) p q = let z : _≡_ {A = ℕ} 0 1 = cc in absurd (omega arith)
+
 -- names that are read, the latest first, are the fields in their other order
-pub record Rows (b : Bytes) (most : ℕ) (xs : List Bytes) (at end : ℕ) (ns : List Bytes) : Type 0 where
+pub record Rows (b : Bytes) (most : ℕ) (xs : List Bytes) (at end : ℕ) (ns : List Bytes) (e : ℕ) : Type 0 where
   pub fields : List Bytes
   pub row : RowTo b end at fields
   pub order : ns ≡ reverseAux fields xs
   pub few : length fields ≤ most
+  pub ends : e ≡ end
 
 -- at the end there are no more
-items-ended : (b : Bytes) (most : ℕ) (xs : List Bytes) (at end : ℕ) {ns : List Bytes} {e : ℕ} → at ≡ end → items (readNameField (byteAt b)) most xs at end ≡ decoded ns e → Rows b most xs at end ns
+items-ended : (b : Bytes) (most : ℕ) (xs : List Bytes) (at end : ℕ) {ns : List Bytes} {e : ℕ} → at ≡ end → items (readNameField (byteAt b)) most xs at end ≡ decoded ns e → Rows b most xs at end ns e
 items-ended b most xs at end {ns} {e} p h =
     let q : decoded xs at ≡ decoded ns e = sym (items-none (readNameField (byteAt b)) most xs at end p) ∙ h in
-    record { fields = []; row = RowTo.end p; order = cc; few = omega arith }
+    record { fields = []; row = RowTo.end p; order = cc; few = omega arith; ends = cc }
 
-pub items-row : (b : Bytes) (most : ℕ) (xs : List Bytes) (at end : ℕ) {ns : List Bytes} {e : ℕ} → end ≤ length b → items (readNameField (byteAt b)) most xs at end ≡ decoded ns e → Rows b most xs at end ns
+pub items-row : (b : Bytes) (most : ℕ) (xs : List Bytes) (at end : ℕ) {ns : List Bytes} {e : ℕ} → end ≤ length b → items (readNameField (byteAt b)) most xs at end ≡ decoded ns e → Rows b most xs at end ns e
 items-row b zero xs at end {ns} {e} l h = go (eqb at end) refl
   where
-    go : (t : Bool) → eqb at end ≡ t → Rows b zero xs at end ns
+    go : (t : Bool) → eqb at end ≡ t → Rows b zero xs at end ns e
     go true p = items-ended b zero xs at end (eqb-true at end p) h
     go false p = let n = items-next (readNameField (byteAt b)) zero xs at end ns e (eqb-false at end p) h in absurd (omega (arith, n .some))
 items-row b (suc m) xs at end {ns} {e} l h = go (eqb at end) refl (λ g. items-row b m (content b at ∷ xs) (after b at) end l g)
   where
-    go : (t : Bool) → eqb at end ≡ t → (items (readNameField (byteAt b)) m (content b at ∷ xs) (after b at) end ≡ decoded ns e → Rows b m (content b at ∷ xs) (after b at) end ns) → Rows b (suc m) xs at end ns
+    go : (t : Bool) → eqb at end ≡ t → (items (readNameField (byteAt b)) m (content b at ∷ xs) (after b at) end ≡ decoded ns e → Rows b m (content b at ∷ xs) (after b at) end ns e) → Rows b (suc m) xs at end ns e
     go true p rest = items-ended b (suc m) xs at end (eqb-true at end p) h
     go false p rest =
         let n = items-next (readNameField (byteAt b)) (suc m) xs at end ns e (eqb-false at end p) h in
         let r = name-read b at end (n .first) (n .at₁) l (n .here) in
         let less : suc m - 1 ≡ m = omega arith in
         let k = rest ((λ i. items (readNameField (byteAt b)) (sym less i) (sym (r .name) i ∷ xs) (sym (r .next) i) end) ∙ n .rest) in
-        record { fields = content b at ∷ k .fields; row = RowTo.more refl (r .fits) (k .row); order = k .order; few = omega (arith, k .few) }
+        record { fields = content b at ∷ k .fields; row = RowTo.more refl (r .fits) (k .row); order = k .order; few = omega (arith, k .few); ends = k .ends }
+
+-- names that are read fill the part, the fields in the names' other order
+pub record Filled (b : Bytes) (most from to : ℕ) (ns : List Bytes) : Type 0 where
+  pub has : HasRow b from to
+  pub order : has .names ≡ reverse ns
+  pub few : length (has .names) ≤ most
+
+pub filled : (b : Bytes) (most from end to : ℕ) {ns : List Bytes} → end ≤ length b → items (readNameField (byteAt b)) most [] from end ≡ decoded ns to → Filled b most from to ns
+filled b most from end to l e =
+    let r = items-row b most [] from end l e in
+    record {
+      has = record { names = r .fields; row = subst (λ n. RowTo b n from (r .fields)) (sym (r .ends)) (r .row); within = omega (arith, r .ends) };
+      order = sym (reverse-reverse (r .fields)) ∙ ap reverse (sym (r .order));
+      few = r .few;
+    }

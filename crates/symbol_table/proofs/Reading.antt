@@ -89,13 +89,13 @@ module _ (b : Bytes) (at end : ℕ) where
       go (malformed o) p q = let z : _≡_ {A = ℕ} 0 1 = cc in absurd (omega arith)
 
 -- the names of a session that is read
-pub record NamesRead (b : Bytes) (ns : List Bytes) (e : ℕ) : Type 0 where
-  pub fits : after b 0 ≤ length b
-  pub items : items (readNameField (byteAt b)) globalsLimit [] 3 (after b 0) ≡ decoded ns e
+pub record NamesRead (b : Bytes) (start : ℕ) (ns : List Bytes) (e : ℕ) : Type 0 where
+  pub fits : after b start ≤ length b
+  pub items : items (readNameField (byteAt b)) globalsLimit [] (start + 3) (after b start) ≡ decoded ns e
 
-pub names-read : (b : Bytes) (ns : List Bytes) (e : ℕ) → readNames (byteAt b) 0 (length b) ≡ decoded ns e → NamesRead b ns e
-names-read b ns e h = go (readHead (byteAt b) (tagged tagNames) 0 (length b)) refl h
+pub names-read : (b : Bytes) (start : ℕ) (ns : List Bytes) (e : ℕ) → readNames (byteAt b) start (length b) ≡ decoded ns e → NamesRead b start ns e
+names-read b start ns e h = go (readHead (byteAt b) (tagged tagNames) start (length b)) refl h
   where
-    go : (y : Decoded Head) → readHead (byteAt b) (tagged tagNames) 0 (length b) ≡ y → then y (λ h in₀. items (readNameField (byteAt b)) globalsLimit [] in₀ (in₀ + h .len)) ≡ decoded ns e → NamesRead b ns e
-    go (decoded h in₀) p q = let w : Whole b 0 (length b) (tagged tagNames) h in₀ = head-read b 0 (length b) (tagged tagNames) h in₀ p in record { fits = w .fits; items = rw (w .is, w .next) at q }
+    go : (y : Decoded Head) → readHead (byteAt b) (tagged tagNames) start (length b) ≡ y → then y (λ h in₀. items (readNameField (byteAt b)) globalsLimit [] in₀ (in₀ + h .len)) ≡ decoded ns e → NamesRead b start ns e
+    go (decoded h in₀) p q = let w : Whole b start (length b) (tagged tagNames) h in₀ = head-read b start (length b) (tagged tagNames) h in₀ p in record { fits = w .fits; items = rw (w .is, w .next) at q }
     go (malformed o) p q = let z : _≡_ {A = ℕ} 0 1 = cc in absurd (omega arith)
