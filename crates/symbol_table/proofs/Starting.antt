@@ -11,14 +11,15 @@ use borrow.Author.Tests.{lt-ltb}
 use Rattle.definition.specs.Basic.{Bytes, byteAt}
 use Rattle.definition.specs.Limit.{sessionSize, globalsLimit}
 use Rattle.definition.specs.Decode.{decoded, items, readNameField}
+use Rattle.definition.specs.Tag.{tagNames}
 use Rattle.field.specs.Layout.{len, after, content}
+use Rattle.field.proofs.Reading.{items-none, Next, items-next, IsRead, name-read, NamesRead, names-read}
 use Rattle.symbol_table.specs.Name.{Stands, buckets, hashOf}
 use Rattle.symbol_table.specs.Layout.{globalsSize, headsAt, back, GlobalStands, GoodGlobals, globalName, globalsOf, Good}
 use Rattle.symbol_table.specs.Store.{globalIn}
 use Rattle.symbol_table.specs.Contract.{HasNames, StartsGlobals, Starts}
 use Rattle.symbol_table.proofs.Back.{last-or-before}
 use Rattle.symbol_table.proofs.Names.{len-take, content-take}
-use Rattle.symbol_table.proofs.Reading.{items-none, Next, items-next, IsRead, name-read, NamesRead, names-read}
 use Rattle.symbol_table.proofs.Pushing.{global-count, globals-more, globals-good}
 
 -- names that are left to enter, from an offset to the end
@@ -35,11 +36,11 @@ module _ (session : Bytes) (start : ℕ) where
   begun-start g size clear has =
       let inside : 0 < length g = omega arith in
       let none : getD (set g 0 0) 0 0 ≡ 0 = getD-set-same g 0 0 0 inside in
-      let r : NamesRead session start (has .names) (has .end) = names-read session start (has .names) (has .end) (has .reads) in
+      let r : NamesRead session globalsLimit start (has .names) (has .end) = names-read session tagNames globalsLimit start (has .names) (has .end) (has .reads) in
       record {
         before = omega arith;
         within = r .fits;
-        left = λ tree h. rw none (names-read session start (h .names) (h .end) (h .reads) .items);
+        left = λ tree h. rw none (names-read session tagNames globalsLimit start (h .names) (h .end) (h .reads) .items);
         good = λ tree. record {
           size = length-set g 0 0 ∙ size;
           count = omega arith;

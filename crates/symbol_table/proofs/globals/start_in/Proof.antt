@@ -3,7 +3,9 @@ use Prim.Native.Nat.{_-_}
 use mathlib.Core.Path.{sym}
 use mathlib.Core.List.{[]}
 use native.Mathlib.Omega.{arith}
-use Rattle.symbol_table.proofs.Reading.{names-read}
+use Rattle.definition.specs.Limit.{globalsLimit}
+use Rattle.definition.specs.Tag.{tagNames}
+use Rattle.field.proofs.Reading.{names-read}
 use Rattle.symbol_table.proofs.Starting.{Begun, begun-start, begun-here, begun-step, begun-none}
 use borrow.Author.Needs.{needs}
 use Rattle.symbol_table.proofs.globals.start_in.Statement.{statement}
@@ -19,7 +21,7 @@ add-at : tie.Need-add-at Inv-loop μ-loop
 add-at c =
     let s = c .before .before .before .before .before .before in
     let h = s .pre .1 .0 in
-    omega (arith, s .pre .0, names-read (s .args .session .now) (s .args .start) (h .names) (h .end) (h .reads) .fits)
+    omega (arith, s .pre .0, names-read (s .args .session .now) tagNames globalsLimit (s .args .start) (h .names) (h .end) (h .reads) .fits)
 
 loop-holds : tie.Need-loop-holds Inv-loop μ-loop
 loop-holds c =
