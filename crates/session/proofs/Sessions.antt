@@ -39,7 +39,7 @@ session-bytes-length z h =
     omega (arith, length-append (sessionFields z) (zeros k), length-replicate {A = ℕ} k 0)
 
 -- words and names are in front
-front-stands : (z : Session) {k : ℕ} → k ≡ length (frontFields (z .words) (z .globals)) → take k (sessionBytes z) ≡ frontFields (z .words) (z .globals)
+pub front-stands : (z : Session) {k : ℕ} → k ≡ length (frontFields (z .words) (z .globals)) → take k (sessionBytes z) ≡ frontFields (z .words) (z .globals)
 front-stands z {k} e =
     let front = frontFields (z .words) (z .globals) in
     let pool = field tagPool (poolBytes (z .pool)) in
@@ -115,7 +115,7 @@ written-back (listed ws) ns new s pool {end} p h =
     ∙ headed-fields s w all pool (length (namesBytes ns)) refl (omega arith)
 
 -- the field of a session's words is never shorter once they are listed
-words-longer : (w : Words) → length (wordsField w) ≤ length (wordsField (listed (wordList w)))
+pub words-longer : (w : Words) → length (wordsField w) ≤ length (wordsField (listed (wordList w)))
 words-longer six = omega arith
 words-longer (listed ws) = omega arith
 
