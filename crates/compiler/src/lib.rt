@@ -42,14 +42,14 @@ pub fn make_session_words(session: &mut [u8], names: &[u8]) -> Answer
             place: 0,
         });
     }
-    if !words_stand(names) {
-        return Answer::Refused(Refusal {
-            number: number::BAD_WORDS,
-            place: 0,
-        });
+    if words_stand(names) {
+        begin_session(session, names);
+        return Answer::Length(SESSION_SIZE);
     }
-    begin_session(session, names);
-    Answer::Length(SESSION_SIZE)
+    Answer::Refused(Refusal {
+        number: number::BAD_WORDS,
+        place: 0,
+    })
 }
 
 // Whether all that is lent is as long as number 1 asks.
