@@ -6,6 +6,7 @@ pub const TABLE_SIZE: usize = 16_384;
 
 extern "C" {
     fn monkey_make_session(session: *mut u8, session_length: usize) -> u64;
+    fn monkey_make_session_words(session: *mut u8, session_length: usize, names: *const u8, names_length: usize) -> u64;
     fn monkey_compile(
         session: *mut u8,
         session_length: usize,
@@ -40,6 +41,11 @@ fn unpack(answer: u64) -> Answer {
 
 pub fn make_session(session: &mut [u8]) -> Answer {
     unpack(unsafe { monkey_make_session(session.as_mut_ptr(), session.len()) })
+}
+
+/// A session with words, their name fields one behind the other.
+pub fn make_session_words(session: &mut [u8], names: &[u8]) -> Answer {
+    unpack(unsafe { monkey_make_session_words(session.as_mut_ptr(), session.len(), names.as_ptr(), names.len()) })
 }
 
 pub fn compile(session: &mut [u8], tree: &[u8], output: &mut [u8], code: &mut [u8], table: &mut [u32]) -> Answer {

@@ -24,9 +24,9 @@ use Rattle.bytecode.proofs.Items.{unlike, ended}
 abbrev pub nameContent : (ℕ → ℕ) → Head → ℕ → Decoded Bytes
 nameContent byte h in₀ = decoded (bytes byte in₀ (h .len)) (in₀ + h .len)
 
--- what follows the head of a session's names
-abbrev pub namesContent : (ℕ → ℕ) → Head → ℕ → Decoded (List Bytes)
-namesContent byte h in₀ = nameFields byte in₀ (in₀ + h .len)
+-- what follows the head of a field of names
+abbrev pub namesContent : (ℕ → ℕ) → ℕ → Head → ℕ → Decoded (List Bytes)
+namesContent byte most h in₀ = nameFields byte most in₀ (in₀ + h .len)
 
 -- what follows a pool's head
 abbrev pub poolContent : (ℕ → ℕ) → Head → ℕ → Decoded (List Const)

@@ -6,5 +6,6 @@ pub mod Instructions
 pub mod Constants
 pub mod Zeros
 pub mod Images
+pub mod Words
 pub mod Sessions
 pub mod Laid

@@ -1,16 +1,16 @@
 -- What the checks of code, constants, images and sessions answer, from what the definition reads.
 use Prim.Native.Nat.{ℕ, _+_, _≤_}
-use mathlib.Core.Bool.{Bool}
+use mathlib.Core.Bool.{Bool, true, false}
 use mathlib.Core.List.{List, []}
 use mathlib.Core.Path.{_≡_}
 use lib.ListN.{length}
 use Rattle.definition.specs.Basic.{Bytes, byteAt, pick}
-use Rattle.definition.specs.Limit.{constantsLimit, globalsLimit}
+use Rattle.definition.specs.Limit.{constantsLimit}
 use Rattle.definition.specs.Number.{refusal, noSession, badImage}
 use Rattle.definition.specs.Field.{Head, fits, head, nameHead}
 use Rattle.definition.specs.Bytecode.{Code, Const, Image}
-use Rattle.definition.specs.Session.{Session}
-use Rattle.definition.specs.Decode.{Decoded, decoded, malformed, then, items, readHead, poolHead, readCode, readConst, readNameField, readNames, readSession}
+use Rattle.definition.specs.Session.{Words, Session}
+use Rattle.definition.specs.Decode.{Decoded, decoded, malformed, then, items, readHead, poolHead, readCode, readConst, readNameField, readWords, readFront, readSession}
 use Rattle.bytecode.specs.Form.{constHeadIn, readConstIn, mainHeadIn}
 use Rattle.bytecode.specs.declared.Form.{Form}
 use Rattle.definition.specs.declared.Answer.{Answer}
@@ -62,6 +62,11 @@ abbrev pub checked : {A : Type 0} → Decoded (List A) → Checked
 checked (decoded xs n) = Good (length xs) n
 checked (malformed p) = Wrong p
 
+-- something was read
+abbrev pub isRead : {A : Type 0} → Decoded A → Bool
+isRead (decoded x n) = true
+isRead (malformed p) = false
+
 module _ (byte : ℕ → ℕ) where
   -- the content of a pool
   abbrev pub constants : ℕ → ℕ → Decoded (List Const)
@@ -71,9 +76,9 @@ module _ (byte : ℕ → ℕ) where
   abbrev pub constantsIn : Form → ℕ → ℕ → Decoded (List Const)
   constantsIn f start end = items (readConstIn f byte) constantsLimit [] start end
 
-  -- the content of a session's names
-  abbrev pub nameFields : ℕ → ℕ → Decoded (List Bytes)
-  nameFields start end = items (readNameField byte) globalsLimit [] start end
+  -- the content of a field of names, at most so many
+  abbrev pub nameFields : ℕ → ℕ → ℕ → Decoded (List Bytes)
+  nameFields most start end = items (readNameField byte) most [] start end
 
   -- an image's main code
   abbrev pub mainCode : Form → ℕ → Decoded Code
@@ -87,15 +92,21 @@ abbrev pub imageAnswer : Decoded Image → ImageCheck
 imageAnswer (decoded m n) = Sound (length (m .pool))
 imageAnswer (malformed p) = refused p
 
--- a session: where the names that were read end, where the pool ends, and how many of each there are
-abbrev pub layout : Decoded (List Bytes) → Decoded Session → Layout
-layout (decoded ns at) (decoded z n) =
-    Laid (record { «names_end» = at; «pool_end» = n; names = length (z .globals); constants = length (z .pool) })
-layout (decoded ns at) (malformed p) = Broken
-layout (malformed q) d = Broken
+-- a session: where the words and the names that were read end, where the pool ends, and how many names and constants there are
+abbrev pub layout : Decoded Words → Decoded (Words × List Bytes) → Decoded Session → Layout
+layout (decoded w k) (decoded f at) (decoded z n) =
+    Laid (record { «words_end» = k; «names_end» = at; «pool_end» = n; names = length (z .globals); constants = length (z .pool) })
+layout (decoded w k) (decoded f at) (malformed p) = Broken
+layout (decoded w k) (malformed q) d = Broken
+layout (malformed q) f d = Broken
 
 abbrev pub layoutOf : Bytes → Layout
-layoutOf b = layout (readNames (byteAt b) 0 (length b)) (readSession b)
+layoutOf b = layout (readWords (byteAt b) 0 (length b)) (readFront (byteAt b) 0 (length b)) (readSession b)
+
+-- the words of a session end there
+pub record WordsEnd (b : Bytes) (k : ℕ) : Type 0 where
+  pub words : Words
+  pub reads : readWords (byteAt b) 0 (length b) ≡ decoded words k
 
 -- a layout as document 01 numbers it: how many bytes its fields have, or number 2
 abbrev pub layoutAnswer : Layout → Answer

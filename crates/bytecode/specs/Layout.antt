@@ -7,7 +7,7 @@ use Rattle.definition.specs.Basic.{Bytes, byteAt}
 use Rattle.definition.specs.Limit.{constantsLimit, globalsLimit, poolLimit}
 use Rattle.definition.specs.Field.{head}
 use Rattle.definition.specs.Session.{Session}
-use Rattle.definition.specs.Decode.{decoded, allZero, readNames, readPool, readSession}
+use Rattle.definition.specs.Decode.{decoded, allZero, readWords, readNames, readPool, readSession}
 use Rattle.bytecode.specs.declared.SessionLayout.{SessionLayout}
 use Rattle.bytecode.specs.Checked.{constants, nameFields}
 
@@ -15,10 +15,12 @@ pub record LaidOut (b : Bytes) (l : SessionLayout) : Type 0 where
   -- the session that the bytes hold
   pub session : Session
   pub reads : readSession b ≡ decoded session (l .«pool_end»)
-  -- its names, from 3 on
-  pub names-read : readNames (byteAt b) 0 (length b) ≡ decoded (session .globals) (l .«names_end»)
-  pub names-field : 3 + head (byteAt b) 0 .len ≡ l .«names_end»
-  pub names-items : nameFields (byteAt b) 3 (l .«names_end») ≡ decoded (session .globals) (l .«names_end»)
+  -- its words, in front
+  pub words-read : readWords (byteAt b) 0 (length b) ≡ decoded (session .words) (l .«words_end»)
+  -- its names, behind them
+  pub names-read : readNames (byteAt b) (l .«words_end») (length b) ≡ decoded (session .globals) (l .«names_end»)
+  pub names-field : l .«words_end» + 3 + head (byteAt b) (l .«words_end») .len ≡ l .«names_end»
+  pub names-items : nameFields (byteAt b) globalsLimit (l .«words_end» + 3) (l .«names_end») ≡ decoded (session .globals) (l .«names_end»)
   pub names-count : length (session .globals) ≡ l .names
   pub names-few : l .names ≤ globalsLimit
   -- its pool, behind them

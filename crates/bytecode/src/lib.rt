@@ -4,15 +4,16 @@ use definition::limit;
 use definition::number;
 use definition::tag;
 use field::length_at;
+use field::names::distinct_names;
 use opcode::size_by;
 use opcode::table::WIDTHS;
 ghost use mathlib.Core.Path.{_≡_};
 ghost use Prim.Native.Nat.{ℕ, _+_, _≤_};
 ghost use lib.ListN.{length};
 ghost use Rattle.definition.specs.Basic.{byteAt};
-ghost use Rattle.definition.specs.Decode.{allZero, readCode, readImage, readNameField, readNames};
+ghost use Rattle.definition.specs.Decode.{allZero, readCode, readImage, readNameField, readNameFields, readWords, readHanded};
 ghost use Rattle.bytecode.specs.Form.{tagMainIn, tagFunctionIn, readConstIn, readPoolIn, readForm};
-ghost use Rattle.bytecode.specs.Checked.{Part, headOf, isConstant, isPool, isMain, isName, headAnswer, item, checked, constantsIn, nameFields, mainCode, refused, imageAnswer, LaysOut};
+ghost use Rattle.bytecode.specs.Checked.{Part, headOf, isConstant, isPool, isMain, isName, headAnswer, item, checked, constantsIn, nameFields, mainCode, refused, imageAnswer, isRead, layoutOf, WordsEnd, LaysOut};
 
 // The tags of the chin unit's main code and functions.
 pub const CHIN_MAIN: u8 = 0x58;
@@ -69,8 +70,9 @@ pub enum ImageCheck {
     Refused(Refusal),
 }
 
-// Where a session's parts lie: its names end, its pool ends, and how many of each there are.
+// Where a session's parts lie: its words end, its names end, its pool ends, and how many names and constants there are.
 pub struct SessionLayout {
+    pub words_end: usize,
     pub names_end: usize,
     pub pool_end: usize,
     pub names: usize,
@@ -293,15 +295,15 @@ fn check_name(bytes: &[u8], at: usize, end: usize) -> Item
     }
 }
 
-// Check that names, at most 1,024, fill the part from `start` up to `end`.
-fn check_name_fields(bytes: &[u8], start: usize, end: usize) -> Checked
+// Check that names, at most so many, fill the part from `start` up to `end`.
+fn check_name_fields(bytes: &[u8], start: usize, end: usize, most: usize) -> Checked
     requires { ⌜ Part (now bytes) start end ⌝ }
-    ensures { λ r. ⌜ r ≡ checked (nameFields (byteAt (now (bytes .entry))) start end) ⌝ }
+    ensures { λ r. ⌜ r ≡ checked (nameFields (byteAt (now (bytes .entry))) most start end) ⌝ }
 {
     let mut at = start;
     let mut count = 0;
     while at < end {
-        if count == limit::GLOBALS_LIMIT {
+        if count == most {
             return Checked::Wrong(at);
         }
         match check_name(bytes, at, end) {
@@ -315,18 +317,50 @@ fn check_name_fields(bytes: &[u8], start: usize, end: usize) -> Checked
     Checked::Good(count, at)
 }
 
-// Check a session's names.
-fn check_names(session: &[u8]) -> Checked
-    ensures { λ r. ⌜ r ≡ checked (readNames (byteAt (now (session .entry))) 0 (length (now (session .entry)))) ⌝ }
+// Check a field of names at `at`, of a tag, and at most so many.
+fn check_names(session: &[u8], at: usize, tag: u8, most: usize) -> Checked
+    requires { ⌜ Part (now session) at (length (now session)) ⌝ }
+    ensures { λ r. ⌜ r ≡ checked (readNameFields (byteAt (now (session .entry))) tag most at (length (now (session .entry)))) ⌝ }
 {
-    match head_at(session, 0, session.len()) {
-        FieldHead::Cut => Checked::Wrong(0),
-        FieldHead::Whole(tag, len) => {
-            if tag != tag::NAMES {
-                return Checked::Wrong(0);
+    match head_at(session, at, session.len()) {
+        FieldHead::Cut => Checked::Wrong(at),
+        FieldHead::Whole(found, len) => {
+            if found != tag {
+                return Checked::Wrong(at);
             }
-            check_name_fields(session, 3, 3 + len)
+            check_name_fields(session, at + 3, at + 3 + len, most)
         }
+    }
+}
+
+// Check a session's words: its own, where it begins with their tag. The offset after them.
+fn check_words(session: &[u8]) -> Item
+    ensures { λ r. ⌜ r ≡ item (readWords (byteAt (now (session .entry))) 0 (length (now (session .entry)))) ⌝ }
+{
+    if session.len() == 0 {
+        return Item::Next(0);
+    }
+    if session[0] != tag::WORDS {
+        return Item::Next(0);
+    }
+    match check_names(session, 0, tag::WORDS, limit::WORDS_LIMIT) {
+        Checked::Wrong(place) => Item::Wrong(place),
+        Checked::Good(_, end) => {
+            if distinct_names(session, 3, end) {
+                return Item::Next(end);
+            }
+            Item::Wrong(end)
+        }
+    }
+}
+
+// Whether bytes that are handed over are the name fields of a list of words.
+pub fn words_stand(names: &[u8]) -> bool
+    ensures { λ r. ⌜ r ≡ isRead (readHanded (now (names .entry))) ⌝ }
+{
+    match check_name_fields(names, 0, names.len(), limit::WORDS_LIMIT) {
+        Checked::Wrong(_) => false,
+        Checked::Good(_, end) => distinct_names(names, 0, end),
     }
 }
 
@@ -343,11 +377,12 @@ fn all_zero(bytes: &[u8]) -> bool
     any == 0
 }
 
-// Read a session's layout: its names, its pool, and zeros up to the end.
-pub fn read_layout(session: &[u8]) -> Layout
-    ensures { λ r. ⌜ LaysOut (now (session .entry)) r ⌝ }
+// Read what is behind a session's words: its names, its pool, and zeros up to the end.
+fn read_behind(session: &[u8], start: usize) -> Layout
+    requires { ⌜ WordsEnd (now session) start ⌝ }
+    ensures { λ r. ⌜ r ≡ layoutOf (now (session .entry)) ⌝ }
 {
-    match check_names(session) {
+    match check_names(session, start, tag::NAMES, limit::GLOBALS_LIMIT) {
         Checked::Wrong(_) => Layout::Broken,
         Checked::Good(names, names_end) => match check_pool(
             session,
@@ -359,6 +394,7 @@ pub fn read_layout(session: &[u8]) -> Layout
             Checked::Good(constants, pool_end) => {
                 if all_zero(&session[pool_end..]) {
                     return Layout::Sound(SessionLayout {
+                        words_end: start,
                         names_end: names_end,
                         pool_end: pool_end,
                         names: names,
@@ -368,5 +404,15 @@ pub fn read_layout(session: &[u8]) -> Layout
                 Layout::Broken
             }
         },
+    }
+}
+
+// Read a session's layout: its words, its names, its pool, and zeros up to the end.
+pub fn read_layout(session: &[u8]) -> Layout
+    ensures { λ r. ⌜ LaysOut (now (session .entry)) r ⌝ }
+{
+    match check_words(session) {
+        Item::Wrong(_) => Layout::Broken,
+        Item::Next(words_end) => read_behind(session, words_end),
     }
 }

@@ -18,6 +18,8 @@ pub mod Fields
 pub mod Instructions
 pub mod Pools
 pub mod Sessions
+pub mod Distinct
+pub mod Making
 pub mod Images
 pub mod Series
 pub mod Account
@@ -27,6 +29,7 @@ pub mod Branches
 pub mod Chunks
 pub mod Scopes
 pub mod Invariant
+pub mod Words
 pub mod Fitting
 pub mod Trusted
 pub mod Untrusted

@@ -10,7 +10,7 @@ use lib.Dec.{T, leb}
 use borrow.Author.Tests.{leb-true}
 use Rattle.definition.specs.Basic.{Bytes}
 use Rattle.definition.specs.Limit.{sessionSize, codeSize, tableSize, treeLimit, imageLimit}
-use Rattle.definition.specs.Number.{refusal, isOneOf, treeNumbers, walkNumbers, callNumbers, makeNumbers}
+use Rattle.definition.specs.Number.{refusal, isOneOf, treeNumbers, walkNumbers, callNumbers, makeNumbers, wordNumbers}
 use Rattle.definition.specs.Tag.{tagMain, tagPool}
 use Rattle.definition.specs.Syntax.{Stmts}
 use Rattle.definition.specs.Field.{field}
@@ -18,10 +18,10 @@ use Rattle.definition.specs.Bytecode.{Image, encode, poolBytes, imageByt
 use Rattle.definition.specs.Walk.{Res}
 use Rattle.definition.specs.Compiler.{State}
 use Rattle.definition.specs.Tree.{Parsed, readTree}
-use Rattle.definition.specs.Session.{Session}
-use Rattle.definition.specs.Decode.{Decoded, decoded, malformed, readSession}
+use Rattle.definition.specs.Session.{Words, Session}
+use Rattle.definition.specs.Decode.{Decoded, decoded, malformed, readHanded, readSession}
 use Rattle.definition.specs.Compile.{Outcome, Step, Request, imageOf, start, finish, translate, enough, compile}
-use Rattle.definition.specs.Call.{Lent, Called, answered, inSession, request, call, Made, made}
+use Rattle.definition.specs.Call.{Lent, Called, answered, inSession, request, call, Made, made, beginsWith, madeWords}
 use Rattle.definition.specs.Valid.{AreBytes, ValidImage}
 use Rattle.definition.specs.declared.Refusal.{Refusal}
 use Rattle.definition.specs.declared.Answer.{Answer}
@@ -48,6 +48,15 @@ nowhere {n = n} h = Within.refused {r = refusal n 0} (record { number = h; place
 pub made-within : (s : Bytes) → Within sessionSize makeNumbers 0 (made s .answer)
 unfolding made
 made-within s = chosen (λ (m : Made). Within sessionSize makeNumbers 0 (m .answer)) (leb sessionSize (length s)) (λ _. Within.wrote (omega arith)) (λ _. nowhere tt)
+
+-- making one with words: its length, number 1 or 19
+pub made-words-within : (s names : Bytes) → Within sessionSize wordNumbers 0 (madeWords s names .answer)
+unfolding madeWords
+made-words-within s names = chosen (λ (m : Made). Within sessionSize wordNumbers 0 (m .answer)) (leb sessionSize (length s)) (λ _. go (readHanded names)) (λ _. nowhere tt)
+  where
+    go : (d : Decoded Words) → Within sessionSize wordNumbers 0 (beginsWith d s .answer)
+    go (decoded w n) = Within.wrote {n = sessionSize} (omega arith)
+    go (malformed p) = nowhere tt
 
 -- a valid image is no longer than its parts' limits
 pub image-within : (m : Image) → ValidImage m → length (imageBytes m) ≤ imageLimit

@@ -7,20 +7,22 @@ use mathlib.Core.Logic.{_↔_}
 use mathlib.Core.Option.{none, some}
 use mathlib.Core.Path.{_≡_, refl, sym, ap, subst, _∙_}
 use lib.ListN.{length}
-use lib.Dec.{leb, T}
+use lib.Dec.{leb, T, leb→le}
 use borrow.Author.Tests.{leb-true}
 use Rattle.definition.specs.Basic.{Bytes, byteAt, pick}
+use Rattle.definition.specs.Limit.{nameLimit}
 use Rattle.definition.specs.Number
 use Rattle.definition.specs.Number.{refusal, isOneOf, treeNumbers, walkNumbers, translateNumbers}
 use Rattle.definition.specs.Syntax.{Stmts}
 use Rattle.definition.specs.Bytecode.{Image, imageBytes}
 use Rattle.definition.specs.Walk.{Res, walkStmts}
+use Rattle.definition.specs.SymbolTable.{builtins, same, findBuiltin, distinct}
 use Rattle.definition.specs.Compiler.{State, machine}
 use Rattle.definition.specs.Tree.{Read, Parsed, judged, readProgram, readTree}
 use Rattle.definition.specs.Shape.{shape}
-use Rattle.definition.specs.Session.{Session, fresh}
+use Rattle.definition.specs.Session.{Words, six, listed, wordList, Session, begun}
 use Rattle.definition.specs.Compile.{Outcome, Step, Request, imageOf, sessionOf, start, turnedDown, finish, translate, enough, compile}
-use Rattle.definition.specs.Valid.{All, ValidImage, ValidPool, ValidSession}
+use Rattle.definition.specs.Valid.{All, IsName, ValidImage, ValidPool, ValidList, ValidWords, ValidSession}
 use Rattle.definition.specs.declared.Refusal.{Refusal}
 use Rattle.definition.proofs.Basic.{picked, chosen}
 use Rattle.definition.proofs.Numbers.{among}
@@ -64,11 +66,23 @@ module _ {A : Type 0} (P : Parsed Stmts → A → Type 0) (f : Parsed Stmts → 
 
 -- A valid session stays valid
 
-pub fresh-valid : ValidSession fresh
-fresh-valid = record { count = omega arith; names = All.none; pool = record { count = omega arith; size = omega arith; each = All.none } }
+pub begun-valid : (w : Words) → ValidWords w → ValidSession (begun w)
+begun-valid w v = record { words = v; count = omega arith; names = All.none; pool = record { count = omega arith; size = omega arith; each = All.none } }
+
+-- document 01's words are a list as good as any
+pub six-valid : ValidList builtins
+unfolding distinct findBuiltin same
+six-valid = record { count = omega arith; names = All.more (name _ tt tt) (All.more (name _ tt tt) (All.more (name _ tt tt) (All.more (name _ tt tt) (All.more (name _ tt tt) (All.more (name _ tt tt) All.none))))); unrepeated = refl }
+  where
+    name : (n : Bytes) → T (leb 1 (length n)) → T (leb (length n) nameLimit) → IsName n
+    name n t u = record { some = leb→le 1 (length n) t; short = leb→le (length n) nameLimit u }
+
+pub list-valid : (w : Words) → ValidWords w → ValidList (wordList w)
+list-valid six v = six-valid
+list-valid (listed ws) v = v
 
 pub start-valid : (z : Session) → ValidSession z → ValidState (start z)
-start-valid z v = record { size = omega arith; code = All.none; tables = All.none; session = v }
+start-valid z v = record { size = omega arith; code = All.none; tables = All.none; session = record { words = list-valid (z .words) (v .words); count = v .count; names = v .names; pool = v .pool } }
 
 -- the numbers of a call past number 2
 abbrev pub CallNumber : ℕ → Type 0
@@ -144,9 +158,17 @@ pub data OutcomeLike : Outcome → Outcome → Type 0 where
   accepted : {x y : Image} → Alike eraseImage x y → OutcomeLike (Outcome.accepted x) (Outcome.accepted y)
   refused : (r : Refusal) → OutcomeLike (Outcome.refused r) (Outcome.refused r)
 
-pub record StepLike (x y : Step) : Type 0 where
+-- sessions that start alike; where they are compared, in the number of fields too
+pub record SessionLike (compared : Type 0) (z w : Session) : Type 0 where
+  pub starts : Alike erase (start z) (start w)
+  pub bytes : compared → Alike eraseSession z w
+
+pub like-itself : {compared : Type 0} (z : Session) → SessionLike compared z z
+like-itself z = record { starts = self (start z); bytes = λ _. self z }
+
+pub record StepLike (compared : Type 0) (x y : Step) : Type 0 where
   pub outcome : OutcomeLike (x .outcome) (y .outcome)
-  pub session : Alike eraseSession (x .session) (y .session)
+  pub session : SessionLike compared (x .session) (y .session)
 
 -- the call with its tree's shape
 abbrev pub withShape : Request → Request
@@ -155,23 +177,27 @@ withShape c = record { code = c .code; table = c .table; session = c .session; o
 images : {s t : State} → Alike erase s t → Alike eraseImage (imageOf s) (imageOf t)
 images r = record { erased = λ k. imageOf (r .erased k) }
 
-module _ {z w : Session} (e : Alike eraseSession z w) where
-  turnedDown-like : (r : Refusal) → StepLike (turnedDown z r) (turnedDown w r)
+-- where walks end alike, the sessions are alike
+ended : {compared : Type 0} {s t : State} → Alike erase s t → SessionLike compared (sessionOf s) (sessionOf t)
+ended r = record { starts = record { erased = λ k. start (sessionOf (r .erased k)) }; bytes = λ _. record { erased = λ k. sessionOf (r .erased k) } }
+
+module _ {compared : Type 0} {z w : Session} (e : SessionLike compared z w) where
+  turnedDown-like : (r : Refusal) → StepLike compared (turnedDown z r) (turnedDown w r)
   turnedDown-like r = record { outcome = OutcomeLike.refused r; session = e }
 
-  finish-like : (n : ℕ) {x y : Res State (Unit {0})} → Same x y → StepLike (finish n z x) (finish n w y)
+  finish-like : (n : ℕ) {x y : Res State (Unit {0})} → Same x y → StepLike compared (finish n z x) (finish n w y)
   finish-like n (Both.on a r) =
-      picked StepLike (λ k. leb (image-length (images r) k) n)
-      (record { outcome = OutcomeLike.accepted (images r); session = record { erased = λ k. sessionOf (r .erased k) } }) (turnedDown-like _)
+      picked (StepLike compared) (λ k. leb (image-length (images r) k) n)
+      (record { outcome = OutcomeLike.accepted (images r); session = ended r }) (turnedDown-like _)
   finish-like n (Both.stop r _ h) = turnedDown-like r
 
-  pub compile-like : (c : Request) → StepLike (compile z c) (compile w (withShape c))
+  pub compile-like : (c : Request) → StepLike compared (compile z c) (compile w (withShape c))
   unfolding compile
   compile-like c =
-      picked StepLike {b = enough c} refl
-      (subst (λ p. StepLike (translate (c .output) z (readTree (c .tree))) (translate (c .output) w p)) (read-shape (c .tree))
-      (by-reading (λ p x. StepLike x (translate (c .output) w (mapParsed (mapStmts blank) p))) (λ p. translate (c .output) z p)
-      (λ b _ h. finish-like (c .output) (walk-shape b h (record { erased = λ k. start (e .erased k) }))) (λ r _. turnedDown-like r) (c .tree)))
+      picked (StepLike compared) {b = enough c} refl
+      (subst (λ p. StepLike compared (translate (c .output) z (readTree (c .tree))) (translate (c .output) w p)) (read-shape (c .tree))
+      (by-reading (λ p x. StepLike compared x (translate (c .output) w (mapParsed (mapStmts blank) p))) (λ p. translate (c .output) z p)
+      (λ b _ h. finish-like (c .output) (walk-shape b h (e .starts))) (λ r _. turnedDown-like r) (c .tree)))
       (turnedDown-like _)
 
 -- a tree and its shape are refused alike
@@ -180,7 +206,7 @@ refused-like (OutcomeLike.accepted _) r = (λ e. absurd (accepted-not-refused _ 
 refused-like (OutcomeLike.refused q) r = (λ e. e, λ e. e)
 
 pub shape-refused : (z : Session) (c : Request) (r : Refusal) → (compile z c .outcome ≡ Outcome.refused r) ↔ (compile z (withShape c) .outcome ≡ Outcome.refused r)
-shape-refused z c r = refused-like (compile-like (self z) c .outcome) r
+shape-refused z c r = refused-like (compile-like {compared = Unit {0}} (like-itself z) c .outcome) r
 
 -- An image that was accepted fits the output
 

@@ -1,5 +1,5 @@
--- Every image of a session that was started fresh, and that compile calls alone have written, keeps the promise of specs/Trusted (P2).
-use Prim.Native.Nat.{ℕ, _≤_, _<_}
+-- Every image of a session that was made, and that compile calls alone have written, keeps the promise of specs/Trusted (P2).
+use Prim.Native.Nat.{ℕ, _<_}
 use native.Mathlib.Omega.{arith}
 use mathlib.Core.Bool.{Bool, true, false}
 use mathlib.Core.List.{List, [], _∷_}
@@ -8,15 +8,14 @@ use mathlib.Core.Path.{_≡_, refl, sym, ap, subst, _∙_}
 use lib.ListN.{length, take}
 use lib.Dec.{eqb}
 use Rattle.definition.specs.Basic.{Bytes, pick}
-use Rattle.definition.specs.Limit.{sessionSize}
 use Rattle.definition.specs.Opcode.{Instr, opClosure, opGetFree}
 use Rattle.definition.specs.Bytecode.{Code, Const, Image, imageBytes}
-use Rattle.definition.specs.Session.{Session, fresh, sessionFields}
+use Rattle.definition.specs.Session.{Words, Session, begun, sessionFields}
 use Rattle.definition.specs.Decode.{decoded, readImage, readSession}
 use Rattle.definition.specs.Compile.{Outcome, Request, imageOf, sessionOf, compile, steps}
 use Rattle.definition.specs.Call.{Called, request}
-use Rattle.definition.specs.Series.{Call, sessionMade, lent, calls}
-use Rattle.definition.specs.Valid.{All, ValidImage, ValidSession}
+use Rattle.definition.specs.Series.{Start, Call, lent, calls}
+use Rattle.definition.specs.Valid.{All, ValidImage, ValidWords, ValidSession}
 use Rattle.definition.specs.Trusted.{Stands, constantAt, Chunk, Lands, TrustedChunk, Trusted, TrustedOutput, TrustedCall, TrustedStep}
 use Rattle.definition.specs.declared.Answer.the-variants.{Length}
 use Rattle.definition.specs.SymbolTable.{Table}
@@ -29,8 +28,8 @@ use Rattle.definition.proofs.Chunks.{AllAt, all-stands, Inner, inner-st
 use Rattle.definition.proofs.Fitting.{scopeOf, closedScope, ConstFits, Kept, keeps-stmts}
 use Rattle.definition.proofs.Images.{read-image}
 use Rattle.definition.proofs.Sessions.{read-session}
-use Rattle.definition.proofs.Steps.{fresh-valid, compile-valid}
-use Rattle.definition.proofs.Series.{Holds as HoldsSession, Gave, CallIs, front, call-does, made-holds}
+use Rattle.definition.proofs.Steps.{begun-valid, compile-valid}
+use Rattle.definition.proofs.Series.{Holds as HoldsSession, Gave, CallIs, front, call-does, start-holds}
 
 -- From what fits to what is trusted
 
@@ -124,9 +123,9 @@ fitting = record { walked = λ b z f c w x. whole refl (keeps-stmts b x (record 
         let same : scopeOf w ≡ mainScope (length (w .globals)) (w .pool) = λ i. record { locals = localsOf (e i); captures = capturesOf (e i); depth = length (e i); globals = length (w .globals); pool = w .pool } in
         record { session = record { pool = k .good .pool }; image = record { main = subst (λ s. AllAt (Fits (Inner 0 c) s) 0 c) same (k .code); pool = k .good .pool } }
 
--- a fresh session
-fresh-fits : FitSession fresh
-fresh-fits = record { pool = All.none }
+-- a session that was begun
+begun-fits : (w : Words) → FitSession (begun w)
+begun-fits w = record { pool = All.none }
 
 -- Series of calls
 
@@ -139,9 +138,9 @@ trusted-from : (z : Session) → ValidSession z → FitSession z → (cs : List 
 trusted-from z v f [] = All.none
 trusted-from z v f (c ∷ cs) = All.more (trusted-step z v f c) (trusted-from (compile z c .session) (compile-valid z v c .session) (keeps-compile fitting z f c .session) cs)
 
--- P2, by the definition: in every series of calls from a fresh session
-pub trusted-steps : (cs : List Request) → All TrustedStep (steps fresh cs)
-trusted-steps cs = trusted-from fresh fresh-valid fresh-fits cs
+-- P2, by the definition: in every series of calls from a session begun with valid words
+pub trusted-steps : (w : Words) → ValidWords w → (cs : List Request) → All TrustedStep (steps (begun w) cs)
+trusted-steps w v cs = trusted-from (begun w) (begun-valid w v) (begun-fits w) cs
 
 -- the image that a call wrote
 wrote : {o : Outcome} {x : Called} {s : Bytes} {k : ℕ} {z : Session} → CallIs x s k o z → ((m : Image) → o ≡ Outcome.accepted m → Trusted m z) → TrustedCall x
@@ -169,6 +168,6 @@ calls-trusted s z h f (c ∷ cs) =
     let q = request (lent s c) (c .tree) in
     All.more (wrote d (λ m e. trusted-step z (h .valid) f q .image m e)) (calls-trusted _ (compile z q .session) (d .holds) (keeps-compile fitting z f q .session) cs)
 
--- P2, on lent memory: in every series of calls on a session that was made in a buffer
-pub trusted-calls : (a : Bytes) → sessionSize ≤ length a → (cs : List Call) → All TrustedCall (calls (sessionMade a) cs)
-trusted-calls a h cs = calls-trusted (sessionMade a) fresh (made-holds a h) fresh-fits cs
+-- P2, on lent memory: in every series of calls on a session that was made in a buffer, with either call
+pub trusted-calls : {s : Bytes} {w : Words} → Start s w → (cs : List Call) → All TrustedCall (calls s cs)
+trusted-calls {s} {w} x cs = calls-trusted s (begun w) (start-holds x) (begun-fits w) cs

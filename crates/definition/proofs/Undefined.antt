@@ -16,12 +16,12 @@ use Rattle.definition.specs.Number.{refusal}
 use Rattle.definition.specs.Opcode.{Instr, size}
 use Rattle.definition.specs.Bytecode.{sizeOf}
 use Rattle.definition.specs.Walk.{Res, refuse}
-use Rattle.definition.specs.SymbolTable.{Symbol, Entry, Table, Resolved, same, find, findGlobal, findBuiltin, builtins, outermost, capture, cross, orOuter, resolve, loadOf}
+use Rattle.definition.specs.SymbolTable.{Symbol, Entry, Table, Resolved, same, find, findGlobal, findBuiltin, outermost, capture, cross, orOuter, resolve, loadOf}
 use Rattle.definition.specs.Compiler.{State, withCode, withTables, emitBeside, emit, loaded, load}
 use Rattle.definition.specs.Valid.{All}
 use Rattle.definition.proofs.Basic.{pick-false, chosen}
 
--- no reachable table holds a name: no open function's, not the globals, not the builtins
+-- no reachable table holds a name: no open function's, not the globals, not the session's words
 pub record Unheld (bs gs : List Bytes) (n : Bytes) (ts : List Table) : Type 0 where
   pub tables : All (λ (t : Table). All (λ (e : Entry). e .name ≡ n → ⊥) (t .entries)) ts
   pub globals : All (λ m. m ≡ n → ⊥) gs
@@ -149,9 +149,9 @@ emit-known p i s t =
     (λ _ e. let q : refusal Number.code p ≡ refusal Number.undefined p = cc in omega (arith, ap (λ r. r .number) q))
 
 -- Number 5 at an Identifier: exactly when no reachable table holds its name
-pub load-undefined : (p : ℕ) (n : Bytes) (s : State) → (load p n s ≡ refuse Number.undefined p s) ↔ Unheld builtins (s .globals) n (s .tables)
+pub load-undefined : (p : ℕ) (n : Bytes) (s : State) → (load p n s ≡ refuse Number.undefined p s) ↔ Unheld (s .words) (s .globals) n (s .tables)
 unfolding load
-load-undefined p n s = (λ e. resolve-undefined builtins (s .globals) n (s .tables) .0 (go (resolve builtins (s .globals) n (s .tables)) e), λ u. ap (loaded p s) (resolve-undefined builtins (s .globals) n (s .tables) .1 u))
+load-undefined p n s = (λ e. resolve-undefined (s .words) (s .globals) n (s .tables) .0 (go (resolve (s .words) (s .globals) n (s .tables)) e), λ u. ap (loaded p s) (resolve-undefined (s .words) (s .globals) n (s .tables) .1 u))
   where
     go : (r : Resolved) → loaded p s r ≡ refuse Number.undefined p s → r ≡ Resolved.undefined
     go (Resolved.found y ts) e = absurd (emit-known p (loadOf y) (withTables ts s) s e)

@@ -13,7 +13,7 @@ use Rattle.definition.specs.Syntax.{Stmt, Stmts, Else, Expr, Exprs, coun
 use Rattle.definition.specs.Opcode.{Instr, instr, plain, size, opConstant, opPop, opReturnValue, opReturn}
 use Rattle.definition.specs.Bytecode.{Const, sizeOf, poolSize}
 use Rattle.definition.specs.Walk.{Res, bind, Machine, operate, prefixes, infixes, lessThan, walkStmt, walkStmts, walkElse, walkExpr, walkExprs}
-use Rattle.definition.specs.SymbolTable.{Table, Symbol, Resolved, builtins, resolve, place}
+use Rattle.definition.specs.SymbolTable.{Table, Symbol, Resolved, resolve, place}
 use Rattle.definition.specs.Compiler.{State, machine, literal, booleanOf, emitBeside, addConstant, lastIs, load, loaded, define, placed, dropped, jump, enter, returned, loads, closeOver, leave}
 use Rattle.definition.specs.declared.Refusal.{Refusal}
 use Rattle.definition.proofs.Basic.{chosen}
@@ -126,7 +126,7 @@ module _ {bound p : ℕ} (h : p ≤ bound) where
 
   loads-one : (n : Bytes) (s : State) → Refuses bound (load p n s)
   unfolding load
-  loads-one n s = go (resolve builtins (s .globals) n (s .tables))
+  loads-one n s = go (resolve (s .words) (s .globals) n (s .tables))
     where
       go : (f : Resolved) → Refuses bound (loaded p s f)
       go (Resolved.found y ts) = emitted 0 _ _

@@ -10,28 +10,29 @@ use Rattle.definition.specs.Number
 use Rattle.definition.specs.Opcode.{Instr, instr, plain, size, opConstant, opPop, opTrue, opFalse, opReturnValue, opReturn, opClosure}
 use Rattle.definition.specs.Bytecode.{Code, sizeOf, Const, poolSize}
 use Rattle.definition.specs.Walk.{Res, on, refuse, bind, Go, Machine}
-use Rattle.definition.specs.SymbolTable.{Symbol, Table, Resolved, Defined, builtins, resolve, loadOf, place, named, withParams}
+use Rattle.definition.specs.SymbolTable.{Symbol, Table, Resolved, Defined, resolve, loadOf, place, named, withParams}
 
 -- the code of the chunk in work; the bytes of the open chunks around it; the tables of the open functions, the innermost first;
--- the global names and the constants, the latest first
+-- the session's words, in index order; the global names and the constants, the latest first
 pub record State : Type 0 where
   pub code : Code
   pub around : ℕ
   pub tables : List Table
+  pub words : List Bytes
   pub globals : List Bytes
   pub pool : List Const
 
 abbrev pub withCode : Code → State → State
-withCode c s = record { code = c; around = s .around; tables = s .tables; globals = s .globals; pool = s .pool }
+withCode c s = record { code = c; around = s .around; tables = s .tables; words = s .words; globals = s .globals; pool = s .pool }
 
 abbrev pub withTables : List Table → State → State
-withTables ts s = record { code = s .code; around = s .around; tables = ts; globals = s .globals; pool = s .pool }
+withTables ts s = record { code = s .code; around = s .around; tables = ts; words = s .words; globals = s .globals; pool = s .pool }
 
 abbrev pub withSymbols : List Bytes → List Table → State → State
-withSymbols gs ts s = record { code = s .code; around = s .around; tables = ts; globals = gs; pool = s .pool }
+withSymbols gs ts s = record { code = s .code; around = s .around; tables = ts; words = s .words; globals = gs; pool = s .pool }
 
 abbrev pub withPool : List Const → State → State
-withPool cs s = record { code = s .code; around = s .around; tables = s .tables; globals = s .globals; pool = cs }
+withPool cs s = record { code = s .code; around = s .around; tables = s .tables; words = s .words; globals = s .globals; pool = cs }
 
 -- an instruction more, while a chunk of `closing` bytes still counts as open
 unfoldable pub emitBeside : ℕ → ℕ → Instr → Go State
@@ -61,7 +62,7 @@ loaded p s Resolved.undefined = refuse Number.undefined p s
 loaded p s Resolved.full = refuse Number.captures p s
 
 unfoldable pub load : ℕ → Bytes → Go State
-load p n s = loaded p s (resolve builtins (s .globals) n (s .tables))
+load p n s = loaded p s (resolve (s .words) (s .globals) n (s .tables))
 
 abbrev pub placed : ℕ → State → Defined → Res State Instr
 placed p s (Defined.defined i gs ts) = on i (withSymbols gs ts s)
@@ -105,7 +106,7 @@ unfoldable pub enter : ℕ → Bytes → List Bytes → Go State
 enter p n ps s =
     pick (leb nestingLimit (length (s .tables))) (refuse Number.nesting p s)
     (pick (ltb argumentsLimit (length ps)) (refuse Number.tooMany p s)
-    (on tt (record { code = []; around = s .around + sizeOf (s .code); tables = withParams ps (named n) ∷ s .tables; globals = s .globals; pool = s .pool })))
+    (on tt (record { code = []; around = s .around + sizeOf (s .code); tables = withParams ps (named n) ∷ s .tables; words = s .words; globals = s .globals; pool = s .pool })))
 
 -- the last Pop becomes ReturnValue; where ReturnValue isn't last, Return follows
 unfoldable pub returned : ℕ → Go State
@@ -122,7 +123,7 @@ loads closing p (y ∷ ys) s = bind (loads closing p ys s) (λ _. emitBeside clo
 abbrev pub closeOver : ℕ → ℕ → State → State → List Table → Res State (Unit {0})
 closeOver p params outer inner [] = on tt outer
 closeOver p params outer inner (t ∷ ts) =
-    bind (loads (sizeOf (inner .code)) p (t .originals) (record { code = outer .code; around = outer .around; tables = ts; globals = inner .globals; pool = inner .pool })) (λ _ s₁.
+    bind (loads (sizeOf (inner .code)) p (t .originals) (record { code = outer .code; around = outer .around; tables = ts; words = inner .words; globals = inner .globals; pool = inner .pool })) (λ _ s₁.
     bind (addConstant p (Const.function (t .definitions) params (inner .code)) s₁) (λ k.
     emit p (instr opClosure k (length (t .originals)))))
 

@@ -1,16 +1,17 @@
 -- Reading code, the pool, an image and a session from bytes: what they hold, or the offset of the first thing that is wrong.
 use Prim.Native.Nat.{ℕ, zero, suc, _+_, _*_}
 use mathlib.Core.Bool.{Bool, true, false}
-use mathlib.Core.List.{List, [], _∷_}
+use mathlib.Core.List.{List, [], _∷_, reverse}
 use lib.ListN.{length, drop}
 use lib.Dec.{leb, eqb}
 use Rattle.definition.specs.Basic.{Bytes, byteAt, pick, both}
-use Rattle.definition.specs.Limit.{codeSize, poolLimit, constantsLimit, globalsLimit}
-use Rattle.definition.specs.Tag.{tagNames, tagMain, tagPool, tagIntegerConst, tagStringConst, tagFunctionConst}
+use Rattle.definition.specs.Limit.{codeSize, poolLimit, constantsLimit, globalsLimit, wordsLimit}
+use Rattle.definition.specs.Tag.{tagWords, tagNames, tagMain, tagPool, tagIntegerConst, tagStringConst, tagFunctionConst}
 use Rattle.definition.specs.Opcode.{Instr, size, whole, instrAt}
 use Rattle.definition.specs.Field.{Head, tagged, nameHead, fits, bytes, head}
 use Rattle.definition.specs.Bytecode.{Code, Const, Image}
-use Rattle.definition.specs.Session.{Session}
+use Rattle.definition.specs.SymbolTable.{distinct}
+use Rattle.definition.specs.Session.{Words, six, listed, wordList, Session}
 
 -- what was read, and the offset after it; or the offset of what is wrong
 pub data Decoded (A : Type 0) : Type 0 where
@@ -31,6 +32,10 @@ items f zero xs at end = ending xs at end
 items f (suc most) xs at end =
     let more = then (f at end) (λ x at₁. items f most (x ∷ xs) at₁ end) in
     pick (eqb at end) (decoded xs at) more
+
+-- names, the latest first, as words: in index order, none repeated
+abbrev pub asWords : List Bytes → ℕ → Decoded Words
+asWords ns at = pick (distinct (reverse ns)) (decoded (listed (reverse ns)) at) (malformed at)
 
 module _ (byte : ℕ → ℕ) where
   -- an instruction
@@ -82,9 +87,21 @@ module _ (byte : ℕ → ℕ) where
   abbrev pub readNameField : ℕ → ℕ → Decoded Bytes
   readNameField at end = then (readHead (nameHead 1) at end) (λ h in₀. decoded (bytes byte in₀ (h .len)) (in₀ + h .len))
 
+  -- a field of names, at most so many
+  abbrev pub readNameFields : ℕ → ℕ → ℕ → ℕ → Decoded (List Bytes)
+  readNameFields tag most at end = then (readHead (tagged tag) at end) (λ h in₀. items readNameField most [] in₀ (in₀ + h .len))
+
+  -- the words of a session: its own where it begins with their tag
+  abbrev pub readWords : ℕ → ℕ → Decoded Words
+  readWords at end = let own = then (readNameFields tagWords wordsLimit at end) asWords in pick (eqb (byte at) tagWords) own (decoded six at)
+
   -- the names of a session
   abbrev pub readNames : ℕ → ℕ → Decoded (List Bytes)
-  readNames at end = then (readHead (tagged tagNames) at end) (λ h in₀. items readNameField globalsLimit [] in₀ (in₀ + h .len))
+  readNames = readNameFields tagNames globalsLimit
+
+  -- the words and the names of a session
+  abbrev pub readFront : ℕ → ℕ → Decoded (Words × List Bytes)
+  readFront at end = then (readWords at end) (λ w at₁. then (readNames at₁ end) (λ ns. decoded (w, ns)))
 
 abbrev pub allZero : Bytes → Bool
 allZero [] = true
@@ -94,10 +111,22 @@ allZero (b ∷ bs) = let rest = allZero bs in pick (eqb b 0) rest false
 abbrev pub readImage : Bytes → Decoded Image
 readImage b = readImageOf (byteAt b) (length b)
 
--- a session: the global names, the pool, and zeros
+-- the words that a session's bytes begin with, in index order; none where they can't be read
+abbrev pub listIn : Decoded Words → List Bytes
+listIn (decoded w n) = wordList w
+listIn (malformed p) = []
+
+unfoldable pub wordsIn : Bytes → List Bytes
+wordsIn b = listIn (readWords (byteAt b) 0 (length b))
+
+-- words that are handed over: name fields alone
+abbrev pub readHanded : Bytes → Decoded Words
+readHanded b = then (items (readNameField (byteAt b)) wordsLimit [] 0 (length b)) asWords
+
+-- a session: the words, the global names, the pool, and zeros
 unfoldable pub readSession : Bytes → Decoded Session
 readSession b =
-    then (readNames (byteAt b) 0 (length b)) (λ ns at.
+    then (readFront (byteAt b) 0 (length b)) (λ f at.
     then (readPool (byteAt b) at (length b)) (λ cs at₁.
-    let zeros = pick (allZero (drop at₁ b)) (decoded (record { globals = ns; pool = cs }) at₁) (malformed at₁) in
+    let zeros = pick (allZero (drop at₁ b)) (decoded (record { words = f .0; globals = f .1; pool = cs }) at₁) (malformed at₁) in
     zeros))

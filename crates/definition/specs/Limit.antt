@@ -1,7 +1,7 @@
--- Document 01's sizes and limits.
+-- The sizes and limits of documents 01 and 02.
 use Prim.Native.Nat.{ℕ, _+_}
 
--- the session: names, pool, zeros
+-- the session: words, names, pool, zeros
 abbrev pub sessionSize : ℕ
 sessionSize = 65536
 
@@ -28,6 +28,10 @@ nameLimit = 32
 -- the definitions of a session
 abbrev pub globalsLimit : ℕ
 globalsLimit = 1024
+
+-- the words of a session
+abbrev pub wordsLimit : ℕ
+wordsLimit = 24
 
 -- the constants of a pool
 abbrev pub constantsLimit : ℕ

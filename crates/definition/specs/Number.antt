@@ -77,6 +77,10 @@ badInstruction = 16
 abbrev pub badImage : ℕ
 badImage = 17
 
+-- bytes that are no words: no name fields, a name of wrong length, a repeated name or a 25th; when making a session
+abbrev pub badWords : ℕ
+badWords = 19
+
 -- a branch of an If that yields no value
 abbrev pub noValue : ℕ
 noValue = 22
@@ -108,9 +112,12 @@ lentNumbers = noSession ∷ translateNumbers
 abbrev pub callNumbers : List ℕ
 callNumbers = shortBuffer ∷ lentNumbers
 
--- the numbers of making a session, of the check of an image, and of its listing
+-- the numbers of making a session, also with words, of the check of an image, and of its listing
 abbrev pub makeNumbers : List ℕ
 makeNumbers = shortBuffer ∷ []
+
+abbrev pub wordNumbers : List ℕ
+wordNumbers = makeNumbers ++ badWords ∷ []
 
 abbrev pub imageNumbers : List ℕ
 imageNumbers = badImage ∷ []

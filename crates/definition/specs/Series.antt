@@ -11,11 +11,11 @@ use Rattle.definition.specs.Number
 use Rattle.definition.specs.Number.{refusal}
 use Rattle.definition.specs.Shape.{shape}
 use Rattle.definition.specs.Bytecode.{Image, imageBytes}
-use Rattle.definition.specs.Session.{Session, fresh}
-use Rattle.definition.specs.Decode.{decoded, readSession}
-use Rattle.definition.specs.Valid.{ValidSession}
+use Rattle.definition.specs.Session.{Words, six, Session, begun}
+use Rattle.definition.specs.Decode.{decoded, readHanded, readSession}
+use Rattle.definition.specs.Valid.{AreBytes, ValidSession}
 use Rattle.definition.specs.Compile.{Outcome, Step, Request, steps}
-use Rattle.definition.specs.Call.{Lent, Called, call, made}
+use Rattle.definition.specs.Call.{Lent, Called, call, made, madeWords}
 use Rattle.definition.specs.Output.{over}
 use Rattle.definition.specs.Literal.{Mask, imageMask, sessionMask}
 use Rattle.definition.specs.declared.Refusal.{Refusal}
@@ -40,6 +40,15 @@ sessionAfter s b = pick (leb sessionSize (length b)) (take sessionSize b) s
 -- the series' session at the start: as making a session leaves it in a buffer
 abbrev pub sessionMade : Bytes → Bytes
 sessionMade a = take sessionSize (made a .session)
+
+-- and as making one with words leaves it
+abbrev pub sessionWorded : Bytes → Bytes → Bytes
+sessionWorded a names = take sessionSize (madeWords a names .session)
+
+-- where a series starts: a session that was made, with either call, and not refused; and its words
+pub data Start (s : Bytes) : Words → Type 0 where
+  fresh : (a : Bytes) → made a .answer ≡ Length sessionSize → s ≡ sessionMade a → Start s six
+  worded : (a names : Bytes) {w : Words} {n : ℕ} → AreBytes names → madeWords a names .answer ≡ Length sessionSize → readHanded names ≡ decoded w n → s ≡ sessionWorded a names → Start s w
 
 -- what a call is lent, in a series whose session is s
 abbrev pub lent : Bytes → Call → Lent
@@ -66,9 +75,9 @@ pub data AllAlike : List Call → List Call → Type 0 where
 abbrev pub shaped : Call → Request
 shaped c = record { code = length (c .code); table = length (c .table); session = length (c .session); output = length (c .output); tree = shape (c .tree) }
 
--- what the definition gives at each step, once each tree so far is replaced by its shape
-abbrev pub shapes : List Call → List Step
-shapes cs = steps fresh (map shaped cs)
+-- what the definition gives at each step from a session of these words, once each tree so far is replaced by its shape
+abbrev pub shapes : Words → List Call → List Step
+shapes w cs = steps (begun w) (map shaped cs)
 
 -- equally long, and equal but for the bytes that a mask names
 pub data Agree : Mask → Bytes → Bytes → Type 0 where
@@ -82,16 +91,16 @@ pub data Answers : Outcome → Called → Called → Type 0 where
       → Agree (imageMask m) (take (length (imageBytes m)) (x .lent .output)) (take (length (imageBytes m)) (y .lent .output)) → Answers (Outcome.accepted m) x y
   refused : {r : Refusal} {x y : Called} → x .answer ≡ Refused r → y .answer ≡ Refused r → Answers (Outcome.refused r) x y
 
--- and two sessions, where the buffers have room for them, that agree, up to 65,536, at all but the literal bytes of the shapes' session
-pub record Same (p : Step) (x y : Called) : Type 0 where
+-- and two sessions, where they are compared and the buffers have room for them, that agree, up to 65,536, at all but the literal bytes of the shapes' session
+pub record Same (compared : Type 0) (p : Step) (x y : Called) : Type 0 where
   pub answer : Answers (p .outcome) x y
   pub long : length (x .lent .session) ≡ length (y .lent .session)
-  pub session : sessionSize ≤ length (x .lent .session) → Agree (sessionMask (p .session)) (take sessionSize (x .lent .session)) (take sessionSize (y .lent .session))
+  pub session : compared → sessionSize ≤ length (x .lent .session) → Agree (sessionMask (p .session)) (take sessionSize (x .lent .session)) (take sessionSize (y .lent .session))
 
 -- step by step, in two whole series
-pub data Indistinguishable : List Step → List Called → List Called → Type 0 where
-  done : Indistinguishable [] [] []
-  step : {p : Step} {x y : Called} {ps : List Step} {xs ys : List Called} → Same p x y → Indistinguishable ps xs ys → Indistinguishable (p ∷ ps) (x ∷ xs) (y ∷ ys)
+pub data Indistinguishable (compared : Type 0) : List Step → List Called → List Called → Type 0 where
+  done : Indistinguishable compared [] [] []
+  step : {p : Step} {x y : Called} {ps : List Step} {xs ys : List Called} → Same compared p x y → Indistinguishable compared ps xs ys → Indistinguishable compared (p ∷ ps) (x ∷ xs) (y ∷ ys)
 
 -- after a call the session reads back where the buffer has room for one, and the call was not refused for its session
 pub record ReadsBack (x : Called) : Type 0 where

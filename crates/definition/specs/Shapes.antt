@@ -149,11 +149,11 @@ pub series-outcomes : (outcomes firstSeries ≡ (image (0x00 ∷ 0x00 ∷ 0x00 �
 unfolding compile readTree readProgram readStmt walkStmts emitBeside addConstant
 series-outcomes = (refl, refl)
 
--- where they may differ: the integer's eight bytes
+-- where they may differ: the integer's eight bytes, in the session behind its words
 pub series-places : map stepPlaces (steps fresh (map request shapesOfBoth)) ≡
-    record { image = 13 ∷ 14 ∷ 15 ∷ 16 ∷ 17 ∷ 18 ∷ 19 ∷ 20 ∷ []; session = 9 ∷ 10 ∷ 11 ∷ 12 ∷ 13 ∷ 14 ∷ 15 ∷ 16 ∷ [] }
-    ∷ record { image = []; session = 9 ∷ 10 ∷ 11 ∷ 12 ∷ 13 ∷ 14 ∷ 15 ∷ 16 ∷ [] }
-    ∷ record { image = 9 ∷ 10 ∷ 11 ∷ 12 ∷ 13 ∷ 14 ∷ 15 ∷ 16 ∷ []; session = 9 ∷ 10 ∷ 11 ∷ 12 ∷ 13 ∷ 14 ∷ 15 ∷ 16 ∷ [] }
+    record { image = 13 ∷ 14 ∷ 15 ∷ 16 ∷ 17 ∷ 18 ∷ 19 ∷ 20 ∷ []; session = 54 ∷ 55 ∷ 56 ∷ 57 ∷ 58 ∷ 59 ∷ 60 ∷ 61 ∷ [] }
+    ∷ record { image = []; session = 54 ∷ 55 ∷ 56 ∷ 57 ∷ 58 ∷ 59 ∷ 60 ∷ 61 ∷ [] }
+    ∷ record { image = 9 ∷ 10 ∷ 11 ∷ 12 ∷ 13 ∷ 14 ∷ 15 ∷ 16 ∷ []; session = 54 ∷ 55 ∷ 56 ∷ 57 ∷ 58 ∷ 59 ∷ 60 ∷ 61 ∷ [] }
     ∷ []
 unfolding compile readTree readProgram readStmt walkStmts emitBeside addConstant
 series-places = refl

@@ -1,6 +1,6 @@
-// Document 01's sizes and limits, as specs/Limit.antt has them.
+// The sizes and limits of documents 01 and 02, as specs/Limit.antt has them.
 
-// The session: names, pool, zeros.
+// The session: words, names, pool, zeros.
 pub const SESSION_SIZE: usize = 65536;
 
 // The code area; the open chunks together, and an image's main code.
@@ -20,6 +20,9 @@ pub const NAME_LIMIT: usize = 32;
 
 // The definitions of a session.
 pub const GLOBALS_LIMIT: usize = 1024;
+
+// The words of a session.
+pub const WORDS_LIMIT: usize = 24;
 
 // The constants of a pool.
 pub const CONSTANTS_LIMIT: usize = 4096;

@@ -52,6 +52,9 @@ pub const NAME_BYTE: u8 = NAME as u8;
 // A session's global names.
 pub const NAMES: u8 = 0x40;
 
+// A session's words.
+pub const WORDS: u8 = 0x42;
+
 // An image's main code.
 pub const MAIN: u8 = 0x50;
 

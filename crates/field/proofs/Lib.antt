@@ -1,1 +1,4 @@
 pub mod Content
+pub mod Same
+pub mod Rows
+pub mod Reading

@@ -1,4 +1,6 @@
 // Reading and writing the parts of a field: a tag, a two-byte length, the content.
+pub mod names;
+
 ghost use mathlib.Core.Path.{_≡_};
 ghost use Prim.Native.Nat.{_+_, _*_, _<_};
 ghost use lib.ListN.{length};

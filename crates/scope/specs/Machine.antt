@@ -11,7 +11,8 @@ use Rattle.definition.specs.Number
 use Rattle.definition.specs.Tag.{tagIntegerConst, tagStringConst, tagFunctionConst}
 use Rattle.definition.specs.Opcode.{Instr, instr, plain, size, bytesOf, opConstant, opPop, opReturnValue, opReturn, opClosure}
 use Rattle.definition.specs.Field.{field}
-use Rattle.definition.specs.SymbolTable.{Symbol, Table, Resolved, Defined, builtins, resolve, loadOf, place, named, withParams}
+use Rattle.definition.specs.SymbolTable.{Symbol, Table, Resolved, Defined, resolve, loadOf, place, named, withParams}
+use Rattle.definition.specs.Decode.{wordsIn}
 use Rattle.definition.specs.Walk.{Res, on, refuse, bind, Go, Machine}
 use Rattle.definition.specs.Compiler.{booleanOf, unpatched}
 use Rattle.scope.specs.View.{Symbols, View, view}
@@ -94,8 +95,12 @@ loaded p v (Resolved.found y ts) = emit p (loadOf y) (withTables ts v)
 loaded p v Resolved.undefined = refuse Number.undefined p v
 loaded p v Resolved.full = refuse Number.captures p v
 
+-- the words that the session begins with: no step writes before the end of its names
+abbrev pub wordsOf : View → List Bytes
+wordsOf v = wordsIn (take (v .state .«names_end») (v .session))
+
 unfoldable pub load : ℕ → Bytes → Go View
-load p n v = loaded p v (resolve builtins (v .symbols .globals) n (v .symbols .tables))
+load p n v = loaded p v (resolve (wordsOf v) (v .symbols .globals) n (v .symbols .tables))
 
 abbrev pub placed : ℕ → View → Defined → Res View Instr
 placed p v (Defined.defined i gs ts) = on i (view (v .code) (v .session) (record { globals = gs; tables = ts }) (v .state))

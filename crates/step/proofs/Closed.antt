@@ -69,6 +69,7 @@ module _ (o : State) where
         let e : j .from ≡ s = cc in
         let h : u .level ≡ o .level + 1 = omega (arith, j .level, ap (λ x. x .level) e) in
         record {
+          words = f .words;
           symbols = outer-good tree (m .table) o u h (namesOf (m .session) u) (f .symbols);
           level = omega (arith, f .level);
           area = f .area;

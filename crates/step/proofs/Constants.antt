@@ -102,6 +102,7 @@ module _ (p tag : ℕ) (b e : Bytes) where
       → FineState tree (rest (sets e (s .«pool_end») (field tag b)) t) (withConstant (length b) s)
   constant-fine {s = s} h f =
       record {
+        words = rw (take-sets e (s .«pool_end») (s .«names_end») (field tag b) (omega (arith, f .pool .start))) (f .words);
         symbols = rw (take-sets e (s .«pool_end») (s .«names_end») (field tag b) (omega (arith, f .pool .start))) (f .symbols);
         level = f .level;
         area = f .area;

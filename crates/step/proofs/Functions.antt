@@ -89,6 +89,7 @@ module _ {tree : Bytes} {p n : ℕ} (h : HeadAt tree p n) where
         entered-fine : {e : Bytes} → length t′ ≡ length t → FineState tree (rest e t) s → FineState tree (rest e t′) (inside s)
         entered-fine {e} k f =
             record {
+              words = f .words;
               symbols = rw (add-one (s .level)) (x .good (namesOf e s) (f .symbols));
               level = omega arith;
               area = rw k (f .area);

@@ -87,6 +87,7 @@ module _ (tree : Bytes) (m : Rest) where
       let n = ap (λ o. o .namesEnd) e in
       let p = ap (λ o. o .poolEnd) e in
       record {
+        words = rw n (f .words);
         symbols = rw (l, n) (f .symbols);
         level = rw l (f .level);
         area = f .area;

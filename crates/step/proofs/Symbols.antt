@@ -9,12 +9,13 @@ use Rattle.definition.specs.Basic.{Bytes}
 use Rattle.definition.specs.Limit.{nestingLimit}
 use Rattle.definition.specs.Number.{refusal}
 use Rattle.definition.specs.Opcode.{instr}
-use Rattle.definition.specs.SymbolTable.{Table, builtins, loadOf}
+use Rattle.definition.specs.SymbolTable.{Table, loadOf}
+use Rattle.definition.specs.Decode.{wordsIn}
 use Rattle.definition.specs.Walk.{refuse}
 use Rattle.definition.specs.declared.Refusal.{Refusal}
 use Rattle.symbol_table.specs.Layout.{partSize, base, symbolOf, globalsOf, tablesOf, Good}
 use Rattle.symbol_table.specs.Contract as Symbol
-use Rattle.symbol_table.specs.Contract.{definedOf, resolvedOf, Resolves}
+use Rattle.symbol_table.specs.Contract.{definedOf, resolvedOf, HasWords, Resolves}
 use Rattle.symbol_table.specs.declared.Definition.{Definition}
 use Rattle.symbol_table.specs.declared.Definition.the-variants.{Global, Local, GlobalsFull, LocalsFull}
 use Rattle.symbol_table.specs.declared.Lookup.{Lookup}
@@ -32,7 +33,7 @@ use Rattle.step.proofs.Memory.{stop-deeper, keeps-refl, done-steps, ref
 
 -- the table area after a step on it, with as many open functions
 table-fine : {tree e : Bytes} {t t′ : List ℕ} {s : State} → length t′ ≡ length t → Good tree (namesOf e s) (s .level) t′ → FineState tree (rest e t) s → FineState tree (rest e t′) s
-table-fine n g f = record { symbols = g; level = f .level; area = rw n (f .area); pool = f .pool }
+table-fine n g f = record { words = f .words; symbols = g; level = f .level; area = rw n (f .area); pool = f .pool }
 
 -- What the code needs of the table area
 module _ {tree : Bytes} {t : List ℕ} {w : Walked} {s : State} (q : w ≡ On s) (h : FineBeside tree t w) where
@@ -55,6 +56,9 @@ module _ (tree e : Bytes) (t : List ℕ) {w : Walked} {s : State} (q : w ≡ On 
 
   pub fine-base : base (s .level) ≤ length t
   fine-base = omega (arith, fine-on .level, fine-on .area)
+
+  pub fine-words : HasWords (namesOf e s)
+  fine-words = fine-on .words
 
   pub fine-good : Good tree (namesOf e s) (s .level) t
   fine-good = fine-on .symbols
@@ -117,7 +121,7 @@ pub define-stop : (p : ℕ) {tree : Bytes} {t : List ℕ} {w : Walked} {x : Refu
 define-stop p {x = x} {s = s} q = rw q (record { defines = λ c e h f. record { step = refl; ready = h; fine = f; keeps = keeps-refl (Stop x s) } })
 
 -- Lookups
-module _ (p : ℕ) (tree e : Bytes) (t t′ : List ℕ) (s : State) {a : Lookup} (x : Resolves builtins tree (namesOf e s) (s .level) p a t t′) (c : Bytes) where
+module _ (p : ℕ) (tree e : Bytes) (t t′ : List ℕ) (s : State) {a : Lookup} (x : Resolves (wordsIn (namesOf e s)) tree (namesOf e s) (s .level) p a t t′) (c : Bytes) where
   -- what the machine does by the answer
   answer-step : load p (content tree p) (view c e (symbolsOf tree (rest e t) s) s) ≡ loaded p (view c e (symbolsOf tree (rest e t) s) s) (resolvedOf a (tablesOf tree (s .level) t′))
   unfolding load
@@ -128,7 +132,7 @@ module _ (p : ℕ) (tree e : Bytes) (t t′ : List ℕ) (s : State) {a : Lookup}
   answer-view = ap (λ g. view c e (record { globals = globalsOf tree (namesOf e s) g; tables = tablesOf tree (s .level) t′ }) s) (x .globals)
 
 module _ (p : ℕ) {tree e : Bytes} {t t′ : List ℕ} {w : Walked} {s : State} (q : w ≡ On s) where
-  pub load-found : {c c′ : Bytes} {b : Lookup} {k o i : ℕ} {r : Walked} → length t′ ≡ length t → Fine tree (rest e t) w → Resolves builtins tree (namesOf e s) (s .level) p b t t′ → b ≡ Found k → instr o i 0 ≡ loadOf (symbolOf k)
+  pub load-found : {c c′ : Bytes} {b : Lookup} {k o i : ℕ} {r : Walked} → length t′ ≡ length t → Fine tree (rest e t) w → Resolves (wordsIn (namesOf e s)) tree (namesOf e s) (s .level) p b t t′ → b ≡ Found k → instr o i 0 ≡ loadOf (symbolOf k)
       → Done c c′ (On s) r (emit p (instr o i 0)) → Steps tree (load p (content tree p)) c c′ (rest e t) (rest e t′) w r
   load-found {c} n f z g j d =
       let x = rw g at z in
@@ -143,7 +147,7 @@ module _ (p : ℕ) {tree e : Bytes} {t t′ : List ℕ} {w : Walked} {s : State}
       })
 
   -- a lookup that is refused with number k
-  pub load-refused : (k : ℕ) {c : Bytes} {b : Lookup} (a : Lookup) {r : Walked} → ((v : View) (ts : List Table) → loaded p v (resolvedOf a ts) ≡ refuse k p v) → Ready c w → Resolves builtins tree (namesOf e s) (s .level) p b t t′ → b ≡ a
+  pub load-refused : (k : ℕ) {c : Bytes} {b : Lookup} (a : Lookup) {r : Walked} → ((v : View) (ts : List Table) → loaded p v (resolvedOf a ts) ≡ refuse k p v) → Ready c w → Resolves (wordsIn (namesOf e s)) tree (namesOf e s) (s .level) p b t t′ → b ≡ a
       → Refuses (On s) r k p → Steps tree (load p (content tree p)) c c (rest e t) (rest e t′) w r
   load-refused k {c} a none h z g d =
       let x = rw g at z in

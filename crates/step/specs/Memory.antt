@@ -7,6 +7,7 @@ use Rattle.definition.specs.Basic.{Bytes}
 use Rattle.definition.specs.Limit.{sessionSize, tableSize, poolLimit, nestingLimit}
 use Rattle.definition.specs.Walk.{Res, on, stop, Go}
 use Rattle.symbol_table.specs.Layout.{globalsIn, tablesOf, Good}
+use Rattle.symbol_table.specs.Contract.{HasWords}
 use Rattle.scope.specs.View.{Symbols, View, view, then, Ready}
 use Rattle.scope.specs.declared.State.{State}
 use Rattle.scope.specs.declared.Walked.{Walked}
@@ -58,8 +59,9 @@ pub record RoomyState (e : Bytes) (s : State) : Type 0 where
 pub record Roomy (e : Bytes) (w : Walked) : Type 0 where
   pub pool : (s : State) → w ≡ On s → RoomyState e s
 
--- and the table area stands well
+-- the names have words in front, and the table area stands well
 pub record FineState (tree : Bytes) (m : Rest) (s : State) : Type 0 where
+  pub words : HasWords (namesOf (m .session) s)
   pub symbols : Good tree (namesOf (m .session) s) (s .level) (m .table)
   pub level : s .level ≤ nestingLimit
   pub area : tableSize ≤ length (m .table)

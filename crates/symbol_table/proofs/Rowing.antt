@@ -1,17 +1,14 @@
 -- A row of fields: what is left decides.
 use Prim.Native.Nat.{ℕ, zero, suc, _+_, _-_, _≤_, _<_}
-use mathlib.Core.Path.{_≡_, refl, sym, _∙_}
-use mathlib.Core.Bool.{true, false}
+use mathlib.Core.Path.{_≡_}
 use mathlib.Core.List.{List, [], _∷_}
-use mathlib.Core.Option.{none, some}
 use native.Mathlib.Omega.{arith}
 use lib.ListN.{length, getD}
-use lib.Dec.{lit≤}
 use Rattle.definition.specs.Basic.{Bytes}
 use Rattle.definition.specs.Limit.{treeLimit, localsLimit}
-use Rattle.definition.specs.SymbolTable.{same, builtins, findBuiltin, withParams}
+use Rattle.definition.specs.SymbolTable.{withParams}
 use Rattle.field.specs.Layout.{after, content}
-use Rattle.symbol_table.specs.Name.{Stands, fields, Row, rowOf, hashOf}
+use Rattle.symbol_table.specs.Name.{Stands, fields, Row, hashOf}
 use Rattle.symbol_table.specs.Layout.{tableOf, GoodTable}
 use Rattle.symbol_table.specs.Store.{localIn}
 use Rattle.symbol_table.specs.Contract.{Params}
@@ -59,40 +56,3 @@ module _ (tree : Bytes) (r₀ : List ℕ) (row n : ℕ) (r : List ℕ) (at left 
   pub left-none : left ≤ 0 → Params tree row n r₀ r
   unfolding fields
   left-none h = record { table = (rw (fields-none tree left at h) at (x .table)); good = x .good }
-
--- builtins that are left to compare
-pub record Words (words : Bytes) (count : ℕ) (name : Bytes) (at k : ℕ) : Type 0 where
-  pub stands : Row words (count - k) at
-  pub found : findBuiltin name (fields words count 0) 0 ≡ findBuiltin name (fields words (count - k) at) k
-  pub within : k ≤ count
-
-pub words-start : (words : Bytes) (count : ℕ) (name : Bytes) → Row words count 0 → Words words count name 0 0
-words-start words count name r = let n : count - 0 ≡ count = omega arith in record { stands = rw n r; found = rw n; within = omega arith }
-
-module _ (words : Bytes) (count : ℕ) (name : Bytes) (at k : ℕ) (x : Words words count name at k) where
-  pub words-hit : k < count → same name (content words at) ≡ true → findBuiltin name (fields words count 0) 0 ≡ some k
-  unfolding findBuiltin
-  words-hit l e = x .found ∙ rw (fields-next words (count - k) at (omega arith), e)
-
-  pub words-miss : k < count → same name (content words at) ≡ false → Words words count name (after words at) (k + 1)
-  unfolding findBuiltin
-  words-miss l e =
-      let n : count - (k + 1) ≡ count - k - 1 = omega arith in
-      record {
-        stands = rw n (row-next words (count - k) at (omega arith) (x .stands));
-        found = x .found ∙ rw (fields-next words (count - k) at (omega arith), e, n);
-        within = omega arith;
-      }
-
-  pub words-none : count ≤ k → findBuiltin name (fields words count 0) 0 ≡ none
-  unfolding findBuiltin fields
-  words-none l = x .found ∙ rw (fields-none words (count - k) at (omega arith))
-
--- document 01's builtins
-pub builtins-stand : Row (rowOf builtins) 6 0
-unfolding Row
-builtins-stand = (lit≤ tt, (lit≤ tt, (lit≤ tt, (lit≤ tt, (lit≤ tt, (lit≤ tt, tt))))))
-
-pub builtins-are : fields (rowOf builtins) 6 0 ≡ builtins
-unfolding fields
-builtins-are = refl

@@ -8,7 +8,8 @@ use Rattle.definition.specs.Basic.{Bytes, byteAt}
 use Rattle.definition.specs.Number
 use Rattle.definition.specs.Opcode.{instr, opSetGlobal, opSetLocal}
 use Rattle.definition.specs.SymbolTable.{Symbol, Table, findGlobal, findBuiltin, Resolved, cross, resolve, Defined, place, named, withParams}
-use Rattle.definition.specs.Decode.{decoded, readNames}
+use Rattle.definition.specs.Session.{Words}
+use Rattle.definition.specs.Decode.{decoded, readWords, readNames}
 use Rattle.field.specs.Layout.{after, content}
 use Rattle.symbol_table.specs.Name.{Stands, fields, hashOf}
 use Rattle.symbol_table.specs.Layout.{globalsSize, partSize, base, part, symbolOf, tableOf, tablesOf, globalsOf, globalsIn, GoodTable, GoodGlobals, Good}
@@ -68,6 +69,12 @@ pub record Crosses (name hash : ℕ) (outer answer : Lookup) (r r′ : List ℕ)
   pub resolved : (tree : Bytes) (ts : List Table) → resolvedOf answer (tableOf tree r′ ∷ ts) ≡ cross (content tree name) (tableOf tree r) (resolvedOf outer ts)
   pub good : (tree : Bytes) → IsName tree name hash → GoodTable tree r → GoodTable tree r′
 
+-- the bytes before a session's pool begin with words, or have document 01's
+pub record HasWords (names : Bytes) : Type 0 where
+  pub words : Words
+  pub end : ℕ
+  pub reads : readWords (byteAt names) 0 (length names) ≡ decoded words end
+
 -- a lookup from inside so many open functions, with the builtins' names
 pub record Resolves (builtins : List Bytes) (tree names : Bytes) (level name : ℕ) (answer : Lookup) (a a′ : List ℕ) : Type 0 where
   pub resolved : resolvedOf answer (tablesOf tree level a′) ≡ resolve builtins (globalsIn tree names a) (content tree name) (tablesOf tree level a)
@@ -108,19 +115,19 @@ pub record Enters (tree : Bytes) (level name row n : ℕ) (a a′ : List ℕ) : 
   pub globals : take globalsSize a′ ≡ take globalsSize a
   pub above : drop (base (suc level)) a′ ≡ drop (base (suc level)) a
 
--- a session has names
-pub record HasNames (session : Bytes) : Type 0 where
+-- a session has names at an offset
+pub record HasNames (session : Bytes) (start : ℕ) : Type 0 where
   pub names : List Bytes
   pub end : ℕ
-  pub reads : readNames (byteAt session) 0 (length session) ≡ decoded names end
+  pub reads : readNames (byteAt session) start (length session) ≡ decoded names end
 
 -- the names of a session become the globals; from then on the session's bytes before `end` are enough
-pub record StartsGlobals (session : Bytes) (end : ℕ) (g′ : List ℕ) : Type 0 where
-  pub globals : (tree : Bytes) (h : HasNames session) → globalsOf tree (take end session) g′ ≡ h .names
+pub record StartsGlobals (session : Bytes) (start end : ℕ) (g′ : List ℕ) : Type 0 where
+  pub globals : (tree : Bytes) (h : HasNames session start) → globalsOf tree (take end session) g′ ≡ h .names
   pub good : (tree : Bytes) → GoodGlobals tree (take end session) g′
 
 -- the table area as a compile starts: the session's names, and no open function
-pub record Starts (session : Bytes) (end : ℕ) (a a′ : List ℕ) : Type 0 where
-  pub globals : (tree : Bytes) (h : HasNames session) → globalsIn tree (take end session) a′ ≡ h .names
+pub record Starts (session : Bytes) (start end : ℕ) (a a′ : List ℕ) : Type 0 where
+  pub globals : (tree : Bytes) (h : HasNames session start) → globalsIn tree (take end session) a′ ≡ h .names
   pub good : (tree : Bytes) → Good tree (take end session) 0 a′
   pub above : drop globalsSize a′ ≡ drop globalsSize a

@@ -1,10 +1,8 @@
 -- Names as fields: a name is known by the offset of its field in some bytes.
 use Prim.Native.Nat.{ℕ, zero, suc, _+_, _*_, _%_, _≤_}
-use mathlib.Core.List.{List, [], _∷_, _++_}
+use mathlib.Core.List.{List, [], _∷_}
 use lib.ListN.{length}
 use Rattle.definition.specs.Basic.{Bytes}
-use Rattle.definition.specs.Tag.{tagName}
-use Rattle.definition.specs.Field.{field}
 use Rattle.field.specs.Layout.{after, content}
 
 -- a whole field stands at an offset
@@ -21,11 +19,6 @@ module _ (b : Bytes) where
   unfoldable pub Row : ℕ → ℕ → Type 0
   Row zero at = Unit {0}
   Row (suc n) at = Stands b at × Row n (after b at)
-
--- names as fields in a row
-abbrev pub rowOf : List Bytes → Bytes
-rowOf [] = []
-rowOf (n ∷ ns) = field tagName n ++ rowOf ns
 
 -- the number of hashes
 abbrev pub buckets : ℕ

@@ -1,8 +1,7 @@
-// The global names, in the first numbers of the area, and the builtins.
+// The global names, in the first numbers of the area.
 use super::Definition;
 use super::Hit;
 use super::layout::BUCKETS;
-use super::layout::BUILTIN;
 use super::layout::GLOBAL;
 use super::layout::GLOBALS;
 use super::layout::HEADS_AT;
@@ -10,15 +9,15 @@ use super::layout::IN_TREE;
 use super::layout::LINKS_AT;
 use super::name::hash_at;
 use super::name::name_at;
-use super::name::same_name;
 use super::name::wide32;
+use field::names::same_name;
 ghost use mathlib.Core.Path.{_≡_};
 ghost use Prim.Native.Nat.{ℕ, _+_, _<_, _≤_};
 ghost use lib.ListN.{length, getD};
 ghost use Rattle.definition.specs.Limit.{sessionSize, treeLimit, globalsLimit};
-ghost use Rattle.definition.specs.SymbolTable.{Symbol, same, findGlobal, findBuiltin};
+ghost use Rattle.definition.specs.SymbolTable.{Symbol, same, findGlobal};
 ghost use Rattle.field.specs.Layout.{after};
-ghost use Rattle.symbol_table.specs.Name.{fields, Row, buckets, hashOf};
+ghost use Rattle.symbol_table.specs.Name.{buckets, hashOf};
 ghost use Rattle.symbol_table.specs.Layout.{globalsSize, headsAt, globalName, globalsOf, GlobalStands, GoodGlobals};
 ghost use Rattle.symbol_table.specs.Store.{globalIn};
 ghost use Rattle.symbol_table.specs.Contract.{hitOf, asSymbol, DefinesGlobal, HasNames, StartsGlobals};
@@ -49,24 +48,6 @@ pub fn find_global(tree: &[u8], names: &[u8], globals: &[u32], name: &[u8], hash
             return Hit::At(GLOBAL + (k - 1));
         }
         k = globals[LINKS_AT + last];
-    }
-    Hit::Nothing
-}
-
-// The builtin of a name, among so many fields at the front of `words`.
-pub fn find_builtin(words: &[u8], count: usize, name: &[u8]) -> Hit
-    requires { ⌜ Row (now words) count 0 ⌝ }
-    requires { ⌜ count ≤ 256 ⌝ }
-    ensures { λ r. ⌜ hitOf r ≡ asSymbol Symbol.builtin (findBuiltin (now (name .entry)) (fields (now (words .entry)) count 0) 0) ⌝ }
-{
-    let mut at = 0;
-    let mut k: u32 = 0;
-    while wide32(k) < count {
-        if same_name(name, name_at(words, at)) {
-            return Hit::At(BUILTIN + k);
-        }
-        at = at + 3 + field::length_at(words, at);
-        k += 1;
     }
     Hit::Nothing
 }
@@ -115,17 +96,17 @@ fn clear_heads(globals: &mut [u32])
     }
 }
 
-// The names of a session become the globals: the fields up to `end`.
-pub fn start_in(session: &[u8], globals: &mut [u32], end: usize)
+// The names of a session, whose field is at `start`, become the globals: the fields up to `end`.
+pub fn start_in(session: &[u8], globals: &mut [u32], start: usize, end: usize)
     requires { ⌜ length (now session) ≤ sessionSize ⌝ }
-    requires { ⌜ HasNames (now session) ⌝ }
+    requires { ⌜ HasNames (now session) start ⌝ }
     requires { ⌜ length (now globals) ≡ globalsSize ⌝ }
-    requires { ⌜ end ≡ after (now session) 0 ⌝ }
-    ensures { λ _. ⌜ StartsGlobals (now (session .entry)) end (now (globals .exit)) ⌝ }
+    requires { ⌜ end ≡ after (now session) start ⌝ }
+    ensures { λ _. ⌜ StartsGlobals (now (session .entry)) start end (now (globals .exit)) ⌝ }
 {
     clear_heads(globals);
     globals[0] = 0;
-    let mut at = 3;
+    let mut at = start + 3;
     while at < end {
         let hash = hash_at(session, at);
         push_global(globals, at as u32, hash);

@@ -4,12 +4,12 @@ mod globals;
 pub mod layout;
 pub mod leaving;
 mod name;
+mod words;
 
 use enclosed::cross_in;
 use enclosed::find_in;
 use enclosed::open_in;
 use enclosed::place_in;
-use globals::find_builtin;
 use globals::find_global;
 use globals::place_global;
 use globals::start_in;
@@ -24,6 +24,7 @@ use name::hash_at;
 use name::name_at;
 use name::wide32;
 use opcode::opcodes;
+use words::find_builtin;
 ghost use mathlib.Core.Path.{_≡_};
 ghost use Prim.Native.Nat.{ℕ, _+_, _<_, _≤_};
 ghost use mathlib.Core.List.{List, []};
@@ -31,11 +32,12 @@ ghost use lib.ListN.{length, getD, take};
 ghost use Rattle.definition.specs.Basic.{Bytes};
 ghost use Rattle.definition.specs.Limit.{treeLimit, sessionSize, argumentsLimit, freeLimit};
 ghost use Rattle.definition.specs.Opcode.{instr, width};
-ghost use Rattle.definition.specs.SymbolTable.{find, builtins, loadOf};
+ghost use Rattle.definition.specs.SymbolTable.{find, loadOf};
+ghost use Rattle.definition.specs.Decode.{wordsIn};
 ghost use Rattle.field.specs.Layout.{after, content};
-ghost use Rattle.symbol_table.specs.Name.{Stands, fields, Row, buckets};
+ghost use Rattle.symbol_table.specs.Name.{Stands, Row, buckets};
 ghost use Rattle.symbol_table.specs.Layout.{globalsSize, partSize, originalsAt, base, part, symbolOf, tableOf, globalsIn, Sized, GoodTable, GoodGlobals, Good};
-ghost use Rattle.symbol_table.specs.Contract.{hitOf, resolvedOf, outermostOf, IsName, Inside, Crosses, Resolves, DefinesLocal, Defines, Enters, HasNames, Starts};
+ghost use Rattle.symbol_table.specs.Contract.{hitOf, resolvedOf, outermostOf, IsName, Inside, Crosses, Resolves, DefinesLocal, Defines, Enters, HasWords, HasNames, Starts};
 
 // The code of a symbol that a table has for a name.
 pub enum Hit {
@@ -90,28 +92,19 @@ fn cross_at(table: &mut [u32], level: usize, name: usize, hash: usize, outer: Lo
 }
 
 // The global or the builtin of a name: outside all functions, globals come before builtins.
-fn find_outermost(
-    words: &[u8],
-    count: usize,
-    tree: &[u8],
-    names: &[u8],
-    table: &[u32],
-    name: usize,
-    hash: usize,
-) -> Lookup
-    requires { ⌜ Row (now words) count 0 ⌝ }
-    requires { ⌜ count ≤ 256 ⌝ }
+fn find_outermost(tree: &[u8], names: &[u8], table: &[u32], name: usize, hash: usize) -> Lookup
+    requires { ⌜ HasWords (now names) ⌝ }
     requires { ⌜ globalsSize ≤ length (now table) ⌝ }
     requires { ⌜ GoodGlobals (now tree) (now names) (take globalsSize (now table)) ⌝ }
     requires { ⌜ IsName (now tree) name hash ⌝ }
     requires { ⌜ hash < buckets ⌝ }
-    ensures { λ r. ⌜ resolvedOf r [] ≡ outermostOf (fields (now (words .entry)) count 0) (globalsIn (now (tree .entry)) (now (names .entry)) (now (table .entry))) (content (now (tree .entry)) name) ⌝ }
+    ensures { λ r. ⌜ resolvedOf r [] ≡ outermostOf (wordsIn (now (names .entry))) (globalsIn (now (tree .entry)) (now (names .entry)) (now (table .entry))) (content (now (tree .entry)) name) ⌝ }
 {
     let it = name_at(tree, name);
     if let Hit::At(code) = find_global(tree, names, &table[..GLOBALS_SIZE], it, hash) {
         return Lookup::Found(code);
     }
-    if let Hit::At(code) = find_builtin(words, count, it) {
+    if let Hit::At(code) = find_builtin(names, it) {
         return Lookup::Found(code);
     }
     Lookup::Undefined
@@ -119,8 +112,6 @@ fn find_outermost(
 
 // A name's symbol, seen from inside so many open functions: outward one function at a time, capturing on the way back.
 fn resolve(
-    words: &[u8],
-    count: usize,
     tree: &[u8],
     names: &[u8],
     table: &mut [u32],
@@ -128,25 +119,22 @@ fn resolve(
     name: usize,
     hash: usize,
 ) -> Lookup
-    requires { ⌜ Row (now words) count 0 ⌝ }
-    requires { ⌜ count ≤ 256 ⌝ }
+    requires { ⌜ HasWords (now names) ⌝ }
     requires { ⌜ base level ≤ length (now table) ⌝ }
     requires { ⌜ Good (now tree) (now names) level (now table) ⌝ }
     requires { ⌜ IsName (now tree) name hash ⌝ }
     requires { ⌜ name < treeLimit ⌝ }
     requires { ⌜ hash < buckets ⌝ }
-    ensures { λ r. ⌜ Resolves (fields (now (words .entry)) count 0) (now (tree .entry)) (now (names .entry)) level name r (now (table .entry)) (now (table .exit)) ⌝ }
+    ensures { λ r. ⌜ Resolves (wordsIn (now (names .entry))) (now (tree .entry)) (now (names .entry)) level name r (now (table .entry)) (now (table .exit)) ⌝ }
 {
     if level == 0 {
-        return find_outermost(words, count, tree, names, table, name, hash);
+        return find_outermost(tree, names, table, name, hash);
     }
     let l = level - 1;
     if let Hit::At(code) = find_at(tree, table, l, name, hash) {
         return Lookup::Found(code);
     }
     let outer = resolve(
-        words,
-        count,
         tree,
         names,
         &mut table[..GLOBALS_SIZE + PART_SIZE * l],
@@ -157,7 +145,7 @@ fn resolve(
     cross_at(table, l, name, hash, outer)
 }
 
-// A name's symbol, with document 01's builtins.
+// A name's symbol, with the builtins that the session begins with, or document 01's.
 pub fn resolve_name(
     tree: &[u8],
     names: &[u8],
@@ -165,16 +153,15 @@ pub fn resolve_name(
     level: usize,
     name: usize,
 ) -> Lookup
+    requires { ⌜ HasWords (now names) ⌝ }
     requires { ⌜ base level ≤ length (now table) ⌝ }
     requires { ⌜ Good (now tree) (now names) level (now table) ⌝ }
     requires { ⌜ Stands (now tree) name ⌝ }
     requires { ⌜ name < treeLimit ⌝ }
-    ensures { λ r. ⌜ Resolves builtins (now (tree .entry)) (now (names .entry)) level name r (now (table .entry)) (now (table .exit)) ⌝ }
+    ensures { λ r. ⌜ Resolves (wordsIn (now (names .entry))) (now (tree .entry)) (now (names .entry)) level name r (now (table .entry)) (now (table .exit)) ⌝ }
 {
-    let words =
-        b"\x30\x00\x03len\x30\x00\x04puts\x30\x00\x05first\x30\x00\x04last\x30\x00\x04rest\x30\x00\x04push";
     let hash = hash_at(tree, name);
-    resolve(words, 6, tree, names, table, level, name, hash)
+    resolve(tree, names, table, level, name, hash)
 }
 
 // A definition in the table of the function at a level.
@@ -218,16 +205,16 @@ pub fn enter(tree: &[u8], table: &mut [u32], level: usize, name: usize, row: usi
     open_in(tree, &mut table[start..end], name, row, n);
 }
 
-// The table area as a compile starts: the global names of the session, and no open function. The end of the names in the session.
-pub fn start(session: &[u8], table: &mut [u32]) -> usize
+// The table area as a compile starts: the global names of the session, and no open function. `at` is where the names' field is; their end.
+pub fn start(session: &[u8], table: &mut [u32], at: usize) -> usize
     requires { ⌜ length (now session) ≤ sessionSize ⌝ }
-    requires { ⌜ HasNames (now session) ⌝ }
+    requires { ⌜ HasNames (now session) at ⌝ }
     requires { ⌜ globalsSize ≤ length (now table) ⌝ }
-    ensures { λ r. ⌜ r ≡ after (now (session .entry)) 0 ⌝ }
-    ensures { λ r. ⌜ Starts (now (session .entry)) r (now (table .entry)) (now (table .exit)) ⌝ }
+    ensures { λ r. ⌜ r ≡ after (now (session .entry)) at ⌝ }
+    ensures { λ r. ⌜ Starts (now (session .entry)) at r (now (table .entry)) (now (table .exit)) ⌝ }
 {
-    let end = 3 + field::length_at(session, 0);
-    start_in(session, &mut table[..GLOBALS_SIZE], end);
+    let end = at + 3 + field::length_at(session, at);
+    start_in(session, &mut table[..GLOBALS_SIZE], at, end);
     end
 }
 

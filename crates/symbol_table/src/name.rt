@@ -2,7 +2,6 @@
 use super::layout::BUCKETS;
 ghost use mathlib.Core.Path.{_≡_};
 ghost use Prim.Native.Nat.{_<_};
-ghost use Rattle.definition.specs.SymbolTable.{same};
 ghost use Rattle.field.specs.Layout.{content};
 ghost use Rattle.symbol_table.specs.Name.{Stands, buckets, hashOf};
 
@@ -14,23 +13,6 @@ pub fn name_at(bytes: &[u8], at: usize) -> &[u8]
     let start = at + 3;
     let end = start + field::length_at(bytes, at);
     &bytes[start..end]
-}
-
-// Whether two names are the same.
-pub fn same_name(x: &[u8], y: &[u8]) -> bool
-    ensures { λ r. ⌜ r ≡ same (now (x .entry)) (now (y .entry)) ⌝ }
-{
-    if x.len() != y.len() {
-        return false;
-    }
-    let mut i = 0;
-    while i < x.len() {
-        if x[i] != y[i] {
-            return false;
-        }
-        i += 1;
-    }
-    true
 }
 
 // A name's hash.

@@ -1,4 +1,4 @@
--- `bytecode::check_names` meets its contract: by their head, and then the names.
+-- `bytecode::check_names` meets its contract: by the field's head, and then the names.
 use mathlib.Core.Path.{_∙_, ap, sym, refl}
 use native.Mathlib.Omega.{arith}
 use lib.ListN.{length}
@@ -7,7 +7,6 @@ use borrow.Author.Tests.{eq-eqb, ne-eqb}
 use borrow.Author.Needs.{needs}
 use Rattle.definition.specs.Basic.{byteAt}
 use Rattle.definition.specs.Field.{tagged}
-use Rattle.definition.specs.Tag.{tagNames}
 use Rattle.bytecode.specs.Checked.{checked}
 use Rattle.bytecode.proofs.Heads.{fitting, after-cut, after-bad, after-good}
 use Rattle.bytecode.proofs.Fields.{namesContent}
@@ -18,24 +17,24 @@ returns : tie.Need-returns
 returns c =
     let start = c .before .before .before .before .before .before in
     let head-at = c .before .before .before .before .head-at in
-    let tag = c .before .before .tag in
+    let found = c .before .before .found in
     let if1 = c .if1 in
-    sym (ap checked (after-bad (byteAt (now (start .args .session))) 0 (length (now (start .args .session))) (tagged tagNames) (namesContent (byteAt (now (start .args .session)))) (head-at .ensures) (tag .given .1) (sym (ne-eqb _ tagNames (if1 .taken))) refl))
+    sym (ap checked (after-bad (byteAt (now (start .args .session))) (start .args .at) (length (now (start .args .session))) (tagged (start .args .tag)) (namesContent (byteAt (now (start .args .session))) (start .args .most)) (head-at .ensures) (found .given .1) (sym (ne-eqb _ (start .args .tag) (if1 .taken))) refl))
 
-add-check-name-fields : tie.Need-add-check-name-fields
-add-check-name-fields c =
+add-check-name-fields-3 : tie.Need-add-check-name-fields-3
+add-check-name-fields-3 c =
     let start = c .before .before .before .before .before .before in
     let head-at = c .before .before .before .before .head-at in
-    let tag = c .before .before .tag in
-    let f = fitting (byteAt (now (start .args .session))) 0 (length (now (start .args .session))) (head-at .ensures) (tag .given .1) in
+    let found = c .before .before .found in
+    let f = fitting (byteAt (now (start .args .session))) (start .args .at) (length (now (start .args .session))) (head-at .ensures) (found .given .1) in
     omega arith
 
 check-name-fields-requires : tie.Need-check-name-fields-requires
 check-name-fields-requires c κs =
     let start = c .before .before .before .before .before .before in
     let head-at = c .before .before .before .before .head-at in
-    let tag = c .before .before .tag in
-    let f = fitting (byteAt (now (start .args .session))) 0 (length (now (start .args .session))) (head-at .ensures) (tag .given .1) in
+    let found = c .before .before .found in
+    let f = fitting (byteAt (now (start .args .session))) (start .args .at) (length (now (start .args .session))) (head-at .ensures) (found .given .1) in
     record { order = omega arith; within = omega arith }
 
 returns-2 : tie.Need-returns-2
@@ -43,16 +42,16 @@ returns-2 c =
     let start = c .before .before .before .before in
     let head-at = c .before .before .head-at in
     let enum-told = c .enum-told in
-    sym (ap checked (after-cut (byteAt (now (start .args .session))) 0 (length (now (start .args .session))) (tagged tagNames) (namesContent (byteAt (now (start .args .session)))) (head-at .ensures) (enum-told .given .1)))
+    sym (ap checked (after-cut (byteAt (now (start .args .session))) (start .args .at) (length (now (start .args .session))) (tagged (start .args .tag)) (namesContent (byteAt (now (start .args .session))) (start .args .most)) (head-at .ensures) (enum-told .given .1)))
 
 returns-3 : tie.Need-returns-3
 returns-3 c =
     let start = c .before .before .before .before .before .before .before in
     let head-at = c .before .before .before .before .before .head-at in
-    let tag = c .before .before .before .tag in
+    let found = c .before .before .before .found in
     let if1 = c .before .if1 in
     let check-name-fields = c .check-name-fields in
-    check-name-fields .ensures ∙ sym (ap checked (after-good (byteAt (now (start .args .session))) 0 (length (now (start .args .session))) (tagged tagNames) (namesContent (byteAt (now (start .args .session)))) (head-at .ensures) (tag .given .1) (sym (eq-eqb _ tagNames (if1 .left))) refl))
+    check-name-fields .ensures ∙ sym (ap checked (after-good (byteAt (now (start .args .session))) (start .args .at) (length (now (start .args .session))) (tagged (start .args .tag)) (namesContent (byteAt (now (start .args .session))) (start .args .most)) (head-at .ensures) (found .given .1) (sym (eq-eqb _ (start .args .tag) (if1 .left))) refl))
 
 pub check-names-spec : {M : Type 1} → statement M
 check-names-spec =
@@ -62,7 +61,9 @@ check-names-spec =
     (λ c. search needs)
     (λ c. search needs)
     returns
-    add-check-name-fields
+    (λ c. search needs)
+    (λ c. search needs)
+    add-check-name-fields-3
     check-name-fields-requires
     returns-2
     returns-3)

@@ -4,7 +4,7 @@ use borrow.Author.Needs.{needs}
 use Rattle.definition.specs.Number
 use Rattle.scope.proofs.Leaves.{ready-on}
 use Rattle.step.proofs.Memory.{stays}
-use Rattle.step.proofs.Symbols.{fine-base, fine-good, names-length, load-found, load-refused}
+use Rattle.step.proofs.Symbols.{fine-base, fine-words, fine-good, names-length, load-found, load-refused}
 use Rattle.symbol_table.specs.declared.Lookup.the-variants.{Undefined, Full}
 use Rattle.step.proofs.load.Statement.{statement}
 use Rattle.step.proofs.load.Tie as tie
@@ -13,7 +13,7 @@ slice-aggregate-resolve-name : tie.Need-slice-aggregate-resolve-name
 slice-aggregate-resolve-name c = names-length _ _ _ (c .before .before .before .w .given .1) (c .before .before .before .before .before .before .before .before .before .pre .1 .1 .1)
 
 resolve-name-requires : tie.Need-resolve-name-requires
-resolve-name-requires c κs = (fine-base _ _ _ (c .before .before .before .before .before .w .given .1) (c .before .before .before .before .before .before .before .before .before .before .before .pre .1 .1 .1), (fine-good _ _ _ (c .before .before .before .before .before .w .given .1) (c .before .before .before .before .before .before .before .before .before .before .before .pre .1 .1 .1), search needs))
+resolve-name-requires c κs = (fine-words _ _ _ (c .before .before .before .before .before .w .given .1) (c .before .before .before .before .before .before .before .before .before .before .before .pre .1 .1 .1), (fine-base _ _ _ (c .before .before .before .before .before .w .given .1) (c .before .before .before .before .before .before .before .before .before .before .before .pre .1 .1 .1), (fine-good _ _ _ (c .before .before .before .before .before .w .given .1) (c .before .before .before .before .before .before .before .before .before .before .before .pre .1 .1 .1), search needs)))
 
 emit-operand-requires : tie.Need-emit-operand-requires
 emit-operand-requires c κs = (ready-on (c .before .before .before .before .before .before .before .before .before .before .before .before .before .before .w .given .1) (c .before .before .before .before .before .before .before .before .before .before .before .before .before .before .before .before .before .before .before .before .pre .1 .1 .0), c .before .before .load-of .ensures .1)

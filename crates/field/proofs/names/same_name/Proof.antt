@@ -6,9 +6,9 @@ use lib.Seq.{drop-length}
 use native.Mathlib.Omega.{arith}
 use borrow.Author.Needs.{needs}
 use Rattle.definition.specs.SymbolTable.{same}
-use Rattle.symbol_table.proofs.Names.{same-lengths, same-step, same-differ, same-none}
-use Rattle.symbol_table.proofs.name.same_name.Statement.{statement}
-use Rattle.symbol_table.proofs.name.same_name.Tie as tie
+use Rattle.field.proofs.Same.{same-lengths, same-step, same-differ, same-none}
+use Rattle.field.proofs.names.same_name.Statement.{statement}
+use Rattle.field.proofs.names.same_name.Tie as tie
 
 abbrev Inv-loop : tie.InvT-loop
 Inv-loop x y i₀ i = (i ≤ length x) × (same x y ≡ same (drop i x) (drop i y))
