@@ -1,0 +1,17 @@
+pub mod Positions
+pub mod Stepping
+pub mod Ways
+pub mod Accepts
+pub mod Refuses
+pub mod Verdicts
+pub mod Compiled
+pub mod Tables
+pub mod Laws
+pub mod Steps
+pub mod Loops
+pub mod Ends
+pub mod Judges
+pub mod Pools
+pub mod Whole
+pub mod Answers
+pub mod Calls

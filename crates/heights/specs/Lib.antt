@@ -1,0 +1,4 @@
+pub mod Judgement
+pub mod Pass
+pub mod Marks
+pub mod Chunks
