@@ -13,5 +13,6 @@ pub mod Ends
 pub mod Judges
 pub mod Pools
 pub mod Whole
+pub mod Flows
 pub mod Answers
 pub mod Calls
