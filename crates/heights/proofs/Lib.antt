@@ -16,3 +16,5 @@ pub mod Whole
 pub mod Flows
 pub mod Answers
 pub mod Calls
+pub mod Bounds
+pub mod Unread
