@@ -17,7 +17,7 @@ use Rattle.opcode.specs.declared.Instruction.{Instruction}
 use Rattle.opcode.specs.declared.Decoded.{Decoded as Answer}
 use Rattle.opcode.specs.declared.Decoded.the-variants.{Instr as Found, Refused}
 use Rattle.definition.specs.declared.Refusal.{Refusal}
-use Rattle.opcode.proofs.Decoding.{both-left, both-right, before-within}
+use Rattle.opcode.proofs.Decoding.{both-left, both-right, before-within, answered, unanswered}
 use Rattle.bytecode.proofs.Items.{unlike}
 use Rattle.listing.specs.Put.{Puts, perByte}
 use Rattle.listing.specs.Reads.{CodeAt, HasCode}
@@ -78,20 +78,6 @@ module _ (byte : ℕ → ℕ) (end : ℕ) where
   pub code-enough : (start most fewer : ℕ) {c : Code} {n : ℕ} → start ≤ end → end ≤ start + fewer → readCode byte most start end ≡ decoded c n
       → readCode byte fewer start end ≡ decoded c n
   code-enough start most fewer l h e = enough (readInstr byte) end grows most fewer [] start l h e
-
--- what decoding answered of an instruction that was read
-answered : {d : Decoded Instr} {r : Answer} {x : Instr} {m n : ℕ} {i : Instruction} → r ≡ decodeAnswer d → d ≡ decoded x m → r ≡ Found i n
-    → (instrOf i ≡ x) × (n ≡ m)
-answered {r = r} {x = x} {m = m} {n = n} {i = i} e f t =
-    let g : Found (instruction x) m ≡ Found i n = sym (e ∙ ap decodeAnswer f) ∙ t in
-    let j : instruction x ≡ i = cc in
-    (sym (ap instrOf j), cc)
-
-unanswered : {d : Decoded Instr} {r : Answer} {x : Instr} {m : ℕ} {q : Refusal} → r ≡ decodeAnswer d → d ≡ decoded x m → r ≡ Refused q → ⊥
-unanswered {r = r} {x = x} {m = m} {q = q} e f t =
-    let g : Found (instruction x) m ≡ Refused q = sym (e ∙ ap decodeAnswer f) ∙ t in
-    let z : _≡_ {A = ℕ} 0 1 = cc in
-    omega arith
 
 -- the loop at an offset of code from `start` up to `end`
 module _ (b : Bytes) (start end : ℕ) where

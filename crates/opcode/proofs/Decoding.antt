@@ -8,12 +8,14 @@ use lib.Dec.{leb}
 use borrow.Author.Tests.{leb-true, lt-ltb, le-ltb}
 use Rattle.definition.specs.Basic.{Bytes, byteAt, both}
 use Rattle.definition.specs.Number.{refusal, badInstruction}
-use Rattle.definition.specs.Opcode.{instr, instrAt, operandAt, capturesAt, width, whole, opLast}
+use Rattle.definition.specs.Opcode.{Instr, instr, instrAt, operandAt, capturesAt, width, whole, opLast}
 use Rattle.definition.specs.Decode.{decoded, malformed, readInstr}
+use Rattle.definition.specs.Decode as Decode
+use Rattle.definition.specs.declared.Refusal.{Refusal}
 use Rattle.opcode.specs.declared.Instruction.{Instruction}
 use Rattle.opcode.specs.declared.Decoded.{Decoded}
 use Rattle.opcode.specs.declared.Decoded.the-variants.{Instr as Found, Refused}
-use Rattle.opcode.specs.Decoding.{sizeAt, instruction, readBefore, decodeAnswer}
+use Rattle.opcode.specs.Decoding.{sizeAt, instruction, instrOf, readBefore, decodeAnswer}
 
 pub both-left : (a b : Bool) → both a b ≡ true → a ≡ true
 both-left true b e = refl
@@ -75,3 +77,17 @@ before-past b at end h = rw (lt-ltb (length b) end h)
 
 pub answers-within : (b : Bytes) (at end : ℕ) {r : Decoded} → end ≤ length b → r ≡ decodeAnswer (readInstr (byteAt b) at end) → r ≡ decodeAnswer (readBefore b at end)
 answers-within b at end h e = e ∙ ap decodeAnswer (sym (before-within b at end h))
+
+-- what decoding answered of an instruction that was read
+pub answered : {d : Decode.Decoded Instr} {r : Decoded} {x : Instr} {m n : ℕ} {i : Instruction} → r ≡ decodeAnswer d → d ≡ decoded x m → r ≡ Found i n
+    → (instrOf i ≡ x) × (n ≡ m)
+answered {r = r} {x = x} {m = m} {n = n} {i = i} e f t =
+    let g : Found (instruction x) m ≡ Found i n = sym (e ∙ ap decodeAnswer f) ∙ t in
+    let j : instruction x ≡ i = cc in
+    (sym (ap instrOf j), cc)
+
+pub unanswered : {d : Decode.Decoded Instr} {r : Decoded} {x : Instr} {m : ℕ} {q : Refusal} → r ≡ decodeAnswer d → d ≡ decoded x m → r ≡ Refused q → ⊥
+unanswered {r = r} {x = x} {m = m} {q = q} e f t =
+    let g : Found (instruction x) m ≡ Refused q = sym (e ∙ ap decodeAnswer f) ∙ t in
+    let z : _≡_ {A = ℕ} 0 1 = cc in
+    omega arith

@@ -1,0 +1,5 @@
+pub mod Judgement
+pub mod Pass
+pub mod Marks
+pub mod Chunks
+pub mod Proposal
