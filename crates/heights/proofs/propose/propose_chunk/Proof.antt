@@ -73,6 +73,7 @@ propose-chunk-spec =
     (λ c. search needs)
     slice-write-marks
     loop-holds
+    (λ c κs. search needs)
     (λ c. search needs)
     same-length
     same-length-2
