@@ -155,58 +155,35 @@ pub fn all(image: &[u8]) -> (Vec<Option<u32>>, bool) {
     (list, pass)
 }
 
-fn push(code: &mut Vec<u8>, random: &mut Random, height: &mut usize) {
-    let low = |n: usize| [(n >> 8) as u8, n as u8];
-    match random.below(if *height < 2 { 5 } else { 10 }) {
-        0 => code.extend([0x00, 0, random.below(3) as u8]),
-        1 => code.push(*random.pick(&[0x06, 0x07, 0x0F, 0x1D])),
-        2 => code.extend([*random.pick(&[0x18, 0x1A, 0x1C]), random.below(4) as u8]),
-        3 => code.extend([0x10, 0, random.below(4) as u8]),
-        4 if *height == 0 => code.push(0x06),
-        4 | 5 => {
-            code.push(*random.pick(&[0x02, 0x0B, 0x0C, 0x02]));
-            *height -= usize::from(code[code.len() - 1] == 0x02);
-            return;
-        }
-        6 => {
-            code.push(*random.pick(&[0x01, 0x03, 0x04, 0x05, 0x08, 0x09, 0x0A, 0x14]));
-            *height -= 1;
-            return;
-        }
-        7 => {
-            let n = random.below(*height + 1);
-            let [a, b] = low(n);
-            match random.below(3) {
-                0 => code.extend([*random.pick(&[0x12, 0x13]), a, b]),
-                1 => code.extend([0x1B, 0, 0, n as u8]),
-                _ if n == 0 => code.push(0x0F),
-                _ => {
-                    code.extend([0x15, n as u8 - 1]);
-                    *height -= n - 1;
-                    return;
-                }
-            }
-            *height -= n;
-        }
-        8 => {
-            code.extend([*random.pick(&[0x11, 0x19, 0x11]), 0]);
-            if code[code.len() - 2] == 0x11 {
-                code.push(0);
-            }
-            *height -= 1;
-            return;
-        }
-        _ => {
-            code.push(*random.pick(&[0x16, 0x17, 0x0E, 0x0D]));
-            if code[code.len() - 1] >= 0x16 {
-                return;
-            }
-            *height -= usize::from(code[code.len() - 1] == 0x0D);
-            code.extend([0xFF, 0xFF]);
-            return;
-        }
+/// One instruction, most often one that takes no more than is there; the target of a jump comes later.
+fn instruction(random: &mut Random, height: usize) -> Vec<u8> {
+    let n = random.below(height.min(255) + 1) as u8;
+    match random.below(if height < 2 { 6 } else { 12 }) {
+        0 => vec![0x00, 0, random.below(3) as u8],
+        1 | 2 => vec![*random.pick(&[0x06, 0x07, 0x0F, 0x1D])],
+        3 => vec![*random.pick(&[0x18, 0x1A, 0x1C]), random.below(4) as u8],
+        4 => vec![0x10, 0, random.below(4) as u8],
+        5 => vec![*random.pick(&[0x02, 0x0B, 0x0C])],
+        6 => vec![*random.pick(&[0x01, 0x03, 0x04, 0x05, 0x08, 0x09, 0x0A, 0x14])],
+        7 => vec![*random.pick(&[0x12, 0x13]), 0, n],
+        8 => vec![0x1B, 0, 0, n],
+        9 => vec![0x15, n.saturating_sub(1)],
+        10 => random.pick(&[vec![0x11, 0, 0], vec![0x19, 0], vec![0x16], vec![0x17]]).clone(),
+        _ => vec![*random.pick(&[0x0D, 0x0D, 0x0E]), 0xFF, 0xFF],
     }
-    *height += 1;
+}
+
+/// Appends it, if it takes no more than is there, or now and then all the same.
+fn push(code: &mut Vec<u8>, random: &mut Random, height: &mut usize) {
+    let bytes = instruction(random, *height);
+    let i = &decode(&bytes)[0];
+    let (takes, gives) = effect(i);
+    if takes <= *height || random.often(20) {
+        if flow(i.op) != (false, false) {
+            *height = height.saturating_sub(takes) + gives;
+        }
+        code.extend(bytes);
+    }
 }
 
 /// Code of some instructions, most often level, whose jumps go to a later one, most often.
