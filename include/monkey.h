@@ -185,7 +185,8 @@ uint64_t monkey_check_heights(const uint8_t *image, size_t image_length,
 
 /*
  * Proposes heights for an image by following its code: the answer is how many instructions the image has, at most MONKEY_HEIGHTS_LIMIT, and a height for each stands at
- * the front of the list, 0 where it is not reached. What is behind them stays as it was. Nothing else is promised of them: monkey_check_heights judges.
+ * the front of the list, 0 where it is not reached. What is behind them stays as it was. How many there are and what stays is proved, of the heights themselves nothing:
+ * monkey_check_heights judges them. It takes them for every image of a session that monkey_make_session made and monkey_compile alone has written, in all that were tried.
  *   Refused, and the list is as it was: 17 and the place; then 15, where the list has fewer numbers than the image has instructions.
  */
 uint64_t monkey_propose_heights(const uint8_t *image, size_t image_length, uint32_t *heights, size_t heights_length);
