@@ -3,7 +3,7 @@
 
 usage: check_chunks.py LISTED SERIES..
 
-LISTED (cases/chunks.txt): each image fails exactly the clauses that its line names. SERIES: every image that a series gives from a fresh session, beside
+LISTED (cases/chunks.txt): each image fails exactly the clauses that its line names. SERIES: every image that a series gives from a session that was made, beside
 the number of definitions that the session then has, fails none.
 """
 import re
@@ -140,7 +140,7 @@ def check_listed(path):
 
 
 def check_series(path):
-    """The images of the series that start fresh."""
+    """The images of the series from a session that was made."""
     count = wrong = definitions = 0
     tree, name, fresh = b"", "", True
     for key, *values in lines_of(path):

@@ -13,6 +13,7 @@ use Rattle.definition.specs.SymbolTable.{same, find, findGlobal}
 use Rattle.field.specs.Layout.{content}
 use Rattle.symbol_table.specs.Name.{hashOf}
 use Rattle.symbol_table.specs.Layout.{entriesAt, nameIn, codeIn, tagIn, entryOf, symbolOf, back, GoodEntry, globalName, Latest}
+use Rattle.symbol_table.specs.Contract.{PassedOver}
 use Rattle.symbol_table.proofs.Names.{hash-differs}
 
 -- the last index, or one before it
@@ -62,6 +63,38 @@ module _ (tree : Bytes) (r : List ℕ) (n : Bytes) (k : ℕ) where
     -- other bits of the hash: another name
     pub find-other : GoodEntry tree (getD r (entriesAt + (k - 1)) 0) → (tagIn (getD r (entriesAt + (k - 1)) 0) ≡ hashOf n % 128 → ⊥) → find n (back (entryOf tree) r entriesAt k) ≡ find n (back (entryOf tree) r entriesAt (k - 1))
     find-other g d = find-miss (hash-differs (λ x. hashOf x % 128) n (content tree (nameIn (getD r (entriesAt + (k - 1)) 0))) (λ e. d (g .tag ∙ sym e)))
+
+-- entries of other tags hold another name
+module _ (tree : Bytes) (r : List ℕ) (n : Bytes) where
+  over : (k d : ℕ) → ((i : ℕ) → i < k + d → GoodEntry tree (getD r (entriesAt + i) 0)) → ((i : ℕ) → k ≤ i → i < k + d → tagIn (getD r (entriesAt + i) 0) ≡ hashOf n % 128 → ⊥)
+      → find n (back (entryOf tree) r entriesAt (k + d)) ≡ find n (back (entryOf tree) r entriesAt k)
+  over k zero g h = let e : k + 0 ≡ k = omega arith in ap (λ m. find n (back (entryOf tree) r entriesAt m)) e
+  over k (suc d) g h =
+      let e : k + suc d - 1 ≡ k + d = omega arith in
+      find-other tree r n (k + suc d) (omega arith) (g (k + suc d - 1) (omega arith)) (h (k + suc d - 1) (omega arith) (omega arith))
+      ∙ ap (λ m. find n (back (entryOf tree) r entriesAt m)) e
+      ∙ over k d (λ i l. g i (omega arith)) (λ i l m. h i l (omega arith))
+
+  pub find-passed : (from k : ℕ) → ((i : ℕ) → i < from → GoodEntry tree (getD r (entriesAt + i) 0)) → {tag : ℕ} → tag ≡ hashOf n % 128 → PassedOver r from tag k
+      → find n (back (entryOf tree) r entriesAt from) ≡ find n (back (entryOf tree) r entriesAt k)
+  find-passed from k g t p =
+      let o = p .order in
+      let e : k + (from - k) ≡ from = omega arith in
+      ap (λ m. find n (back (entryOf tree) r entriesAt m)) (sym e) ∙ over k (from - k) (λ i l. g i (omega arith)) (λ i l m q. p .others i l (omega arith) (q ∙ sym t))
+
+-- Passing over
+
+pub passed-none : (r : List ℕ) (from tag : ℕ) → PassedOver r from tag from
+passed-none r from tag = record { order = omega arith; others = λ i l m. absurd (omega arith) }
+
+-- one more of another tag
+pub passed-more : (r : List ℕ) (from tag k : ℕ) → 0 < k → (tagIn (getD r (entriesAt + (k - 1)) 0) ≡ tag → ⊥) → PassedOver r from tag k → PassedOver r from tag (k - 1)
+passed-more r from tag k h d p =
+    record {
+      order = omega (arith, p .order);
+      others = λ i l m q.
+          ⊎-elim (λ (e : k - 1 ≡ i). d (ap (λ j. tagIn (getD r (entriesAt + j) 0)) e ∙ q)) (λ (b : k - 1 < i). p .others i (omega arith) m q) (eq-or-lt-of-le {n = k - 1} {m = i} l);
+    }
 
 -- the latest of k globals
 module _ (name : ℕ → Bytes) (g : List ℕ) (n : Bytes) where

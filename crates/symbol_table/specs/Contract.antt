@@ -3,7 +3,7 @@ use Prim.Native.Nat.{ℕ, suc, _+_, _≤_, _<_}
 use mathlib.Core.Path.{_≡_}
 use mathlib.Core.List.{List, [], _∷_}
 use mathlib.Core.Option.{Option, none, some}
-use lib.ListN.{length, take, drop}
+use lib.ListN.{length, getD, take, drop}
 use Rattle.definition.specs.Basic.{Bytes, byteAt}
 use Rattle.definition.specs.Number
 use Rattle.definition.specs.Opcode.{instr, opSetGlobal, opSetLocal}
@@ -12,7 +12,7 @@ use Rattle.definition.specs.Session.{Words}
 use Rattle.definition.specs.Decode.{decoded, readWords, readNames}
 use Rattle.field.specs.Layout.{after, content}
 use Rattle.symbol_table.specs.Name.{Stands, fields, hashOf}
-use Rattle.symbol_table.specs.Layout.{globalsSize, partSize, base, part, symbolOf, tableOf, tablesOf, globalsOf, globalsIn, GoodTable, GoodGlobals, Good}
+use Rattle.symbol_table.specs.Layout.{globalsSize, partSize, entriesAt, tagIn, base, part, symbolOf, tableOf, tablesOf, globalsOf, globalsIn, GoodTable, GoodGlobals, Good}
 use Rattle.symbol_table.specs.declared.Hit.{Hit}
 use Rattle.symbol_table.specs.declared.Hit.the-variants.{At, Nothing}
 use Rattle.symbol_table.specs.declared.Lookup.{Lookup}
@@ -57,6 +57,11 @@ definedOf LocalsFull gs ts = Defined.noRoom Number.locals
 pub record IsName (tree : Bytes) (name hash : ℕ) : Type 0 where
   pub stands : Stands tree name
   pub is : hash ≡ hashOf (content tree name)
+
+-- of the first entries of a function's part, those behind the k-th have other tags
+pub record PassedOver (r : List ℕ) (from tag k : ℕ) : Type 0 where
+  pub order : k ≤ from
+  pub others : (i : ℕ) → k ≤ i → i < from → tagIn (getD r (entriesAt + i) 0) ≡ tag → ⊥
 
 -- the part of the function at a level changed so, and nothing else
 pub record Inside (P : List ℕ → List ℕ → Type 0) (l : ℕ) (a a′ : List ℕ) : Type 0 where

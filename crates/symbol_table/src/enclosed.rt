@@ -24,9 +24,9 @@ ghost use Rattle.definition.specs.Limit.{treeLimit, localsLimit, freeLimit, arg
 ghost use Rattle.definition.specs.SymbolTable.{find};
 ghost use Rattle.field.specs.Layout.{len, content};
 ghost use Rattle.symbol_table.specs.Name.{Stands, Row, hashOf};
-ghost use Rattle.symbol_table.specs.Layout.{partSize, packed, entries, tableOf, Sized, GoodTable};
+ghost use Rattle.symbol_table.specs.Layout.{partSize, entriesAt, packed, entries, tableOf, Sized, GoodTable};
 ghost use Rattle.symbol_table.specs.Store.{enteredIn, localIn, freeIn};
-ghost use Rattle.symbol_table.specs.Contract.{hitOf, Crosses, DefinesLocal, Params, Opens};
+ghost use Rattle.symbol_table.specs.Contract.{hitOf, PassedOver, Crosses, DefinesLocal, Params, Opens};
 
 // How many entries a function's table has.
 fn count(part: &[u32]) -> usize
@@ -36,22 +36,37 @@ fn count(part: &[u32]) -> usize
     wide32(part[0]) + wide32(part[1]) + wide32(part[2])
 }
 
-// The latest entry of a name.
+// How many of the first so many entries are left once those behind the latest with a tag are passed over: 0 where none has it.
+fn tagged_below(part: &[u32], from: usize, tag: usize) -> usize
+    requires { ⌜ entriesAt + from ≤ length (now part) ⌝ }
+    ensures { λ r. ⌜ PassedOver (now (part .entry)) from tag r ⌝ }
+{
+    let mut k = from;
+    while k > 0 {
+        let v = part[ENTRIES_AT + (k - 1)];
+        if wide32(v / TAG_UNIT) == tag {
+            return k;
+        }
+        k -= 1;
+    }
+    k
+}
+
+// The latest entry of a name. The entries whose tag is another are passed over in a loop of their own, which looks at no name.
 pub fn find_in(tree: &[u8], part: &[u32], name: &[u8], hash: usize) -> Hit
     requires { ⌜ GoodTable (now tree) (now part) ⌝ }
     requires { ⌜ hash ≡ hashOf (now name) ⌝ }
     ensures { λ r. ⌜ hitOf r ≡ find (now (name .entry)) (tableOf (now (tree .entry)) (now (part .entry)) .entries) ⌝ }
 {
     let tag = hash % 128;
-    let mut k = count(part);
+    let mut k = tagged_below(part, count(part), tag);
     while k > 0 {
         k -= 1;
         let v = part[ENTRIES_AT + k];
-        if wide32(v / TAG_UNIT) == tag {
-            if same_name(name, name_at(tree, wide32(v % CODE_UNIT))) {
-                return Hit::At(v / CODE_UNIT % CODES);
-            }
+        if same_name(name, name_at(tree, wide32(v % CODE_UNIT))) {
+            return Hit::At(v / CODE_UNIT % CODES);
         }
+        k = tagged_below(part, k, tag);
     }
     Hit::Nothing
 }
