@@ -1,0 +1,9 @@
+pub mod Passes
+pub mod Executes
+pub mod MainNames
+pub mod Meets
+pub mod Settles
+pub mod Choices
+pub mod Trials
+pub mod RunHeights
+pub mod Words
