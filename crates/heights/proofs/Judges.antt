@@ -8,15 +8,17 @@ use lib.Dec.{eqb}
 use lib.ListN.{length, set}
 use borrow.Author.Tests.{eqb-true}
 use Rattle.definition.specs.Basic.{Bytes, byteAt}
+use Rattle.definition.specs.Limit.{constantsLimit}
 use Rattle.definition.specs.Tag.{tagIntegerConst, tagStringConst, tagFunctionConst}
 use Rattle.definition.specs.Field.{head, bytes}
 use Rattle.definition.specs.Bytecode.{Code, Const}
-use Rattle.definition.specs.Decode.{decoded, constHead, readContent}
+use Rattle.definition.specs.Decode.{decoded, constHead, readContent, readConst}
 use Rattle.bytecode.proofs.Heads.{both-true}
-use Rattle.bytecode.proofs.Fields.{Good, head-read}
-use Rattle.listing.specs.Reads.{CodeAt, functionOf}
+use Rattle.bytecode.proofs.Fields.{Good, head-read, const-end, const-ends}
+use Rattle.listing.specs.Reads.{CodeAt, PoolAt, functionOf}
+use Rattle.listing.proofs.Items.{Reading, next}
 use Rattle.listing.proofs.Constants.{constant-within, Function, function-is}
-use Rattle.heights.specs.Judgement.{Kind}
+use Rattle.heights.specs.Judgement.{Kind, instructions}
 use Rattle.heights.specs.Pass.{Top, topOf}
 use Rattle.heights.specs.Marks.{Blank, chunkAnswer, ChunkReady, ChunkEnds}
 use Rattle.heights.specs.Chunks.{topAnswer, topInto, constantAnswer, constantInto, Judges, Standing, ConstantReady}
@@ -67,27 +69,29 @@ module _ (b : Bytes) {at next : ℕ} {x : Const} (s : Standing b at next x) wher
   read : Good (byteAt b) at (s .end) (constHead (byteAt b)) × (readContent (byteAt b) (head (byteAt b) at) (at + 3) ≡ decoded x (at + 3 + head (byteAt b) at .len))
   read = head-read (byteAt b) at (s .end) (constHead (byteAt b)) (readContent (byteAt b)) (s .constant .reads)
 
-  -- one that is no function has no chunk
-  module _ (n : byteAt b at ≡ tagFunctionConst → ⊥) (hs : List ℕ) (p : Progress) (out l : List ℕ) where
-    pub no-chunk : Blank l (suc at) → Judges next (constantAnswer hs x p) (constantInto hs x p out) (On p) out l
-    no-chunk e = go (eqb (byteAt b at) tagIntegerConst) refl (eqb (byteAt b at) tagStringConst) refl
+  -- one that is no function is an integer or a string
+  module _ (n : byteAt b at ≡ tagFunctionConst → ⊥) (P : Const → Type 0) where
+    no-function : ((c : Bytes) → P (Const.integer c)) → ((c : Bytes) → P (Const.string c)) → P x
+    no-function f g = go (eqb (byteAt b at) tagIntegerConst) refl (eqb (byteAt b at) tagStringConst) refl
       where
-        judges : (y : Const) → On p ≡ constantAnswer hs y p → out ≡ constantInto hs y p out → y ≡ x → Judges next (constantAnswer hs x p) (constantInto hs x p out) (On p) out l
-        judges y f g q =
-            record {
-              answers = f ∙ ap (λ y. constantAnswer hs y p) q;
-              stores = g ∙ ap (λ y. constantInto hs y p out) q;
-              blank = λ _ _. blank-later (let w = standing-head in omega arith) e;
-            }
-
-        go : (i : Bool) → eqb (byteAt b at) tagIntegerConst ≡ i → (t : Bool) → eqb (byteAt b at) tagStringConst ≡ t → Judges next (constantAnswer hs x p) (constantInto hs x p out) (On p) out l
-        go true e t f =
+        go : (i : Bool) → eqb (byteAt b at) tagIntegerConst ≡ i → (t : Bool) → eqb (byteAt b at) tagStringConst ≡ t → P x
+        go true e t u =
             let r : decoded (Const.integer (bytes (byteAt b) (at + 3) (head (byteAt b) at .len))) (at + 3 + head (byteAt b) at .len) ≡ decoded x (at + 3 + head (byteAt b) at .len) = rw e at (read .1) in
-            judges (Const.integer (bytes (byteAt b) (at + 3) (head (byteAt b) at .len))) refl refl cc
-        go false e true f =
-            let r : decoded (Const.string (bytes (byteAt b) (at + 3) (head (byteAt b) at .len))) (at + 3 + head (byteAt b) at .len) ≡ decoded x (at + 3 + head (byteAt b) at .len) = rw (e, f) at (read .1) in
-            judges (Const.string (bytes (byteAt b) (at + 3) (head (byteAt b) at .len))) refl refl cc
-        go false e false f = let g = both-true (eqb (byteAt b at) tagFunctionConst) _ (rw (e, f) at (read .0 .is)) in absurd (n (eqb-true (byteAt b at) tagFunctionConst (g .0)))
+            subst P (cc) (f (bytes (byteAt b) (at + 3) (head (byteAt b) at .len)))
+        go false e true u =
+            let r : decoded (Const.string (bytes (byteAt b) (at + 3) (head (byteAt b) at .len))) (at + 3 + head (byteAt b) at .len) ≡ decoded x (at + 3 + head (byteAt b) at .len) = rw (e, u) at (read .1) in
+            subst P (cc) (g (bytes (byteAt b) (at + 3) (head (byteAt b) at .len)))
+        go false e false u = let g = both-true (eqb (byteAt b at) tagFunctionConst) _ (rw (e, u) at (read .0 .is)) in absurd (n (eqb-true (byteAt b at) tagFunctionConst (g .0)))
+
+  -- it has no instruction
+  pub no-instructions : (byteAt b at ≡ tagFunctionConst → ⊥) → instructions x ≡ 0
+  no-instructions n = no-function n (λ x. instructions x ≡ 0) (λ c. refl) (λ c. refl)
+
+  -- and no chunk
+  pub no-chunk : (byteAt b at ≡ tagFunctionConst → ⊥) → (hs : List ℕ) (p : Progress) (out l : List ℕ) → Blank l (suc at) → Judges next (constantAnswer hs x p) (constantInto hs x p out) (On p) out l
+  no-chunk n hs p out l e =
+      let k : Blank l (suc next) = blank-later (let w = standing-head in omega arith) e in
+      no-function n (λ x. Judges next (constantAnswer hs x p) (constantInto hs x p out) (On p) out l) (λ c. record { answers = refl; stores = refl; blank = λ _ _. k }) (λ c. record { answers = refl; stores = refl; blank = λ _ _. k })
 
   -- a function's chunk
   module _ (e : byteAt b at ≡ tagFunctionConst) where
@@ -112,3 +116,25 @@ chunk-ready b l h e =
     let c = chunk b (h .stands .is) e in
     let w = standing-head b (h .stands .is) in
     (record { code = record { code = c .code; is = c .stands }; room = h .room; short = h .short; blank = blank-later (omega arith) (h .blank) }, omega (arith, h .few, h .short))
+
+-- the constant at an offset of a pool, behind some
+pub record Turn (b : Bytes) (start end at : ℕ) (pool : List Const) (after : ℕ) : Type 0 where
+  pub x : Const
+  pub standing : Standing b at after x
+  pub reading : Reading (readConst (byteAt b)) end constantsLimit start (x ∷ pool) after
+  pub behind : at + 3 ≤ after
+  pub within : after ≤ end
+
+pub turn : (b : Bytes) {start end : ℕ} {cs : List Const} → PoolAt b start end cs → {pool : List Const} {at : ℕ} → Reading (readConst (byteAt b)) end constantsLimit start pool at → at < end
+    → {len : ℕ} → len ≡ head (byteAt b) at .len → Turn b start end at pool (at + 3 + len)
+turn b {start} {end} h {pool} {at} r before {len} q =
+    let found = next (readConst (byteAt b)) end constantsLimit start r (h .reads) (λ e. omega arith) in
+    let e = const-end (byteAt b) at end (found .found) in
+    let w = const-ends (byteAt b) at end (found .x) (found .next) (found .found) in
+    record {
+      x = found .x;
+      standing = record { end = end; constant = record { within = h .within; reads = found .found ∙ ap (decoded (found .x)) e }; sized = ap (λ n. at + 3 + n) q };
+      reading = subst (λ n. Reading (readConst (byteAt b)) end constantsLimit start (found .x ∷ pool) n) (e ∙ ap (λ n. at + 3 + n) (sym q)) (found .reading);
+      behind = omega arith;
+      within = omega arith;
+    }

@@ -13,5 +13,8 @@ pub mod Ends
 pub mod Judges
 pub mod Pools
 pub mod Whole
+pub mod Flows
 pub mod Answers
 pub mod Calls
+pub mod Bounds
+pub mod Unread

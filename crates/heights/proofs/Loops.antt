@@ -10,7 +10,7 @@ use borrow.Author.Tests.{lt-ltb, le-ltb}
 use Rattle.definition.specs.Basic.{Bytes, byteAt, pick, both}
 use Rattle.definition.specs.Opcode.{Instr, size}
 use Rattle.definition.specs.Bytecode.{Code, sizeOf}
-use Rattle.definition.specs.Decode.{Decoded, decoded, malformed, readInstr}
+use Rattle.definition.specs.Decode.{Decoded, decoded, readInstr}
 use Rattle.definition.specs.Effect.{takes, gives, flowOf, falls, leaps}
 use Rattle.definition.specs.declared.Refusal.{Refusal}
 use Rattle.opcode.specs.Decoding.{instruction, instrOf, decodeAnswer}
@@ -60,13 +60,13 @@ small-start = record { below = λ k. go (eqb k 0) }
     go false = omega arith
 
 -- what decoding answered of an instruction that was read
-answered : {d : Decoded Instr} {r : Answer} {x : Instr} {m n : ℕ} {i : Instruction} → r ≡ decodeAnswer d → d ≡ decoded x m → r ≡ Found i n → (instrOf i ≡ x) × (n ≡ m)
+pub answered : {d : Decoded Instr} {r : Answer} {x : Instr} {m n : ℕ} {i : Instruction} → r ≡ decodeAnswer d → d ≡ decoded x m → r ≡ Found i n → (instrOf i ≡ x) × (n ≡ m)
 answered {r = r} {x = x} {m = m} {n = n} {i = i} e f t =
     let g : Found (instruction x) m ≡ Found i n = sym (e ∙ ap decodeAnswer f) ∙ t in
     let j : instruction x ≡ i = cc in
     (sym (ap instrOf j), cc)
 
-unanswered : {d : Decoded Instr} {r : Answer} {x : Instr} {m : ℕ} {q : Refusal} → r ≡ decodeAnswer d → d ≡ decoded x m → r ≡ Refused q → ⊥
+pub unanswered : {d : Decoded Instr} {r : Answer} {x : Instr} {m : ℕ} {q : Refusal} → r ≡ decodeAnswer d → d ≡ decoded x m → r ≡ Refused q → ⊥
 unanswered {r = r} {x = x} {m = m} {q = q} e f t =
     let g : Found (instruction x) m ≡ Refused q = sym (e ∙ ap decodeAnswer f) ∙ t in
     let z : _≡_ {A = ℕ} 0 1 = cc in
@@ -229,25 +229,3 @@ module _ (b : Bytes) (start end : ℕ) (hs : List ℕ) (first : ℕ) where
                 small = small-step (p .state .marks) (sizeOf (p .code)) (found .x) (length (p .code)) (p .small);
                 long = n ∙ p .long;
               }
-
--- an instruction that was decoded, of any bytes
-pub record Decodes (at end : ℕ) (i : Instruction) (after : ℕ) : Type 0 where
-  pub known : i .op < 30
-  pub behind : at < after
-  pub within : after ≤ end
-
-pub decodes : (b : Bytes) (at end : ℕ) {r : Answer} {i : Instruction} {after : ℕ} → r ≡ decodeAnswer (readInstr (byteAt b) at end) → r ≡ Found i after → Decodes at end i after
-decodes b at end {r} {i} {after} e t = go (readInstr (byteAt b) at end) refl
-  where
-    go : (d : Decoded Instr) → readInstr (byteAt b) at end ≡ d → Decodes at end i after
-    go (decoded x m) f =
-        let w = whole-read (byteAt b) end at x m f in
-        let a = answered e f t in
-        record { known = omega (arith, w .known, ap (λ (j : Instr). j .op) (a .0)); behind = omega (arith, w .after, a .1); within = omega (arith, w .within, a .1) }
-    go (malformed p) f = let g : decodeAnswer (malformed p) ≡ Found i after = sym (e ∙ ap decodeAnswer f) ∙ t in let z : _≡_ {A = ℕ} 0 1 = cc in absurd (omega arith)
-
--- a loop over code of any bytes, which stays in its lists
-pub record FlowLoop (o₀ l₀ : List ℕ) (end : ℕ) (o l : List ℕ) (at : ℕ) : Type 0 where
-  pub order : at ≤ end
-  pub same-heights : length o ≡ length o₀
-  pub same-marks : length l ≡ length l₀

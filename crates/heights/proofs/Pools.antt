@@ -7,23 +7,21 @@ use lib.ListN.{length, set, length-append}
 use lib.Seq.{sets}
 use Rattle.definition.specs.Basic.{Bytes, byteAt}
 use Rattle.definition.specs.Limit.{constantsLimit}
-use Rattle.definition.specs.Field.{head}
 use Rattle.definition.specs.Bytecode.{Const, Image}
-use Rattle.definition.specs.Decode.{decoded, readConst}
+use Rattle.definition.specs.Decode.{readConst}
 use Rattle.session.proofs.Stores.{sets-append}
-use Rattle.bytecode.proofs.Fields.{const-end, const-ends}
 use Rattle.listing.specs.Reads.{PoolAt}
-use Rattle.listing.proofs.Items.{Reading, begins, ends, Next, next, all-read}
+use Rattle.listing.proofs.Items.{Reading, begins, ends, all-read}
 use Rattle.heights.specs.Judgement.{Kind, counted}
 use Rattle.heights.specs.Pass.{Top, topOf, Verdict, also, judgedConst, further, judged}
 use Rattle.heights.specs.Marks.{Blank}
-use Rattle.heights.specs.Chunks.{topAnswer, topInto, constantAnswer, constantInto, poolAnswer, Judges, Standing, ConstantReady, PoolReady, SoFar, PoolJudges}
+use Rattle.heights.specs.Chunks.{topAnswer, topInto, constantAnswer, constantInto, poolAnswer, Judges, ConstantReady, PoolReady, SoFar, PoolJudges}
 use Rattle.heights.specs.declared.image.Progress.{Progress}
 use Rattle.heights.specs.declared.image.ConstantCheck.{ConstantCheck}
 use Rattle.heights.specs.declared.image.ConstantCheck.the-variants.{On, Fails}
 use Rattle.heights.specs.declared.image.PoolCheck.{PoolCheck}
 use Rattle.heights.specs.declared.image.PoolCheck.the-variants.{Tops as PoolTops, Fails as PoolFails}
-use Rattle.heights.proofs.Judges.{not-on}
+use Rattle.heights.proofs.Judges.{not-on, Turn}
 
 -- what goes on did not fail
 pub not-fails : {p : Progress} {A : Type 0} → On p ≡ Fails → A
@@ -141,67 +139,43 @@ module _ (b : Bytes) (start end : ℕ) (hs o₀ l₀ : List ℕ) (p₀ : Progres
           tops-same : {ns ks : List ℕ} → Verdict.tops ns ≡ Verdict.tops ks → ns ≡ ks
           tops-same e = cc
 
-      module _ (before : at < end) where
-        found : Next (readConst (byteAt b)) end constantsLimit start (i .reading) (h .pool .is .reads)
-        found = next (readConst (byteAt b)) end constantsLimit start (i .reading) (h .pool .is .reads) (λ e. omega arith)
-
-        -- the constant there
-        pub record Turn (after : ℕ) : Type 0 where
-          pub x : Const
-          pub standing : Standing b at after x
-          pub reading : Reading (readConst (byteAt b)) end constantsLimit start (x ∷ i .pool) after
-          pub behind : at + 3 ≤ after
-          pub within : after ≤ end
-
-        pub pool-turn : {len : ℕ} → len ≡ head (byteAt b) at .len → Turn (at + 3 + len)
-        pool-turn {len} q =
-            let e = const-end (byteAt b) at end (found .found) in
-            let w = const-ends (byteAt b) at end (found .x) (found .next) (found .found) in
+      module _ {after : ℕ} (t : Turn b start end at (i .pool) after) where
+        pub constant-ready : ConstantReady l b at after p
+        constant-ready =
             record {
-              x = found .x;
-              standing = record { end = end; constant = record { within = h .pool .is .within; reads = found .found ∙ ap (decoded (found .x)) e }; sized = ap (λ n. at + 3 + n) q };
-              reading = subst (λ n. Reading (readConst (byteAt b)) end constantsLimit start (found .x ∷ i .pool) n) (e ∙ ap (λ n. at + 3 + n) (sym q)) (found .reading);
-              behind = omega arith;
-              within = omega arith;
+              stands = record { constant = t .x; is = t .standing };
+              room = omega (arith, t .within, h .room, i .same-marks);
+              short = omega (arith, t .within, h .short);
+              few = i .few;
+              blank = i .blank;
             }
 
-        module _ {after : ℕ} (t : Turn after) where
-          pub constant-ready : ConstantReady l b at after p
-          constant-ready =
+        module _ {r : ConstantCheck} {o₁ l₁ : List ℕ} (j : Judges after (constantAnswer hs (t .x) p) (constantInto hs (t .x) p o) r o₁ l₁) where
+          -- it fails
+          pub pool-fails : r ≡ Fails → (cs : List Const) → PoolAt b start end cs → (m : Image) (o′ : List ℕ) → SoFar hs m [] o′ o₀ p₀ → PoolJudges hs m cs o′ (PoolFails (index + 1)) o₁
+          pool-fails f cs k m o′ s =
+              let g = t .reading in
+              let d : judged hs m cs ≡ Verdict.fails (suc (length (i .pool))) =
+              all-read (readConst (byteAt b)) end (λ c _. judged hs m c ≡ Verdict.fails (suc (length (i .pool)))) (λ xs _ x _ q _. judged-failed hs m x xs q) (g .rest) (t .x ∷ i .pool) after
+              (sym (g .same) ∙ k .reads) (fails-there (t .x) (i .so-far m o′ s) (sym (j .answers) ∙ f)) in
+              let n : index + 1 ≡ suc (length (i .pool)) = omega (arith, i .counted) in
+              record { answers = ap PoolFails n ∙ sym (ap poolAnswer d); stores = λ ns q. never (sym d ∙ q) }
+            where
+              never : {ns : List ℕ} {place : ℕ} {A : Type 0} → Verdict.fails place ≡ Verdict.tops ns → A
+              never e = let z : _≡_ {A = ℕ} 0 1 = cc in absurd (omega arith)
+
+          -- or it passes
+          pub pool-again : {q : Progress} → r ≡ On q → length l₁ ≡ length l → length o₁ ≡ length o → PoolLoop o₁ l₁ after (index + 1) q
+          pool-again {q} e f g =
               record {
-                stands = record { constant = t .x; is = t .standing };
-                room = omega (arith, t .within, h .room, i .same-marks);
-                short = omega (arith, t .within, h .short);
-                few = i .few;
-                blank = i .blank;
+                pool = t .x ∷ i .pool;
+                reading = t .reading;
+                order = t .within;
+                many = omega (arith, t .behind, i .many);
+                counted = omega (arith, i .counted);
+                few = omega (arith, few-more hs (t .x) p (sym (j .answers) ∙ e), i .few, t .behind);
+                blank = j .blank q e;
+                same-marks = f ∙ i .same-marks;
+                same-output = g ∙ i .same-output;
+                so-far = λ m o′ s. more (t .x) (i .so-far m o′ s) (sym (j .answers) ∙ e) (j .stores);
               }
-
-          module _ {r : ConstantCheck} {o₁ l₁ : List ℕ} (j : Judges after (constantAnswer hs (t .x) p) (constantInto hs (t .x) p o) r o₁ l₁) where
-            -- it fails
-            pub pool-fails : r ≡ Fails → (cs : List Const) → PoolAt b start end cs → (m : Image) (o′ : List ℕ) → SoFar hs m [] o′ o₀ p₀ → PoolJudges hs m cs o′ (PoolFails (index + 1)) o₁
-            pool-fails f cs k m o′ s =
-                let g = t .reading in
-                let d : judged hs m cs ≡ Verdict.fails (suc (length (i .pool))) =
-                all-read (readConst (byteAt b)) end (λ c _. judged hs m c ≡ Verdict.fails (suc (length (i .pool)))) (λ xs _ x _ q _. judged-failed hs m x xs q) (g .rest) (t .x ∷ i .pool) after
-                (sym (g .same) ∙ k .reads) (fails-there (t .x) (i .so-far m o′ s) (sym (j .answers) ∙ f)) in
-                let n : index + 1 ≡ suc (length (i .pool)) = omega (arith, i .counted) in
-                record { answers = ap PoolFails n ∙ sym (ap poolAnswer d); stores = λ ns q. never (sym d ∙ q) }
-              where
-                never : {ns : List ℕ} {place : ℕ} {A : Type 0} → Verdict.fails place ≡ Verdict.tops ns → A
-                never e = let z : _≡_ {A = ℕ} 0 1 = cc in absurd (omega arith)
-
-            -- or it passes
-            pub pool-again : {q : Progress} → r ≡ On q → length l₁ ≡ length l → length o₁ ≡ length o → PoolLoop o₁ l₁ after (index + 1) q
-            pool-again {q} e f g =
-                record {
-                  pool = t .x ∷ i .pool;
-                  reading = t .reading;
-                  order = t .within;
-                  many = omega (arith, t .behind, i .many);
-                  counted = omega (arith, i .counted);
-                  few = omega (arith, few-more hs (t .x) p (sym (j .answers) ∙ e), i .few, t .behind);
-                  blank = j .blank q e;
-                  same-marks = f ∙ i .same-marks;
-                  same-output = g ∙ i .same-output;
-                  so-far = λ m o′ s. more (t .x) (i .so-far m o′ s) (sym (j .answers) ∙ e) (j .stores);
-                }

@@ -2,3 +2,4 @@ pub mod Judgement
 pub mod Pass
 pub mod Marks
 pub mod Chunks
+pub mod Proposal

@@ -147,12 +147,3 @@ heightsAnswer (malformed p) hs room = Refused (refusal badImage p)
 abbrev pub heightsInto : Decoded Image → List ℕ → List ℕ → List ℕ
 heightsInto (decoded m n) hs out = verdictInto (judged hs m (m .pool)) out
 heightsInto (malformed p) hs out = out
-
--- proposing heights: how many chunks there are where all pass with those that were written, or the first that does not
-abbrev pub verdictCount : Verdict → Answer
-verdictCount (Verdict.tops ns) = Length (length ns)
-verdictCount (Verdict.fails place) = Refused (refusal badHeights place)
-
-abbrev pub proposalAnswer : Decoded Image → List ℕ → Answer
-proposalAnswer (decoded m n) hs = verdictCount (judged hs m (m .pool))
-proposalAnswer (malformed p) hs = Refused (refusal badImage p)

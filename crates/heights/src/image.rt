@@ -32,8 +32,8 @@ pub enum PoolCheck {
     Fails(usize),
 }
 
-// Stores a greatest height where there is room.
-fn put(output: &mut [u32], at: usize, top: u32)
+// Stores a height where there is room.
+pub fn put(output: &mut [u32], at: usize, top: u32)
     ensures { λ _. ⌜ now (output .exit) ≡ set (now (output .entry)) at top ⌝ }
 {
     if at < output.len() {

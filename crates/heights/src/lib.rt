@@ -11,10 +11,12 @@ use definition::Refusal;
 use definition::number;
 use image::PoolCheck;
 use image::judge;
+use propose::propose;
 ghost use mathlib.Core.Path.{_≡_};
-ghost use lib.ListN.{length};
+ghost use lib.ListN.{length, drop};
 ghost use Rattle.definition.specs.Decode.{readImage};
 ghost use Rattle.heights.specs.Pass.{heightsAnswer, heightsInto};
+ghost use Rattle.heights.specs.Proposal.{proposalAnswer, proposalSize};
 
 // A chunk that does not pass.
 pub const BAD_HEIGHTS: usize = 25;
@@ -43,5 +45,27 @@ pub fn check_heights(image: &[u8], heights: &[u32], output: &mut [u32]) -> Answe
                 Answer::Length(count)
             }
         },
+    }
+}
+
+// Proposes heights for an image by forward flow along the code, 0 where there is no way from the chunk's start: how many stand at the start of the list
+// then, one for each instruction; or 17 where the image is wrong; or 15 where there are more than the list has room for.
+pub fn propose_heights(image: &[u8], heights: &mut [u32]) -> Answer
+    ensures answers { λ r. ⌜ r ≡ proposalAnswer (readImage (now (image .entry))) (length (now (heights .entry))) ⌝ }
+    ensures stays { λ r. ⌜ drop (proposalSize (readImage (now (image .entry))) (length (now (heights .entry)))) (now (heights .exit)) ≡ drop (proposalSize (readImage (now (image .entry))) (length (now (heights .entry)))) (now (heights .entry)) ⌝ }
+{
+    match check_image(image) {
+        ImageCheck::Refused(r) => Answer::Refused(r),
+        ImageCheck::Sound(_) => {
+            let count = propose(&mut heights[..0], image);
+            if heights.len() < count {
+                return Answer::Refused(Refusal {
+                    number: number::OUTPUT_SHORT,
+                    place: 0,
+                });
+            }
+            propose(heights, image);
+            Answer::Length(count)
+        }
     }
 }

@@ -3,7 +3,8 @@ use native.Mathlib.Omega.{arith}
 use Prim.Native.Nat.{_-_}
 use mathlib.Core.Path.{_∙_, refl}
 use borrow.Author.Needs.{needs}
-use Rattle.heights.proofs.Pools.{PoolLoop, pool-begins, pool-ends, pool-turn, constant-ready, pool-fails, pool-again}
+use Rattle.heights.proofs.Judges.{turn}
+use Rattle.heights.proofs.Pools.{PoolLoop, pool-begins, pool-ends, constant-ready, pool-fails, pool-again}
 use Rattle.heights.proofs.image.judge_pool.Statement.{statement}
 use Rattle.heights.proofs.image.judge_pool.Tie as tie
 
@@ -21,7 +22,7 @@ add-next c =
     let start = c .before .before .before .before .before .before in
     let a = start .args in
     let i = c .before .loop .inv in
-    let k = pool-turn (a .image .now) (a .start) (a .end) (a .heights .now) (a .output .now) (a .marks .now) (a .before) (start .pre) i (c .loop-test .taken) (refl) in
+    let k = turn (a .image .now) (start .pre .pool .is) (i .reading) (c .loop-test .taken) (refl) in
     omega (arith, k .behind, k .within, start .pre .short)
 
 length-at-requires : tie.Need-length-at-requires Inv-loop μ-loop
@@ -29,7 +30,7 @@ length-at-requires c κs =
     let start = c .before .before .before .before .before .before in
     let a = start .args in
     let i = c .before .loop .inv in
-    let k = pool-turn (a .image .now) (a .start) (a .end) (a .heights .now) (a .output .now) (a .marks .now) (a .before) (start .pre) i (c .loop-test .taken) (refl) in
+    let k = turn (a .image .now) (start .pre .pool .is) (i .reading) (c .loop-test .taken) (refl) in
     omega (arith, k .behind, k .within, start .pre .pool .is .within)
 
 add-next-2 : tie.Need-add-next-2 Inv-loop μ-loop
@@ -37,7 +38,7 @@ add-next-2 c =
     let start = c .before .before .before .before .before .before .before in
     let a = start .args in
     let i = c .before .before .loop .inv in
-    let k = pool-turn (a .image .now) (a .start) (a .end) (a .heights .now) (a .output .now) (a .marks .now) (a .before) (start .pre) i (c .before .loop-test .taken) (refl) in
+    let k = turn (a .image .now) (start .pre .pool .is) (i .reading) (c .before .loop-test .taken) (refl) in
     omega (arith, k .within, c .length-at .ensures .0, start .pre .short)
 
 judge-constant-requires : tie.Need-judge-constant-requires Inv-loop μ-loop
@@ -45,8 +46,8 @@ judge-constant-requires c κs =
     let start = c .before .before .before .before .before .before .before .before .before in
     let a = start .args in
     let i = c .before .before .before .before .loop .inv in
-    let k = pool-turn (a .image .now) (a .start) (a .end) (a .heights .now) (a .output .now) (a .marks .now) (a .before) (start .pre) i (c .before .before .before .loop-test .taken) (c .before .before .length-at .ensures .0) in
-    constant-ready (a .image .now) (a .start) (a .end) (a .heights .now) (a .output .now) (a .marks .now) (a .before) (start .pre) i (c .before .before .before .loop-test .taken) k
+    let k = turn (a .image .now) (start .pre .pool .is) (i .reading) (c .before .before .before .loop-test .taken) (c .before .before .length-at .ensures .0) in
+    constant-ready (a .image .now) (a .start) (a .end) (a .heights .now) (a .output .now) (a .marks .now) (a .before) (start .pre) i k
 
 add-t21 : tie.Need-add-t21 Inv-loop μ-loop
 add-t21 c = let start = c .before .before .before .before .before .before .before .before .before .before .before .before .before .before .before .before in let i = c .before .before .before .before .before .before .before .before .before .before .before .loop .inv in omega (arith, i .many, i .order, start .pre .short)
@@ -62,8 +63,8 @@ returns c =
     let start = c .before .before .before .before .before .before .before .before .before .before .before .before .before .before .before .before in
     let a = start .args in
     let i = c .before .before .before .before .before .before .before .before .before .before .before .loop .inv in
-    let k = pool-turn (a .image .now) (a .start) (a .end) (a .heights .now) (a .output .now) (a .marks .now) (a .before) (start .pre) i (c .before .before .before .before .before .before .before .before .before .before .loop-test .taken) (c .before .before .before .before .before .before .before .before .before .length-at .ensures .0) in
-    pool-fails (a .image .now) (a .start) (a .end) (a .heights .now) (a .output .now) (a .marks .now) (a .before) (start .pre) i (c .before .before .before .before .before .before .before .before .before .before .loop-test .taken) k (c .before .before .before .before .before .before .judge-constant .ensures (k .x) (k .standing)) (c .enum-told .given .1)
+    let k = turn (a .image .now) (start .pre .pool .is) (i .reading) (c .before .before .before .before .before .before .before .before .before .before .loop-test .taken) (c .before .before .before .before .before .before .before .before .before .length-at .ensures .0) in
+    pool-fails (a .image .now) (a .start) (a .end) (a .heights .now) (a .output .now) (a .marks .now) (a .before) (start .pre) i k (c .before .before .before .before .before .before .judge-constant .ensures (k .x) (k .standing)) (c .enum-told .given .1)
 
 add-index : tie.Need-add-index Inv-loop μ-loop
 add-index c = let start = c .before .before .before .before .before .before .before .before .before .before .before .before .before .before .before .before .before in let i = c .before .before .before .before .before .before .before .before .before .before .before .before .loop .inv in omega (arith, i .many, i .order, start .pre .short)
@@ -73,7 +74,7 @@ loop-less c =
     let start = c .before .before .before .before .before .before .before .before .before .before .before .before .before .before .before .before .before in
     let a = start .args in
     let i = c .before .before .before .before .before .before .before .before .before .before .before .before .loop .inv in
-    let k = pool-turn (a .image .now) (a .start) (a .end) (a .heights .now) (a .output .now) (a .marks .now) (a .before) (start .pre) i (c .before .before .before .before .before .before .before .before .before .before .before .loop-test .taken) (c .before .before .before .before .before .before .before .before .before .before .length-at .ensures .0) in
+    let k = turn (a .image .now) (start .pre .pool .is) (i .reading) (c .before .before .before .before .before .before .before .before .before .before .before .loop-test .taken) (c .before .before .before .before .before .before .before .before .before .before .length-at .ensures .0) in
     omega (arith, k .behind, k .within)
 
 loop-again : tie.Need-loop-again Inv-loop μ-loop
@@ -81,9 +82,9 @@ loop-again c =
     let start = c .before .before .before .before .before .before .before .before .before .before .before .before .before .before .before .before .before in
     let a = start .args in
     let i = c .before .before .before .before .before .before .before .before .before .before .before .before .loop .inv in
-    let k = pool-turn (a .image .now) (a .start) (a .end) (a .heights .now) (a .output .now) (a .marks .now) (a .before) (start .pre) i (c .before .before .before .before .before .before .before .before .before .before .before .loop-test .taken) (c .before .before .before .before .before .before .before .before .before .before .length-at .ensures .0) in
+    let k = turn (a .image .now) (start .pre .pool .is) (i .reading) (c .before .before .before .before .before .before .before .before .before .before .before .loop-test .taken) (c .before .before .before .before .before .before .before .before .before .before .length-at .ensures .0) in
     let j = c .before .before .before .before .before .before .before .judge-constant in
-    pool-again (a .image .now) (a .start) (a .end) (a .heights .now) (a .output .now) (a .marks .now) (a .before) (start .pre) i (c .before .before .before .before .before .before .before .before .before .before .before .loop-test .taken) k (j .ensures (k .x) (k .standing)) (c .before .p .given .1) (j .kept .1 .0) (j .kept .0)
+    pool-again (a .image .now) (a .start) (a .end) (a .heights .now) (a .output .now) (a .marks .now) (a .before) (start .pre) i k (j .ensures (k .x) (k .standing)) (c .before .p .given .1) (j .kept .1 .0) (j .kept .0)
 
 same-length-3 : tie.Need-same-length-3 Inv-loop μ-loop
 same-length-3 c = c .before .loop .inv .same-output
