@@ -7,3 +7,4 @@ pub mod Choices
 pub mod Trials
 pub mod RunHeights
 pub mod Words
+pub mod Leaves

@@ -4,4 +4,7 @@ pub mod Run
 pub mod Evaluate
 pub mod Output
 pub mod Words
+pub mod Cells
+pub mod Machine
+pub mod Call
 pub mod Examples
