@@ -8,3 +8,9 @@ pub mod Trials
 pub mod RunHeights
 pub mod Words
 pub mod Leaves
+pub mod CellLaws
+pub mod ByByte
+pub mod Constants
+pub mod Memory
+pub mod Shown
+pub mod Producing
