@@ -14,3 +14,5 @@ pub mod Constants
 pub mod Memory
 pub mod Shown
 pub mod Producing
+pub mod CodeLoop
+pub mod Scanning

@@ -6,12 +6,12 @@ use mathlib.Core.List.{List, [], _∷_}
 use mathlib.Core.Option.{Option, none, some}
 use mathlib.Core.Path.{_≡_, refl, sym, ap, subst, _∙_}
 use lib.ListN.{length, getD, set}
-use lib.Dec.{eqb}
+use lib.Dec.{T, eqb}
 use Rattle.definition.specs.Basic.{pick}
 use Rattle.definition.specs.Opcode.{Instr, instr, size}
 use Rattle.definition.specs.Bytecode.{Const}
 use Rattle.definition.specs.Trusted.{constantAt}
-use Rattle.definition.specs.Effect.{taken, takes, gives}
+use Rattle.definition.specs.Effect.{taken, takes, gives, falls, flowOf}
 use Rattle.trial.specs.Value.{Value, integer, boolean, null, Globals, Infix, Prefix, truthy}
 use Rattle.trial.specs.Run.{Action, actions, integerIn, isSome, Frame, frame, Run, top, below, moved, given, acted, execute}
 use Rattle.trial.specs.Cells.{Keeps, Stacked, Keeping, kindsAt, stackAt, stackKindsAt}
@@ -43,26 +43,27 @@ infix-two InfixAt.greater = refl
 pub record Known (n : ℕ) : Type 0 where
   pub takes-is : (a b : ℕ) → takes (instr n a b) ≡ getD taken n 0
   pub gives-is : (a b : ℕ) → gives (instr n a b) ≡ 1
+  pub falls-is : (a b : ℕ) → T (falls (flowOf (instr n a b)))
 
 infix-known : {n : ℕ} {o : Infix} → InfixAt n o → Known n
-infix-known InfixAt.add = record { takes-is = λ a b. refl; gives-is = λ a b. refl }
-infix-known InfixAt.sub = record { takes-is = λ a b. refl; gives-is = λ a b. refl }
-infix-known InfixAt.mul = record { takes-is = λ a b. refl; gives-is = λ a b. refl }
-infix-known InfixAt.div = record { takes-is = λ a b. refl; gives-is = λ a b. refl }
-infix-known InfixAt.equals = record { takes-is = λ a b. refl; gives-is = λ a b. refl }
-infix-known InfixAt.differs = record { takes-is = λ a b. refl; gives-is = λ a b. refl }
-infix-known InfixAt.greater = record { takes-is = λ a b. refl; gives-is = λ a b. refl }
+infix-known InfixAt.add = record { takes-is = λ a b. refl; gives-is = λ a b. refl; falls-is = λ a b. tt }
+infix-known InfixAt.sub = record { takes-is = λ a b. refl; gives-is = λ a b. refl; falls-is = λ a b. tt }
+infix-known InfixAt.mul = record { takes-is = λ a b. refl; gives-is = λ a b. refl; falls-is = λ a b. tt }
+infix-known InfixAt.div = record { takes-is = λ a b. refl; gives-is = λ a b. refl; falls-is = λ a b. tt }
+infix-known InfixAt.equals = record { takes-is = λ a b. refl; gives-is = λ a b. refl; falls-is = λ a b. tt }
+infix-known InfixAt.differs = record { takes-is = λ a b. refl; gives-is = λ a b. refl; falls-is = λ a b. tt }
+infix-known InfixAt.greater = record { takes-is = λ a b. refl; gives-is = λ a b. refl; falls-is = λ a b. tt }
 
 prefix-known : {n : ℕ} {o : Prefix} → PrefixAt n o → Known n
-prefix-known PrefixAt.minus = record { takes-is = λ a b. refl; gives-is = λ a b. refl }
-prefix-known PrefixAt.bang = record { takes-is = λ a b. refl; gives-is = λ a b. refl }
+prefix-known PrefixAt.minus = record { takes-is = λ a b. refl; gives-is = λ a b. refl; falls-is = λ a b. tt }
+prefix-known PrefixAt.bang = record { takes-is = λ a b. refl; gives-is = λ a b. refl; falls-is = λ a b. tt }
 
 pub known : {n : ℕ} → Produces n → Known n
-known Produces.constant = record { takes-is = λ a b. refl; gives-is = λ a b. refl }
-known Produces.yes = record { takes-is = λ a b. refl; gives-is = λ a b. refl }
-known Produces.no = record { takes-is = λ a b. refl; gives-is = λ a b. refl }
-known Produces.null = record { takes-is = λ a b. refl; gives-is = λ a b. refl }
-known Produces.getGlobal = record { takes-is = λ a b. refl; gives-is = λ a b. refl }
+known Produces.constant = record { takes-is = λ a b. refl; gives-is = λ a b. refl; falls-is = λ a b. tt }
+known Produces.yes = record { takes-is = λ a b. refl; gives-is = λ a b. refl; falls-is = λ a b. tt }
+known Produces.no = record { takes-is = λ a b. refl; gives-is = λ a b. refl; falls-is = λ a b. tt }
+known Produces.null = record { takes-is = λ a b. refl; gives-is = λ a b. refl; falls-is = λ a b. tt }
+known Produces.getGlobal = record { takes-is = λ a b. refl; gives-is = λ a b. refl; falls-is = λ a b. tt }
 known (Produces.prefixed p) = prefix-known p
 known (Produces.infixed i) = infix-known i
 
@@ -138,14 +139,14 @@ module _ (cs : List Const) (k to : ℕ) (f : Frame) where
   acts (Produces.infixed i) = infix-acts i
 
 -- no value, or one
-given-none : {w : List ℕ} (f : Frame) (to n : ℕ) (st : List Value) {k v : ℕ} {o : Option Value} → Keeps k v o → k ≡ 0 → After w (Stopped n) (given f to n st o)
+given-none : {w : List ℕ} (f : Frame) (to n : ℕ) (st : List Value) {k v : ℕ} {o : Option Value} → Keeps k v o → k ≡ 0 → After w (f .at) (Stopped n) (given f to n st o)
 given-none f to n st Keeps.nothing e = After.stopped
 given-none f to n st (Keeps.number h) e = absurd (omega arith)
 given-none f to n st Keeps.yes e = absurd (omega arith)
 given-none f to n st Keeps.no e = absurd (omega arith)
 given-none f to n st Keeps.empty e = absurd (omega arith)
 
-given-some : {w : List ℕ} {s : State} (f : Frame) (to n : ℕ) (st : List Value) {k v : ℕ} {o : Option Value} → Keeps k v o → (k ≡ 0 → ⊥) → ((x : Value) → Keeps k v (some x) → After w (On s) (moved f to (x ∷ st) (f .globals))) → After w (On s) (given f to n st o)
+given-some : {w : List ℕ} {s : State} (f : Frame) (to n : ℕ) (st : List Value) {k v : ℕ} {o : Option Value} → Keeps k v o → (k ≡ 0 → ⊥) → ((x : Value) → Keeps k v (some x) → After w (f .at) (On s) (moved f to (x ∷ st) (f .globals))) → After w (f .at) (On s) (given f to n st o)
 given-some f to n st Keeps.nothing e g = absurd (e refl)
 given-some f to n st (Keeps.number h) e g = g _ (Keeps.number h)
 given-some f to n st Keeps.yes e g = g _ Keeps.yes
@@ -154,44 +155,44 @@ given-some f to n st Keeps.empty e g = g _ Keeps.empty
 
 -- an instruction that puts a value, or stops
 module _ {n : ℕ} (p : Produces n) (a b : ℕ) (cs : List Const) (f : Frame) {w : List ℕ} {s : State} (h : Framed w s f) {kind word : ℕ} (k : Keeps kind word (product cs a (f .stack) (f .globals) (getD actions n Action.other))) where
-  pub produce-stops : {r : ℕ} → r ≡ reasonOf n → kind ≡ 0 → After w (Stopped r) (execute cs (instr n a b) f)
-  produce-stops e z = subst (λ r. After w (Stopped r) (execute cs (instr n a b) f)) (sym e) (subst (After w (Stopped (reasonOf n))) (sym (acts cs a (f .at + size (instr n a b)) f p)) (given-none f _ _ _ k z))
+  pub produce-stops : {r : ℕ} → r ≡ reasonOf n → kind ≡ 0 → After w (f .at) (Stopped r) (execute cs (instr n a b) f)
+  produce-stops e z = subst (λ r. After w (f .at) (Stopped r) (execute cs (instr n a b) f)) (sym e) (subst (After w (f .at) (Stopped (reasonOf n))) (sym (acts cs a (f .at + size (instr n a b)) f p)) (given-none f _ _ _ k z))
 
   pub produce-goes-on : {left next : ℕ} {w₁ : List ℕ} → next ≡ 3 + (f .at + size (instr n a b)) → left + takes (instr n a b) ≡ s .height → left < 1024 → (kind ≡ 0 → ⊥)
-      → w₁ ≡ set (set w (stackAt + left) word) (stackKindsAt + left) kind → After w₁ (On (record { next = next; height = left + 1; steps = s .steps + 1 })) (execute cs (instr n a b) f)
+      → w₁ ≡ set (set w (stackAt + left) word) (stackKindsAt + left) kind → After w₁ (f .at) (On (record { next = next; height = left + 1; steps = s .steps + 1 })) (execute cs (instr n a b) f)
   produce-goes-on {left} {next} {w₁} e q l z u =
       let t = known p .takes-is a b in
       let d : Stacked w left (dropped (getD taken n 0) (f .stack)) = subst (λ m. Stacked w m (dropped (getD taken n 0) (f .stack))) (omega arith) (dropped-kept (getD taken n 0) (h .stack) (omega arith)) in
-      subst (λ w₁. After w₁ (On (record { next = next; height = left + 1; steps = s .steps + 1 })) (execute cs (instr n a b) f)) (sym u)
-      (subst (After (set (set w (stackAt + left) word) (stackKindsAt + left) kind) (On (record { next = next; height = left + 1; steps = s .steps + 1 }))) (sym (acts cs a (f .at + size (instr n a b)) f p))
+      subst (λ w₁. After w₁ (f .at) (On (record { next = next; height = left + 1; steps = s .steps + 1 })) (execute cs (instr n a b) f)) (sym u)
+      (subst (After (set (set w (stackAt + left) word) (stackKindsAt + left) kind) (f .at) (On (record { next = next; height = left + 1; steps = s .steps + 1 }))) (sym (acts cs a (f .at + size (instr n a b)) f p))
       (given-some f _ _ _ k z (λ x g.
       After.on {f = frame (f .at + size (instr n a b)) (x ∷ dropped (getD taken n 0) (f .stack)) (f .globals) (f .steps + 1)}
       (record { stands = e; stack = push-stack w (f .globals) (h .globals) l kind word d g; globals = push-globals w (f .globals) (h .globals) l kind word; steps = ap (λ k. k + 1) (h .steps) }))))
 
 -- the other instructions
 module _ (cs : List Const) (n a b : ℕ) (f : Frame) {w : List ℕ} {s : State} (h : Framed w s f) where
-  pub return-after : n ≡ 0x16 → After w (Returned (s .steps + 1)) (execute cs (instr n a b) f)
-  return-after e = subst (λ n. After w (Returned (s .steps + 1)) (execute cs (instr n a b) f)) (sym e) (subst (λ k. After w (Returned (k + 1)) (Run.returned (f .globals) (f .steps + 1))) (sym (h .steps)) (After.returned (h .globals)))
+  pub return-after : n ≡ 0x16 → After w (f .at) (Returned (s .steps + 1)) (execute cs (instr n a b) f)
+  return-after e = subst (λ n. After w (f .at) (Returned (s .steps + 1)) (execute cs (instr n a b) f)) (sym e) (subst (λ k. After w (f .at) (Returned (k + 1)) (Run.returned (f .globals) (f .steps + 1))) (sym (h .steps)) (After.returned (h .globals)))
 
-  pub jump-after : n ≡ 0x0E → After w (On (record { next = 3 + a; height = s .height; steps = s .steps + 1 })) (execute cs (instr n a b) f)
-  jump-after e = subst (λ n. After w (On (record { next = 3 + a; height = s .height; steps = s .steps + 1 })) (execute cs (instr n a b) f)) (sym e)
+  pub jump-after : n ≡ 0x0E → After w (f .at) (On (record { next = 3 + a; height = s .height; steps = s .steps + 1 })) (execute cs (instr n a b) f)
+  jump-after e = subst (λ n. After w (f .at) (On (record { next = 3 + a; height = s .height; steps = s .steps + 1 })) (execute cs (instr n a b) f)) (sym e)
       (After.on {f = frame a (f .stack) (f .globals) (f .steps + 1)} (record { stands = refl; stack = h .stack; globals = h .globals; steps = ap (λ k. k + 1) (h .steps) }))
 
   -- where one value is taken
   module _ (l : 1 ≤ s .height) where
-    dropped-one : (to next : ℕ) → next ≡ 3 + to → After w (On (record { next = next; height = s .height - 1; steps = s .steps + 1 })) (moved f to (below (f .stack)) (f .globals))
+    dropped-one : (to next : ℕ) → next ≡ 3 + to → After w (f .at) (On (record { next = next; height = s .height - 1; steps = s .steps + 1 })) (moved f to (below (f .stack)) (f .globals))
     dropped-one to next e = After.on {f = frame to (below (f .stack)) (f .globals) (f .steps + 1)} (record { stands = e; stack = below-kept (h .stack) l; globals = h .globals; steps = ap (λ k. k + 1) (h .steps) })
 
-    pub pop-after : {next : ℕ} → n ≡ 0x02 → next ≡ 3 + (f .at + size (instr n a b)) → After w (On (record { next = next; height = s .height - 1; steps = s .steps + 1 })) (execute cs (instr n a b) f)
+    pub pop-after : {next : ℕ} → n ≡ 0x02 → next ≡ 3 + (f .at + size (instr n a b)) → After w (f .at) (On (record { next = next; height = s .height - 1; steps = s .steps + 1 })) (execute cs (instr n a b) f)
     pop-after {next} e q =
-        subst (λ n. After w (On (record { next = next; height = s .height - 1; steps = s .steps + 1 })) (execute cs (instr n a b) f)) (sym e) (dropped-one (f .at + size (instr 0x02 a b)) next (q ∙ ap (λ n. 3 + (f .at + size (instr n a b))) e))
+        subst (λ n. After w (f .at) (On (record { next = next; height = s .height - 1; steps = s .steps + 1 })) (execute cs (instr n a b) f)) (sym e) (dropped-one (f .at + size (instr 0x02 a b)) next (q ∙ ap (λ n. 3 + (f .at + size (instr n a b))) e))
 
     pub set-after : {next kind word : ℕ} {w₁ : List ℕ} → n ≡ 0x11 → next ≡ 3 + (f .at + size (instr n a b)) → a < 1024 → kind ≡ getD w (stackKindsAt + (s .height - 1)) 0 → word ≡ getD w (stackAt + (s .height - 1)) 0
-        → w₁ ≡ set (set w a word) (kindsAt + a) kind → After w₁ (On (record { next = next; height = s .height - 1; steps = s .steps + 1 })) (execute cs (instr n a b) f)
+        → w₁ ≡ set (set w a word) (kindsAt + a) kind → After w₁ (f .at) (On (record { next = next; height = s .height - 1; steps = s .steps + 1 })) (execute cs (instr n a b) f)
     set-after {next} {kind} {word} {w₁} e q m i j u =
         let k : Keeps kind word (some (top (f .stack))) = keeps-as i j (top-kept (h .stack) l) in
-        subst (λ n. After w₁ (On (record { next = next; height = s .height - 1; steps = s .steps + 1 })) (execute cs (instr n a b) f)) (sym e)
-        (subst (λ w₁. After w₁ (On (record { next = next; height = s .height - 1; steps = s .steps + 1 })) (execute cs (instr 0x11 a b) f)) (sym u)
+        subst (λ n. After w₁ (f .at) (On (record { next = next; height = s .height - 1; steps = s .steps + 1 })) (execute cs (instr n a b) f)) (sym e)
+        (subst (λ w₁. After w₁ (f .at) (On (record { next = next; height = s .height - 1; steps = s .steps + 1 })) (execute cs (instr 0x11 a b) f)) (sym u)
         (After.on {f = frame (f .at + size (instr 0x11 a b)) (below (f .stack)) (set (f .globals) a (some (top (f .stack)))) (f .steps + 1)}
         (record {
           stands = q ∙ ap (λ n. 3 + (f .at + size (instr n a b))) e;
@@ -201,19 +202,29 @@ module _ (cs : List Const) (n a b : ℕ) (f : Frame) {w : List ℕ} {s : State} 
         })))
 
     -- a condition, by what was answered of it
-    branch : (r : Bool) → r ≡ truthy (top (f .stack)) → (next : ℕ) → next ≡ 3 + pick r (f .at + size (instr 0x0D a b)) a → After w (On (record { next = next; height = s .height - 1; steps = s .steps + 1 })) (execute cs (instr 0x0D a b) f)
+    branch : (r : Bool) → r ≡ truthy (top (f .stack)) → (next : ℕ) → next ≡ 3 + pick r (f .at + size (instr 0x0D a b)) a → After w (f .at) (On (record { next = next; height = s .height - 1; steps = s .steps + 1 })) (execute cs (instr 0x0D a b) f)
     branch r e next q = dropped-one (pick (truthy (top (f .stack))) (f .at + size (instr 0x0D a b)) a) next (q ∙ ap (λ r. 3 + pick r (f .at + size (instr 0x0D a b)) a) e)
 
     pub branch-true : {next : ℕ} {r : Bool} → n ≡ 0x0D → next ≡ 3 + (f .at + size (instr n a b)) → ((x : Value) → Keeps (getD w (stackKindsAt + (s .height - 1)) 0) (getD w (stackAt + (s .height - 1)) 0) (some x) → r ≡ truthy x) → r ≡ true
-        → After w (On (record { next = next; height = s .height - 1; steps = s .steps + 1 })) (execute cs (instr n a b) f)
+        → After w (f .at) (On (record { next = next; height = s .height - 1; steps = s .steps + 1 })) (execute cs (instr n a b) f)
     branch-true {next} {r} e q t z =
-        subst (λ n. After w (On (record { next = next; height = s .height - 1; steps = s .steps + 1 })) (execute cs (instr n a b) f)) (sym e)
+        subst (λ n. After w (f .at) (On (record { next = next; height = s .height - 1; steps = s .steps + 1 })) (execute cs (instr n a b) f)) (sym e)
         (branch true (sym z ∙ t (top (f .stack)) (top-kept (h .stack) l)) next (q ∙ ap (λ n. 3 + (f .at + size (instr n a b))) e))
 
     pub branch-false : {r : Bool} → n ≡ 0x0D → ((x : Value) → Keeps (getD w (stackKindsAt + (s .height - 1)) 0) (getD w (stackAt + (s .height - 1)) 0) (some x) → r ≡ truthy x) → r ≡ false
-        → After w (On (record { next = 3 + a; height = s .height - 1; steps = s .steps + 1 })) (execute cs (instr n a b) f)
+        → After w (f .at) (On (record { next = 3 + a; height = s .height - 1; steps = s .steps + 1 })) (execute cs (instr n a b) f)
     branch-false {r} e t z =
-        subst (λ n. After w (On (record { next = 3 + a; height = s .height - 1; steps = s .steps + 1 })) (execute cs (instr n a b) f)) (sym e) (branch false (sym z ∙ t (top (f .stack)) (top-kept (h .stack) l)) (3 + a) refl)
+        subst (λ n. After w (f .at) (On (record { next = 3 + a; height = s .height - 1; steps = s .steps + 1 })) (execute cs (instr n a b) f)) (sym e) (branch false (sym z ∙ t (top (f .stack)) (top-kept (h .stack) l)) (3 + a) refl)
+
+-- what is taken where nothing is put
+pub pop-takes : (n a b : ℕ) → n ≡ 0x02 → takes (instr n a b) ≡ 1
+pop-takes n a b e = ap (λ n. takes (instr n a b)) e
+
+pub set-takes : (n a b : ℕ) → n ≡ 0x11 → takes (instr n a b) ≡ 1
+set-takes n a b e = ap (λ n. takes (instr n a b)) e
+
+pub branch-takes : (n a b : ℕ) → n ≡ 0x0D → takes (instr n a b) ≡ 1
+branch-takes n a b e = ap (λ n. takes (instr n a b)) e
 
 -- the last instructions put a value
 pub runs-left : {n : ℕ} → Runs n → (n ≡ 0x16 → ⊥) → (n ≡ 0x0E → ⊥) → (n ≡ 0x02 → ⊥) → (n ≡ 0x11 → ⊥) → (n ≡ 0x0D → ⊥) → Produces n

@@ -1,4 +1,4 @@
--- The stack of a trial run has the height that P9 gives to the instruction that it stands before: in level code no instruction finds too little.
+-- The stack of a trial run has the height that P9 gives to the instruction that it stands before: where P9 finds that each has enough, none finds too little.
 use Prim.Native.Nat.{ℕ, zero, suc, _+_, _≤_}
 use native.Mathlib.Omega.{arith}
 use mathlib.Core.List.{List, [], _∷_}
@@ -14,8 +14,7 @@ use Rattle.definition.specs.Effect as Effect
 use Rattle.trial.specs.Value.{Value, Globals, Infix, Prefix, truthy, combined, changed}
 use Rattle.trial.specs.Run.{Action, actions, integerIn, Frame, frame, Run, top, below, given, acted, execute, pass, Executes}
 use Rattle.definition.proofs.Basic.{chosen}
-use Rattle.definition.proofs.Heights.{Level}
-use Rattle.definition.proofs.Reached.{Reaches, reached-enough}
+use Rattle.heights.specs.Judgement.{Reaches}
 use Rattle.trial.proofs.Executes.{pass-part}
 
 -- an action takes and gives what P9's tables say, and goes on xs they say
@@ -62,7 +61,11 @@ pub data KeepsHeight (c : Code) : Run → Type 0 where
   returned : {g : Globals} {n : ℕ} → KeepsHeight c (Run.returned g n)
   stopped : {k p : ℕ} → KeepsHeight c (Run.stopped k p)
 
-module _ (pool : List Const) {c : Code} {k : ℕ} (l : Level 0 0 c k) where
+-- each instruction that is reached finds enough
+pub record Enough (c : Code) : Type 0 where
+  pub there : {i : Instr} {p x : ℕ} → Stands i p c → Reaches c p x → takes i ≤ x
+
+module _ (pool : List Const) {c : Code} (l : Enough c) where
   given-height : (f : Frame) (to m : ℕ) (st : List Value) (o : Option Value) → Reaches c to (suc (length st)) → KeepsHeight c (given f to m st o)
   given-height f to m st (some v) h = KeepsHeight.on h
   given-height f to m st none h = KeepsHeight.stopped
@@ -80,7 +83,7 @@ module _ (pool : List Const) {c : Code} {k : ℕ} (l : Level 0 0 c k) where
       falling x e q w h = Reaches.next {y = x} r s (subst (λ y. T (falls y)) (sym w) tt) (omega arith)
 
       enough : {t : ℕ} → takes i ≡ t → t ≤ length (f .stack)
-      enough e = let h = reached-enough l r s in omega arith
+      enough e = let h = l .there s r in omega arith
 
       go : {a : Action} {t : ℕ} {b : Besides} {g : ℕ} {w : Flow} → Row a t b g w → getD taken (i .op) 0 ≡ t → getD takenBesides (i .op) nothing ≡ b → gives i ≡ g → flowOf i ≡ w
           → KeepsHeight c (acted pool (i .a) (f .at + size i) f a)

@@ -99,11 +99,11 @@ pub record Framed (w : List ℕ) (s : State) (f : Frame) : Type 0 where
   pub globals : Keeping w (f .globals)
   pub steps : s .steps ≡ f .steps
 
--- what a step gives is the definition's
-pub data After (w : List ℕ) : Stepped → Run → Type 0 where
-  on : {s : State} {f : Frame} → Framed w s f → After w (On s) (Run.on f)
-  returned : {g : Globals} {n : ℕ} → Keeping w g → After w (Returned n) (Run.returned g n)
-  stopped : {k p : ℕ} → After w (Stopped k) (Run.stopped k p)
+-- what a step at a position gives is the definition's
+pub data After (w : List ℕ) (p : ℕ) : Stepped → Run → Type 0 where
+  on : {s : State} {f : Frame} → Framed w s f → After w p (On s) (Run.on f)
+  returned : {g : Globals} {n : ℕ} → Keeping w g → After w p (Returned n) (Run.returned g n)
+  stopped : {k : ℕ} → After w p (Stopped k) (Run.stopped k p)
 
 -- what a run gives is the definition's
 pub data EndsAs (w : List ℕ) : Ended → Trial → Type 0 where
