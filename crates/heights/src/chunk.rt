@@ -169,7 +169,7 @@ pub fn height(level: u32) -> u32
 }
 
 // The instructions from `start` up to `end`, with the heights from `first` on.
-fn pass(
+pub fn pass(
     marks: &mut [u32],
     image: &[u8],
     start: usize,

@@ -1,7 +1,7 @@
 // Stack heights of an image: offered by a proposer that nobody trusts, checked here.
-mod chunk;
-mod effect;
-mod image;
+pub mod chunk;
+pub mod effect;
+pub mod image;
 mod propose;
 
 use bytecode::ImageCheck;

@@ -3,7 +3,7 @@ mod code;
 mod lengths;
 mod measure;
 mod pool;
-mod text;
+pub mod text;
 
 use code::list_code;
 use definition::Answer;
