@@ -11,7 +11,7 @@ use Rattle.definition.specs.Bytecode.{Code, sizeOf, Image}
 use Rattle.definition.specs.Decode.{decoded, readInstr}
 use Rattle.definition.specs.Trusted.{Stands}
 use Rattle.definition.specs.declared.Refusal.{Refusal}
-use Rattle.opcode.specs.Decoding.{instrOf, decodeAnswer}
+use Rattle.opcode.specs.Decoding.{instrOf, decodeAnswer, readBefore}
 use Rattle.opcode.specs.declared.Instruction.{Instruction}
 use Rattle.opcode.specs.declared.Decoded.{Decoded as Answer}
 use Rattle.opcode.specs.declared.Decoded.the-variants.{Instr as Found, Refused}
@@ -19,7 +19,7 @@ use Rattle.listing.specs.Reads.{CodeAt, PoolAt, ImageAt}
 use Rattle.listing.proofs.Items.{Reading, begins, ends, Next, next, all-read}
 use Rattle.listing.proofs.Lines.{whole-read}
 use Rattle.listing.proofs.Images.{parts}
-use Rattle.heights.proofs.Loops.{answered, unanswered}
+use Rattle.opcode.proofs.Decoding.{before-within, answered, unanswered}
 
 -- bytes read as one image
 pub one-image : {b : Bytes} {m n : Image} → ImageAt b m → ImageAt b n → m ≡ n
@@ -53,7 +53,10 @@ module _ (b : Bytes) (end : ℕ) {c : Code} (h : CodeAt b 3 end c) where
     pub code-ends : end ≤ at → code ≡ c
     code-ends g = ends (readInstr (byteAt b)) end (end - 3) 3 (l .reading) (h .reads) (omega (arith, l .order))
 
-    module _ (before : at < end) {r : Answer} (e : r ≡ decodeAnswer (readInstr (byteAt b) at end)) where
+    module _ (before : at < end) {r : Answer} (t₀ : r ≡ decodeAnswer (readBefore b at end)) where
+      e : r ≡ decodeAnswer (readInstr (byteAt b) at end)
+      e = t₀ ∙ ap decodeAnswer (before-within b at end (h .within))
+
       found : Next (readInstr (byteAt b)) end (end - 3) 3 (l .reading) (h .reads)
       found = next (readInstr (byteAt b)) end (end - 3) 3 (l .reading) (h .reads) (λ i. omega arith)
 

@@ -13,7 +13,7 @@ use Rattle.definition.specs.Number
 use Rattle.definition.specs.Syntax.{Stmt, Stmts, Else, Expr}
 use Rattle.definition.specs.Opcode.{Instr, instr, opSetGlobal}
 use Rattle.definition.specs.Bytecode.{Code, sizeOf, Const}
-use Rattle.definition.specs.SymbolTable.{Symbol, Table, Resolved, Defined, builtins, findGlobal, findBuiltin, outermost, resolve, loadOf, place}
+use Rattle.definition.specs.SymbolTable.{Symbol, Table, Resolved, Defined, findGlobal, findBuiltin, outermost, resolve, loadOf, place}
 use Rattle.definition.specs.Valid.{All}
 use Rattle.trial.specs.Run.{runnable, orElse, firstUnrunnable}
 use Rattle.trial.specs.Evaluate.{namesStmt, namesStmts, namesElse, namesExpr}
@@ -73,9 +73,9 @@ pub record IsGlobal (gs : List Bytes) (n : Bytes) (y : Symbol) (ts : List Table)
   pub tables : ts ≡ []
 
 -- what a runnable load has found
-pub is-global : (pool : List Const) (gs : List Bytes) (n : Bytes) {us ts : List Table} {y : Symbol} → us ≡ [] → resolve builtins gs n us ≡ Resolved.found y ts → T (runnable pool (loadOf y)) → IsGlobal gs n y ts
+pub is-global : (pool : List Const) (bs gs : List Bytes) (n : Bytes) {us ts : List Table} {y : Symbol} → us ≡ [] → resolve bs gs n us ≡ Resolved.found y ts → T (runnable pool (loadOf y)) → IsGlobal gs n y ts
 unfolding resolve
-is-global pool gs n {us} {ts} {y} u e h = go (findGlobal n gs) refl (findBuiltin n builtins 0) (subst (λ x. resolve builtins gs n x ≡ Resolved.found y ts) u e)
+is-global pool bs gs n {us} {ts} {y} u e h = go (findGlobal n gs) refl (findBuiltin n bs 0) (subst (λ x. resolve bs gs n x ≡ Resolved.found y ts) u e)
   where
     go : (a : Option ℕ) → findGlobal n gs ≡ a → (b : Option ℕ) → outermost a b ≡ Resolved.found y ts → IsGlobal gs n y ts
     go (some k) q b e = record { index = k; found = q; symbol = cc; tables = cc }
@@ -134,7 +134,7 @@ module _ (pool : List Const) where
     behind-else (Else.else b) (ElseCode.else x y) a t = behind-stmts b x (all-walked y a) t
 
     pub behind-expr : (e : Expr) {at : ℕ} {v w : Known} {c : Code} → ExprCode e at v c w → Runnable pool c → v .tables ≡ [] → Behind v w (namesExpr e (v .globals))
-    behind-expr (Expr.identifier p n) (ExprCode.identifier {v = v} q) (All.more h a) t = record { tables = is-global pool (v .globals) n t q h .tables; names = refl; pool = pool-same (v .pool) }
+    behind-expr (Expr.identifier p n) (ExprCode.identifier {v = v} q) (All.more h a) t = record { tables = is-global pool (v .words) (v .globals) n t q h .tables; names = refl; pool = pool-same (v .pool) }
     behind-expr (Expr.prefix p o e) (ExprCode.prefix x q) (All.more h a) t = behind-expr e x a t
     behind-expr (Expr.infixed p l o r) (ExprCode.infixed {c = c} {d = d} s x y q) (All.more h a) t =
         let b = behind-expr l x (all-first d a) t in

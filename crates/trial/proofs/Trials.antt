@@ -98,7 +98,7 @@ module _ (pool : List Const) where
     run-expr : (e : Expr) {at : ℕ} {v w : Known} {c : Code} → ExprCode e at v c w → Runnable pool c → PoolGrows (w .pool) pool → v .tables ≡ [] → (st : List Value) (g : Globals) (n : ℕ)
         → Gives pool at c st st g n (evalExpr e (v .globals) g)
     run-expr (Expr.identifier p m) {at} (ExprCode.identifier {v = v} q) (All.more h a) f t st g n =
-        let d = is-global pool (v .globals) m t q h in
+        let d = is-global pool (v .words) (v .globals) m t q h in
         subst₂ (λ (y : Symbol) (o : Option ℕ). Gives pool at (loadOf y ∷ []) st st g n (named o g)) (sym (d .symbol)) (sym (d .found))
         (alone (instr opGetGlobal (d .index) 0) (gives-meets (frame at st g n) (at + 3) Stop.unset st (getD g (d .index) none)))
     run-expr (Expr.prefix p o e) (ExprCode.prefix {at = at} {c = c} x q) (All.more h a) f t st g n = followed _ (run-expr e x a f t st g n) (λ v g₁ m. changes (prefix-action o q) (at + sizeOf c) v st g₁ m)

@@ -24,9 +24,6 @@ abbrev μ-loop : tie.MeasureT-loop
 loop-holds : tie.Need-loop-holds Inv-loop μ-loop
 loop-holds c = λ h. scan-begins ((c .before .before .args) .image .now) ((c .before .before .args) .end) ((c .before .before .args) .marks .now) (h .image) (main-parts ((c .before .before .args) .image .now) (h .reads) (h .ends) (h .pools) .code)
 
-decode-at-requires : tie.Need-decode-at-requires Inv-loop μ-loop
-decode-at-requires c κs = let h = (c .before .before .before .before .pre) .0 in main-parts ((c .before .before .before .before .args) .image .now) (h .reads) (h .ends) (h .pools) .code .within
-
 enum-told : tie.Need-enum-told Inv-loop μ-loop
 enum-told c = search needs
 
@@ -70,7 +67,7 @@ scan-marked-spec =
     Inv-loop
     μ-loop
     loop-holds
-    decode-at-requires
+    (λ c κs. search needs)
     enum-told
     returns
     enum-known-i
