@@ -16,3 +16,4 @@ pub mod Shown
 pub mod Producing
 pub mod CodeLoop
 pub mod Scanning
+pub mod Running
