@@ -17,3 +17,4 @@ pub mod Producing
 pub mod CodeLoop
 pub mod Scanning
 pub mod Running
+pub mod Calling
