@@ -7,14 +7,14 @@ use mathlib.Core.Option.{Option, none, some}
 use mathlib.Core.Path.{_≡_, refl, sym, ap, subst, _∙_}
 use lib.ListN.{length, getD, set, drop, replicate, length-replicate}
 use lib.Dec.{leb, ltb}
-use borrow.Author.Tests.{le-leb, lt-leb, leb-true, ltb-true}
+use borrow.Author.Tests.{le-leb, lt-leb, lt-ltb, le-ltb}
 use Rattle.definition.specs.Basic.{Bytes, byteAt, pick}
 use Rattle.definition.specs.Limit.{globalsLimit}
-use Rattle.definition.specs.Number.{refusal, outputShort, badImage}
+use Rattle.definition.specs.Number.{refusal, shortBuffer, outputShort, badImage}
 use Rattle.definition.specs.Opcode.{Instr}
 use Rattle.definition.specs.Bytecode.{Code, sizeOf, Const, Image}
 use Rattle.definition.specs.Decode.{Decoded, decoded, malformed, readImage}
-use Rattle.definition.specs.Output.{over}
+use Rattle.definition.specs.Call.{cleared}
 use Rattle.definition.specs.Trusted.{Stands}
 use Rattle.definition.specs.declared.Refusal.{Refusal}
 use Rattle.definition.proofs.Basic.{pick-true, pick-false}
@@ -39,7 +39,7 @@ use Rattle.trial.specs.Run.{Action, actions, runnable, runnableAs, actio
 use Rattle.trial.specs.Output.{namesAs, namedGlobals, shown}
 use Rattle.trial.specs.Cells.{Keeping, KeepsGlobals, workSize, stackLimit}
 use Rattle.trial.specs.Machine.{Safe, EndsAs}
-use Rattle.trial.specs.Call.{taken, firstRefused, refusedWith, Outcome, trialOutcome, takenOutcome, judgedOutcome, imageOutcome, outcomeAnswer, outcomeInto, scanAnswer, ScanReady, ChunkToRun}
+use Rattle.trial.specs.Call.{taken, firstRefused, refusedWith, Outcome, trialOutcome, takenOutcome, judgedOutcome, imageOutcome, runOutcome, outcomeAnswer, outcomeInto, workAfter, scanAnswer, ScanReady, ChunkToRun}
 use Rattle.trial.specs.declared.RunAnswer.{RunAnswer}
 use Rattle.trial.specs.declared.RunAnswer.the-variants.{Ran, Refused}
 use Rattle.trial.specs.declared.scan.Scanned.{Scanned}
@@ -197,3 +197,16 @@ module _ (b : Bytes) {m : Image} (i : ImageAt b m) (hs : List ℕ) (room : ℕ) 
 
   pub taken-image : {n : ℕ} → r ≡ PoolTops n → imageOutcome (readImage b) hs room ≡ takenOutcome (refusedWith hs m) m room
   taken-image f = ap (λ d. imageOutcome d hs room) (i .reads) ∙ ap (λ v. judgedOutcome v hs m room) (all-passing f .1)
+
+-- the work area
+pub work-short : (b : Bytes) (hs : List ℕ) (work room : ℕ) → work < workSize → runOutcome b hs work room ≡ Outcome.refused (refusal shortBuffer 0)
+work-short b hs work room h = pick-true _ _ (lt-ltb work workSize h)
+
+pub work-long : (b : Bytes) (hs : List ℕ) (work room : ℕ) → workSize ≤ work → runOutcome b hs work room ≡ imageOutcome (readImage b) hs room
+work-long b hs work room h = pick-false _ _ (le-ltb work workSize h)
+
+pub work-kept : (w : List ℕ) → length w < workSize → w ≡ workAfter w
+work-kept w h = sym (pick-true w (cleared workSize w) (lt-ltb (length w) workSize h))
+
+pub work-cleared : (w : List ℕ) {x : List ℕ} → workSize ≤ length w → x ≡ replicate workSize 0 → x ++ drop workSize w ≡ workAfter w
+work-cleared w h e = ap (λ x. x ++ drop workSize w) e ∙ sym (pick-false w (cleared workSize w) (le-ltb (length w) workSize h))
