@@ -1,5 +1,5 @@
 /*
- * Compiles profiles in one session, checks and lists their images in one call, sends one in frames and in the chin form, and shows refusals: two profiles, damaged
+ * Compiles profiles in one session, checks and lists their images in one call, measures one's stack, sends it in frames and in the chin form, and shows refusals: two profiles, damaged
  * ones and the tree of a seed of its own, or the trees in the files that it is given. examples/run compares what it prints.
  */
 #include <stdio.h>
@@ -146,6 +146,27 @@ static void turn(const uint8_t *image, size_t length) {
     }
 }
 
+/* How deep the stack of each chunk gets: heights are proposed, and checked. A wrong one is refused. */
+static void measure(const uint8_t *image, size_t length) {
+    static uint32_t heights[MONKEY_HEIGHTS_LIMIT], depths[MONKEY_CHUNKS_LIMIT];
+
+    uint64_t proposed = monkey_propose_heights(image, length, heights, MONKEY_HEIGHTS_LIMIT);
+    print_answer("heights proposed", proposed);
+    if (monkey_number(proposed) != 0) {
+        return;
+    }
+    size_t count = monkey_value(proposed);
+    uint64_t answer = monkey_check_heights(image, length, heights, count, depths, MONKEY_CHUNKS_LIMIT);
+    print_answer("chunks that pass", answer);
+    for (size_t k = 0; monkey_number(answer) == 0 && k < monkey_value(answer); k++) {
+        printf("depth %u\n", (unsigned)depths[k]);
+    }
+    print_answer("one height too few", monkey_check_heights(image, length, heights, count - 1, depths, MONKEY_CHUNKS_LIMIT));
+    print_answer("output too short", monkey_check_heights(image, length, heights, count, depths, 1));
+    heights[0] += 1;
+    print_answer("a wrong height", monkey_check_heights(image, length, heights, count, depths, MONKEY_CHUNKS_LIMIT));
+}
+
 /* The tree of a seed, and an output that is one byte too short for it. */
 static void show_seed(uint32_t seed) {
     static uint8_t tree[MONKEY_LOAD_LIMIT];
@@ -166,6 +187,7 @@ static void show_own(void) {
     send_again(output, 68, 32, 2);
     send_again(output, 68, 32, 3);
     turn(output, 68);
+    measure(output, 68);
 
     memcpy(before, session, sizeof session);
     show("unknown", unknown, sizeof unknown);

@@ -2,15 +2,16 @@
  * The profile compiler for C: link target/staticlib/libcapi.a (rt staticlib capi; x86-64). The bytes of trees, sessions and images: docs/FORMAT.md.
  *
  * Buffers
- *   Each is a pointer and a length. A length counts elements: bytes, and for the table area 32-bit numbers.
- *   No pointer is null, also where the length is 0; a table area is aligned as a uint32_t.
+ *   Each is a pointer and a length. A length counts elements: bytes, and for the table area and lists of heights 32-bit numbers.
+ *   No pointer is null, also where the length is 0; a table area or a list of heights is aligned as a uint32_t.
  *   No two buffers of one call overlap, and nothing else reads or writes them while it runs.
  *   The functions keep nothing of their own between calls and use no heap, so that threads may call them on buffers of their own.
- *   A call takes up to 100,000 bytes of stack (measured on trees of 64 levels).
+ *   A call takes up to 100,000 bytes of stack (measured on trees of 64 levels); those on heights up to 270,000 (measured: 262,880, most of it one
+ *   number for each offset of the longest image).
  *
  * Answers
- *   Each function answers one 64-bit number. Where the high half is 0, the low half is a length, of what was written. Otherwise the
- *   call was refused: the high half is the number of the refusal, 1 to 17 or 22 to 26, the low half its place, an offset.
+ *   Each function answers one 64-bit number. Where the high half is 0, the low half is a length, of what was written, in elements. Otherwise the
+ *   call was refused: the high half is the number of the refusal, 1 to 17 or 22 to 26, the low half its place, an offset or a chunk.
  *   monkey_number and monkey_value take the halves. Every call ends with an answer, whatever bytes the buffers hold.
  */
 #ifndef MONKEY_H
@@ -31,7 +32,9 @@ enum {
     MONKEY_TREE_LIMIT = 32768,   /* bytes of the longest tree */
     MONKEY_IMAGE_LIMIT = 61446,  /* bytes of the longest image: 6, and 32,768 of main code, and 28,672 of pool */
     MONKEY_LISTING_LIMIT = 6144100, /* no listing has more bytes; most have far fewer */
-    MONKEY_LOAD_LIMIT = 2048     /* bytes of the longest tree of a seed */
+    MONKEY_LOAD_LIMIT = 2048,    /* bytes of the longest tree of a seed */
+    MONKEY_HEIGHTS_LIMIT = 61440, /* no image has more instructions: 32,768 bytes of main code and 28,672 of pool */
+    MONKEY_CHUNKS_LIMIT = 4097   /* no image has more chunks: main and 4,096 functions */
 };
 
 /* The numbers of refusals. The place is an offset in the tree, 0 where none is named here. */
@@ -56,6 +59,7 @@ enum monkey_refusal {
     MONKEY_NO_VALUE = 22,        /* a branch that yields no value: it is empty or ends in a let; place: the If */
     MONKEY_FRAME_SIZE = 23,      /* a frame's size is below 16 or above 1,024 */
     MONKEY_NO_FRAME = 24,        /* the image has no frame of this number */
+    MONKEY_BAD_HEIGHTS = 25,     /* image and heights do not pass; place: the first chunk that fails, 0 for main, else the function's pool index plus 1 */
     MONKEY_BAD_JUMP = 26         /* a jump has no operand in the other form; place: its offset in the image that was given */
 };
 
@@ -148,6 +152,31 @@ uint64_t monkey_from_chin(const uint8_t *image, size_t image_length, uint8_t *ou
  *   Refused, and the output is as it was: 15, where the tree is longer than the output.
  */
 uint64_t monkey_load_tree(uint32_t seed, uint8_t *output, size_t output_length);
+
+/*
+ * Stack depth before upload. A height is how many values are on the stack before an instruction, 0 at the start of a chunk. A list of heights has a number for each
+ * instruction of an image: main's first, then each function's in pool order. docs/FORMAT.md says when image and heights pass.
+ */
+
+/*
+ * Checks the heights that are offered for an image, by whomever: the answer is how many chunks the image has, at most MONKEY_CHUNKS_LIMIT, and the greatest height of
+ * each where it is reached (0 if nothing is) stands at the front of the output: main's, then each function's in pool order, other constants having none. What is behind
+ * them stays as it was.
+ *   Heights at instructions that are not reached, and behind the last, are not read and may be anything; a longer list is taken too.
+ *   Refused, and the output is as it was: 17 and the place; then 25 and the first chunk that fails, or that the list does not wholly cover; then 15, where the output
+ *     has fewer numbers than the image has chunks.
+ */
+uint64_t monkey_check_heights(const uint8_t *image, size_t image_length,
+                              const uint32_t *heights, size_t heights_length,
+                              uint32_t *output, size_t output_length);
+
+/*
+ * Proposes heights for an image by following its code: the answer is how many instructions the image has, at most MONKEY_HEIGHTS_LIMIT, and a height for each stands at
+ * the front of the list, 0 where it is not reached. What is behind them stays as it was. How many there are and what stays is proved, of the heights themselves nothing:
+ * monkey_check_heights judges them. It takes them for every image of a session that monkey_make_session made and monkey_compile alone has written, in all that were tried.
+ *   Refused, and the list is as it was: 17 and the place; then 15, where the list has fewer numbers than the image has instructions.
+ */
+uint64_t monkey_propose_heights(const uint8_t *image, size_t image_length, uint32_t *heights, size_t heights_length);
 
 #ifdef __cplusplus
 }

@@ -1,4 +1,5 @@
 //! The comparison of one series: the Rust and the proved compiler, call by call.
+use crate::heights;
 use crate::image;
 use crate::listing;
 use crate::port::{self, Answer};
@@ -19,6 +20,9 @@ pub struct Counts {
     pub limits: [u64; 23],
     /// Images checked and listed, sound and damaged ones.
     pub images: u64,
+    /// Images whose heights were proposed and checked, and those lists that passed.
+    pub heights: u64,
+    pub passed: u64,
     /// Damaged sessions.
     pub sessions: u64,
 }
@@ -329,6 +333,9 @@ impl Both {
             return Ok(());
         }
         self.listed(&image)?;
+        if !self.heights(&image)? {
+            return Err("a compiled image does not pass with its heights".into());
+        }
         let at = self.damage.below(image.len());
         match self.damage.below(4) {
             0 => image.truncate(at),
@@ -336,7 +343,66 @@ impl Both {
             2 => image[at] = self.damage.below(0x20) as u8,
             _ => image[at] = self.damage.next() as u8,
         }
-        self.listed(&image).map_err(|text| format!("of the image {}: {text}", crate::hex::hex(&image)))
+        let damaged = self.listed(&image).and_then(|()| self.heights(&image).map(drop));
+        damaged.map_err(|text| format!("of the image {}: {text}", crate::hex::hex(&image)))
+    }
+
+    /// A random image, and a damaged copy of it.
+    pub fn random_image(&mut self) -> Compared {
+        let mut image = heights::random_image(&mut self.damage);
+        for _ in 0..2 {
+            self.heights(&image).map_err(|text| format!("of the image {}: {text}", crate::hex::hex(&image)))?;
+            let at = self.damage.below(image.len());
+            image[at] = self.damage.below(0x20) as u8;
+        }
+        Ok(())
+    }
+
+    /// Heights of one image, proposed and checked, and other lists checked; whether the image passes with its heights.
+    fn heights(&mut self, image: &[u8]) -> Result<bool, String> {
+        self.counts.heights += 1;
+        if let Err(image::Wrong(place)) = image::check(image) {
+            self.expect(port::propose_heights(image, &mut []), Answer::Refused(17, place))?;
+            self.expect(port::check_heights(image, &[], &mut []), Answer::Refused(17, place))?;
+            return Ok(false);
+        }
+        let (due, pass) = heights::all(image);
+        let mut proposed = vec![0xA5; due.len() + 3];
+        self.expect(port::propose_heights(image, &mut proposed), Answer::Length(due.len()))?;
+        let same = due.iter().zip(&proposed).all(|(due, n)| due.unwrap_or(0) == *n);
+        if pass && !same || proposed[due.len()..] != [0xA5; 3] {
+            return Err(format!("other heights are proposed: {proposed:?}"));
+        }
+        if !due.is_empty() {
+            let mut short = vec![0xA5; due.len() - 1];
+            self.expect(port::propose_heights(image, &mut short), Answer::Refused(15, 0))?;
+            if short.iter().any(|n| *n != 0xA5) {
+                return Err("a short list was written".into());
+            }
+        }
+        self.check_heights(image, &proposed[..due.len()])?;
+        let offered = heights::list(&due, &mut self.damage);
+        self.check_heights(image, &offered)?;
+        Ok(pass)
+    }
+
+    /// One list of heights, now and then with too short an output.
+    fn check_heights(&mut self, image: &[u8], offered: &[u32]) -> Compared {
+        let checked = heights::check(image, offered);
+        let many = checked.as_ref().map_or(4, Vec::len);
+        let room = if self.damage.often(100) { self.damage.below(many) } else { many + 2 };
+        let (due, tops) = match checked {
+            Err((number, place)) => (Answer::Refused(number, place), Vec::new()),
+            Ok(tops) if room < tops.len() => (Answer::Refused(15, 0), Vec::new()),
+            Ok(tops) => (Answer::Length(tops.len()), tops),
+        };
+        self.counts.passed += u64::from(matches!(due, Answer::Length(_)));
+        let mut output = vec![0xA5; room];
+        self.expect(port::check_heights(image, offered, &mut output), due)?;
+        if output[..tops.len()] != tops || output[tops.len()..].iter().any(|n| *n != 0xA5) {
+            return Err(format!("the greatest heights differ: {output:?}, offered {offered:?}"));
+        }
+        Ok(())
     }
 
     /// The image check and the listing of one image, now and then into too short an output.

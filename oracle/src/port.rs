@@ -19,6 +19,15 @@ extern "C" {
         table_length: usize,
     ) -> u64;
     fn monkey_list_image(image: *const u8, image_length: usize, output: *mut u8, output_length: usize) -> u64;
+    fn monkey_check_heights(
+        image: *const u8,
+        image_length: usize,
+        heights: *const u32,
+        heights_length: usize,
+        output: *mut u32,
+        output_length: usize,
+    ) -> u64;
+    fn monkey_propose_heights(image: *const u8, image_length: usize, heights: *mut u32, heights_length: usize) -> u64;
     fn monkey_load_tree(seed: u32, output: *mut u8, output_length: usize) -> u64;
 }
 
@@ -69,6 +78,15 @@ pub fn check_image(image: &[u8]) -> Answer {
 
 pub fn list_image(image: &[u8], output: &mut [u8]) -> Answer {
     unpack(unsafe { monkey_list_image(image.as_ptr(), image.len(), output.as_mut_ptr(), output.len()) })
+}
+
+pub fn check_heights(image: &[u8], heights: &[u32], output: &mut [u32]) -> Answer {
+    let (out, room) = (output.as_mut_ptr(), output.len());
+    unpack(unsafe { monkey_check_heights(image.as_ptr(), image.len(), heights.as_ptr(), heights.len(), out, room) })
+}
+
+pub fn propose_heights(image: &[u8], heights: &mut [u32]) -> Answer {
+    unpack(unsafe { monkey_propose_heights(image.as_ptr(), image.len(), heights.as_mut_ptr(), heights.len()) })
 }
 
 /// The tree of a seed (docs/LOAD.md).

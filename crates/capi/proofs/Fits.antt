@@ -28,6 +28,9 @@ use Rattle.bytecode.specs.declared.Form.{Form}
 use Rattle.chin.specs.Chin.{translate, answerOf}
 use Rattle.chin.specs.Rows.{otherForm, jumpOf}
 use Rattle.chin.proofs.Fits.{chinNumbers, translate-within}
+use Rattle.heights.specs.Pass.{heightsAnswer}
+use Rattle.heights.specs.Proposal.{proposalAnswer}
+use Rattle.heights.proofs.Bounds.{heightsNumbers, heights-within, proposal-within}
 use Rattle.capi.specs.Packed.{halfBound, packed, ofHalves, unpacked, Fits, Packs, Told}
 
 -- the halves of a number whose halves fit
@@ -75,6 +78,12 @@ load-fits seed room = go (leb (length (treeOf seed)) room)
 
 pub turn-fits : (f : Form) (b : Bytes) → AreBytes b → (room : ℕ) → Fits (answerOf (translate f (otherForm f) (jumpOf f) b) room)
 turn-fits f b a room = within-fits chinNumbers tt (omega arith) (omega arith) (translate-within f b a room)
+
+pub heights-fits : (b : Bytes) → AreBytes b → (hs : List ℕ) (room : ℕ) → Fits (heightsAnswer (readImage b) hs room)
+heights-fits b a hs room = within-fits heightsNumbers tt (omega arith) (omega arith) (heights-within b a hs room)
+
+pub proposal-fits : (b : Bytes) → AreBytes b → (room : ℕ) → Fits (proposalAnswer (readImage b) room)
+proposal-fits b a room = within-fits listNumbers tt (omega arith) (omega arith) (proposal-within b a room)
 
 -- a number of a refusal is not 0
 abbrev isNumber : ℕ → Bool

@@ -8,6 +8,7 @@ ghost use Rattle.compiler.specs.Stage.{lentOf};
 ghost use Rattle.capi.specs.Packed.{Fits, Packs, MakesPacked, CompilesPacked, ListsPacked, LoadsPacked, halfBound};
 ghost use Rattle.chin.specs.Chin.{toChin, fromChin};
 ghost use Rattle.capi.specs.Turned.{TurnsPacked};
+ghost use Rattle.capi.specs.Heights.{ChecksPacked, ProposesPacked};
 ghost use Rattle.capi.specs.Framed.{paired, countAnswer, placeAnswer, CountsPacked, PlacesPacked, RefusesPacked};
 
 // What the numbers of a half are below: 2 to the 32nd.
@@ -143,5 +144,24 @@ pub extern "C" fn monkey_load_tree(seed: u32, output: &mut [u8]) -> u64
     ensures { λ r. ⌜ LoadsPacked seed (now (output .entry)) r (now (output .exit)) ⌝ }
 {
     let answer = load::make_tree(seed, output);
+    pack(answer)
+}
+
+// Checks the heights offered for an image: how many greatest heights stand at the front of the output; or 17 and the place, 25 and the first chunk that
+// fails, or 15, and the output stays.
+#[no_mangle]
+pub extern "C" fn monkey_check_heights(image: &[u8], heights: &[u32], output: &mut [u32]) -> u64
+    ensures { λ r. ⌜ ChecksPacked (now (image .entry)) (now (heights .entry)) (now (output .entry)) r (now (output .exit)) ⌝ }
+{
+    let answer = heights::check_heights(image, heights, output);
+    pack(answer)
+}
+
+// Proposes heights for an image: how many stand at the front of the list; or 17 and the place, or 15, and the list stays.
+#[no_mangle]
+pub extern "C" fn monkey_propose_heights(image: &[u8], heights: &mut [u32]) -> u64
+    ensures { λ r. ⌜ ProposesPacked (now (image .entry)) (now (heights .entry)) r (now (heights .exit)) ⌝ }
+{
+    let answer = heights::propose_heights(image, heights);
     pack(answer)
 }

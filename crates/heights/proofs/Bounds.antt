@@ -6,7 +6,7 @@ use mathlib.Core.Path.{_≡_, refl}
 use lib.ListN.{length, length-append}
 use lib.Dec.{leb}
 use Rattle.definition.specs.Basic.{Bytes}
-use Rattle.definition.specs.Limit.{constantsLimit, imageLimit}
+use Rattle.definition.specs.Limit.{codeSize, poolLimit, constantsLimit, imageLimit}
 use Rattle.definition.specs.Number.{refusal, badImage, outputShort, listNumbers}
 use Rattle.definition.specs.Bytecode.{Const, Image, poolSize, sizeOf}
 use Rattle.definition.specs.Decode.{Decoded, decoded, malformed, readImage}
@@ -53,13 +53,13 @@ counted-size m (Const.integer b ∷ cs) = let h = counted-size m cs in omega ari
 counted-size m (Const.string b ∷ cs) = let h = counted-size m cs in omega arith
 counted-size m (Const.function l p c ∷ cs) = let h = counted-size m cs in omega (arith, code-count c, code-length c)
 
--- no more heights than the longest image has bytes, or a refusal
-pub proposal-within : (b : Bytes) → AreBytes b → (room : ℕ) → Within imageLimit listNumbers imageLimit (proposalAnswer (readImage b) room)
+-- no more heights than code and pool have bytes at most, or a refusal
+pub proposal-within : (b : Bytes) → AreBytes b → (room : ℕ) → Within (codeSize + poolLimit) listNumbers imageLimit (proposalAnswer (readImage b) room)
 proposal-within b a room = go (readImage b) refl
   where
-    go : (d : Decoded Image) → readImage b ≡ d → Within imageLimit listNumbers imageLimit (proposalAnswer d room)
+    go : (d : Decoded Image) → readImage b ≡ d → Within (codeSize + poolLimit) listNumbers imageLimit (proposalAnswer d room)
     go (decoded m n) e =
         let v = write-image b a e .sound in
         let h = counted-size m (m .pool) in
-        chosen (Within imageLimit listNumbers imageLimit) (leb (counted m (m .pool)) room) (λ _. Within.wrote (omega (arith, v .size, v .pool .size))) (λ _. nowhere tt)
+        chosen (Within (codeSize + poolLimit) listNumbers imageLimit) (leb (counted m (m .pool)) room) (λ _. Within.wrote (omega (arith, v .size, v .pool .size))) (λ _. nowhere tt)
     go (malformed p) e = Within.refused {r = refusal badImage p} (record { number = tt; place = image-place b p e })

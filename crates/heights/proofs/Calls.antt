@@ -20,10 +20,11 @@ use Rattle.heights.specs.Judgement.{AllPass, Tops, Offers}
 use Rattle.heights.specs.Pass.{heightsAnswer}
 use Rattle.heights.proofs.Compiled.{HeightsPass, compile-heights-pass}
 
--- bytes that read as an image: with the heights of its reached instructions the check answers the greatest heights, or 15
+-- bytes that read as an image: there are lists with the heights of its reached instructions, and with each of them the check answers the greatest heights, or 15
 pub record OutputPasses (b : Bytes) : Type 0 where
   pub image : Image
   pub reads : readImage b ≡ decoded image (length b)
+  pub offers : (hs : List ℕ) × Offers hs image
   pub passes : (hs : List ℕ) → Offers hs image → AllPass hs image (image .pool)
   pub answers : (hs : List ℕ) → Offers hs image → (ns : List ℕ) × Tops image (image .pool) ns × ((room : ℕ) → heightsAnswer (readImage b) hs room ≡ outputAnswer ns room)
 
@@ -62,7 +63,7 @@ call-passes {x} (Gave.refused a) f = record { wrote = λ n e. never n e }
 all-pass : {xs : List Called} {ys : List Step} → Paired xs ys → All HeightsPass ys → All CallPasses xs
 all-pass Paired.none All.none = All.none
 all-pass (Paired.more g p) (All.more h hs) =
-    All.more (call-passes g (λ m e. record { image = m; reads = h .reads m e; passes = λ l o. h .passes m e l o; answers = λ l o. h .answers m e l o })) (all-pass p hs)
+    All.more (call-passes g (λ m e. record { image = m; reads = h .reads m e; offers = h .offers m e; passes = λ l o. h .passes m e l o; answers = λ l o. h .answers m e l o })) (all-pass p hs)
 
 -- P9, on lent memory: in every series of calls on a session that was made in a buffer
 pub calls-pass : (a : Bytes) → sessionSize ≤ length a → (cs : List Call) → All CallPasses (calls (sessionMade a) cs)

@@ -23,19 +23,13 @@ use Rattle.definition.proofs.Heights.{FunctionLevel}
 use Rattle.definition.proofs.Levels.{LevelConst}
 use Rattle.definition.proofs.Invariant.{KeepsSession}
 use Rattle.definition.proofs.Reached.{LevelSession, LevelImage, level-steps, reached-enough, reached-once, reached-end, reached-not-end}
-use Rattle.definition.proofs.Reached as Reached
 use Rattle.definition.proofs.Trusted.{trusted-steps}
 use Rattle.heights.specs.Judgement.{Reaches, Kind, EndsAt, Passes, ChunkOf, AllPass, Tops, Offers}
 use Rattle.heights.specs.Pass.{Verdict, verdictAnswer, heightsAnswer}
 use Rattle.opcode.proofs.Decoding.{both-left, both-right}
 use Rattle.heights.proofs.Stepping.{whenever}
+use Rattle.heights.proofs.Offered.{way, some-offers}
 use Rattle.heights.proofs.Verdicts.{Right, judged-right, all-judged}
-
--- the same ways
-way : {c : Code} {p x : ℕ} → Reaches c p x → Reached.Reaches c p x
-way Reaches.start = Reached.Reaches.start
-way (Reaches.next r s t e) = Reached.Reaches.next (way r) s t e
-way (Reaches.leap r s t e) = Reached.Reaches.leap (way r) s t e
 
 -- only jumps leap
 abbrev IsJump : ℕ → Type 0
@@ -124,9 +118,10 @@ image-passes {m} {z} {hs} t l o = record { each = λ {kind = kind} h. go kind h 
 
 -- Series of calls
 
--- the image of a call, on bytes: neither 17 nor 25
+-- the image of a call, on bytes: there is a list that offers each reached instruction its height, and with any such list neither 17 nor 25 arises
 pub record HeightsPass (x : Step) : Type 0 where
   pub reads : (m : Image) → x .outcome ≡ Outcome.accepted m → readImage (imageBytes m) ≡ decoded m (length (imageBytes m))
+  pub offers : (m : Image) → x .outcome ≡ Outcome.accepted m → (hs : List ℕ) × Offers hs m
   pub passes : (m : Image) → x .outcome ≡ Outcome.accepted m → (hs : List ℕ) → Offers hs m → AllPass hs m (m .pool)
   pub answers : (m : Image) → x .outcome ≡ Outcome.accepted m → (hs : List ℕ) → Offers hs m → (ns : List ℕ) × Tops m (m .pool) ns × ((room : ℕ) → heightsAnswer (readImage (imageBytes m)) hs room ≡ outputAnswer ns room)
 
@@ -144,6 +139,7 @@ step-passes : {x : Step} → TrustedStep x → KeepsSession LevelSession LevelIm
 step-passes t l =
     record {
       reads = λ m e. t .image m e .decodes;
+      offers = λ m e. some-offers (l .image m e);
       passes = λ m e hs o. image-passes (t .image m e) (l .image m e) o;
       answers = λ m e hs o.
           let j = all-judged hs m (m .pool) (image-passes (t .image m e) (l .image m e) o) in

@@ -4,6 +4,7 @@ pub mod Ways
 pub mod Accepts
 pub mod Refuses
 pub mod Verdicts
+pub mod Offered
 pub mod Compiled
 pub mod Tables
 pub mod Laws

@@ -230,6 +230,64 @@ fn load(seeds: u32) {
     println!("{seeds} trees, {bytes} bytes: {:.0} made a second, {:.0} compiled a second", rate(making), rate(compiling));
 }
 
+/// An image of so many times `part` in main, and so many functions of one Return.
+fn image(part: &[u8], times: usize, functions: usize) -> Vec<u8> {
+    let field = |tag: u8, content: Vec<u8>| [&[tag], &(content.len() as u16).to_be_bytes()[..], &content].concat();
+    let pool = field(0x62, vec![0, 0, 0, 0x17]).repeat(functions);
+    [field(0x50, part.repeat(times)), field(0x51, pool)].concat()
+}
+
+/// So many ifs, each of whose jumps goes to the last instruction but one.
+fn one_target(count: usize) -> Vec<u8> {
+    let [high, low] = ((4 * count) as u16).to_be_bytes();
+    let mut image = image(&[0x06, 0x0D, high, low], count, 0);
+    image.splice(3 + 4 * count..3 + 4 * count, [0x06, 0x02]);
+    let length = (4 * count as u16 + 2).to_be_bytes();
+    image[1..3].copy_from_slice(&length);
+    image
+}
+
+/// Main rises and falls again.
+fn deep(half: usize, functions: usize) -> Vec<u8> {
+    let mut bytes = image(&[0x06], 2 * half, functions);
+    bytes[3 + half..3 + 2 * half].fill(0x02);
+    bytes
+}
+
+/// The median of a call in microseconds.
+fn timed(mut call: impl FnMut() -> Answer) -> f64 {
+    median(|| {
+        let start = Instant::now();
+        std::hint::black_box(call());
+        start.elapsed()
+    })
+}
+
+/// Heights proposed and checked on images of each size and of half of it: the time must not grow faster than the size.
+fn heights() {
+    println!("| Image | Bytes | Instructions | Image check, µs | Propose, µs | Check, µs |\n|---|---|---|---|---|---|");
+    let rows = [
+        ("16,384 True and as many Pop, 4,096 functions", deep(16_384, 4_096)),
+        ("half of that", deep(8_192, 2_048)),
+        ("8,191 jumps to one instruction", one_target(8_191)),
+        ("half of that", one_target(4_095)),
+        ("32,767 Null behind a Return", image(&[0x0F], 32_768, 0)),
+    ];
+    for (name, mut image) in rows {
+        if name.ends_with("Return") {
+            image[3] = 0x17;
+        }
+        let (mut list, mut tops) = (vec![0; 61_440], vec![0; 4_097]);
+        let Answer::Length(count) = port::propose_heights(&image, &mut list) else { panic!("{name}") };
+        let checked = port::check_heights(&image, &list[..count], &mut tops);
+        assert!(matches!(checked, Answer::Length(_)), "{name}: {checked:?}");
+        let sound = timed(|| port::check_image(&image));
+        let check = timed(|| port::check_heights(&image, &list[..count], &mut tops));
+        let propose = timed(|| port::propose_heights(&image, &mut list));
+        println!("| {name} | {} | {count} | {sound:.0} | {propose:.0} | {check:.0} |", image.len());
+    }
+}
+
 fn main() {
     let words: Vec<_> = std::env::args().skip(1).collect();
     match words.first().map(String::as_str) {
@@ -237,6 +295,7 @@ fn main() {
         Some("times") => table(false),
         None => table(true),
         Some("load") => load(words.get(1).and_then(|n| n.parse().ok()).unwrap_or(1_000)),
-        Some(_) => eprintln!("bench [times | load SEEDS | once NUMBER port|rust|floor COUNT]"),
+        Some("heights") => heights(),
+        Some(_) => eprintln!("bench [times | heights | load SEEDS | once NUMBER port|rust|floor COUNT]"),
     }
 }

@@ -12,7 +12,8 @@ use oracle::{cases, draw, edges, enumerate, port, reduce, reference};
 /// Differences after which a run ends.
 const ENOUGH: u64 = 10;
 
-const USAGE: &str = "compare [cases] [seed=N] [trees=N] [pairs=N] [short=N] [fields=N] [load=N] [seconds=N] [bytes=N]";
+const USAGE: &str =
+    "compare [cases] [seed=N] [trees=N] [pairs=N] [short=N] [fields=N] [load=N] [images=N] [seconds=N] [bytes=N]";
 
 /// A run: what it has compared so far.
 struct Run {
@@ -101,6 +102,18 @@ impl Run {
         }
     }
 
+    /// Random images and their heights.
+    fn images(&mut self, images: u64) {
+        for _ in 0..images {
+            if self.over() {
+                return;
+            }
+            if let Err(text) = self.both.random_image() {
+                self.report("heights", &text, &[]);
+            }
+        }
+    }
+
     /// Random series until so many trees are compared.
     fn random(&mut self, seed: u64, trees: u64) {
         let mut number = 0;
@@ -137,13 +150,15 @@ impl Run {
             some.map(|(number, n)| format!("{number} {n}")).collect::<Vec<_>>().join(", ")
         };
         println!(
-            "compared {} trees, {} more refused 22 without the Rust: accepted {}, refused {}; own limits {}; images listed {}; damaged sessions {}; pairs {}; differ {}",
+            "compared {} trees, {} more refused 22 without the Rust: accepted {}, refused {}; own limits {}; images listed {}; heights of {} images, {} lists passed; damaged sessions {}; pairs {}; differ {}",
             counts.trees - counts.limits[22],
             counts.limits[22],
             counts.accepted,
             listed(&counts.refused),
             listed(&counts.limits),
             counts.images,
+            counts.heights,
+            counts.passed,
             counts.sessions,
             self.pairs,
             self.differ
@@ -159,6 +174,7 @@ fn run(words: &[String]) -> bool {
         ("short", 50_000),
         ("fields", 3),
         ("load", 1_000),
+        ("images", 100_000),
         ("seconds", 600),
         ("bytes", 150_000),
     ]);
@@ -178,6 +194,7 @@ fn run(words: &[String]) -> bool {
     run.edges();
     run.short(options["short"] as usize, options["fields"] as usize);
     run.load(options["load"] as u32);
+    run.images(options["images"]);
     run.random(options["seed"], options["trees"]);
     run.alike(options["seed"], options["pairs"]);
     run.summary();
