@@ -16,3 +16,5 @@ pub mod Shown
 pub mod Producing
 pub mod CodeLoop
 pub mod Scanning
+pub mod Running
+pub mod Calling

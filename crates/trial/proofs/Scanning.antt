@@ -6,19 +6,20 @@ use mathlib.Core.List.{List, [], _∷_}
 use mathlib.Core.Option.{Option, none, some}
 use mathlib.Core.Path.{_≡_, refl, sym, ap, subst, _∙_}
 use lib.ListN.{getD}
-use lib.Dec.{leb}
-use borrow.Author.Tests.{le-leb, lt-leb, leb-true}
+use lib.Dec.{leb, ltb}
+use borrow.Author.Tests.{le-leb, lt-leb, leb-true, ltb-true}
 use Rattle.definition.specs.Basic.{Bytes, pick, both}
 use Rattle.definition.specs.Opcode.{Instr}
 use Rattle.definition.specs.Bytecode.{Code, sizeOf, Const, Image}
 use Rattle.definition.specs.Trusted.{Stands}
-use Rattle.definition.proofs.Basic.{both-left, both-right}
+use Rattle.definition.specs.Limit.{globalsLimit}
+use Rattle.definition.proofs.Basic.{both-left, both-right, chosen}
 use Rattle.opcode.specs.Decoding.{instrOf, decodeAnswer}
 use Rattle.listing.specs.Reads.{CodeAt, ImageAt}
 use Rattle.heights.specs.Pass.{Marks}
 use Rattle.heights.specs.Marks.{marksFrom}
 use Rattle.heights.proofs.Laws.{contrary}
-use Rattle.trial.specs.Run.{orElse, actionOf, runnable}
+use Rattle.trial.specs.Run.{Action, push, combine, change, constant, pop, jumpNotTruthy, jump, getGlobal, setGlobal, returnValue, other, orElse, actionOf, runnableAs, runnable}
 use Rattle.trial.specs.Output.{namesAs, namedGlobals}
 use Rattle.trial.specs.Cells.{stackLimit}
 use Rattle.trial.specs.Call.{taken, firstRefused, scanAnswer}
@@ -71,6 +72,27 @@ named-more i c = refl
 named-none : namedGlobals [] ≡ 0
 unfolding namedGlobals
 named-none = refl
+
+-- where all are taken, the indices are below 1,024
+names-below : (pool : List Const) (n k : ℕ) (a : Action) → n ≤ 1024 → runnableAs pool k a ≡ true → namesAs n k a ≤ 1024
+names-below pool n k (push v) h e = h
+names-below pool n k (combine o) h e = h
+names-below pool n k (change o) h e = h
+names-below pool n k constant h e = h
+names-below pool n k pop h e = h
+names-below pool n k jumpNotTruthy h e = h
+names-below pool n k jump h e = h
+names-below pool n k getGlobal h e = chosen (λ x. x ≤ 1024) (ltb k n) (λ _. h) (λ _. let l = ltb-true k globalsLimit e in omega arith)
+names-below pool n k setGlobal h e = chosen (λ x. x ≤ 1024) (ltb k n) (λ _. h) (λ _. let l = ltb-true k globalsLimit e in omega arith)
+names-below pool n k returnValue h e = h
+names-below pool n k other h e = h
+
+pub named-small : (pool : List Const) (f : Marks) (c : Code) → firstRefused pool f c ≡ none → namedGlobals c ≤ 1024
+named-small pool f c e = go c (λ i p s. taken-runs pool f p i (all-taken pool f c e s))
+  where
+    go : (d : Code) → ((i : Instr) (p : ℕ) → Stands i p d → runnable pool i ≡ true) → namedGlobals d ≤ 1024
+    go [] h = omega (arith, named-none)
+    go (i ∷ d) h = let l = names-below pool (namedGlobals d) (i .a) (actionOf i) (go d (λ j p s. h j p (Stands.before s))) (h i (sizeOf d) Stands.last) in omega (arith, named-more i d, l)
 
 -- the loop
 module _ (b : Bytes) (end : ℕ) (l : List ℕ) (m : Image) (h : CodeAt b 3 end (m .code)) where

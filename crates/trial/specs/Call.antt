@@ -1,10 +1,10 @@
 -- The whole call: its numbers in their order, its answer, its output and its work area.
 use Prim.Native.Nat.{ℕ, _+_, _*_, _≤_}
-use mathlib.Core.Bool.{Bool, true, false}
-use mathlib.Core.List.{List, [], _∷_, _++_}
+use mathlib.Core.Bool.{Bool}
+use mathlib.Core.List.{List, [], _∷_}
 use mathlib.Core.Option.{Option, none, some}
 use mathlib.Core.Path.{_≡_}
-use lib.ListN.{length, drop, replicate}
+use lib.ListN.{length}
 use lib.Dec.{leb, ltb}
 use Rattle.definition.specs.Basic.{Bytes, byteAt, pick, both}
 use Rattle.definition.specs.Number.{refusal, shortBuffer, badImage, outputShort}
@@ -12,6 +12,7 @@ use Rattle.definition.specs.Field.{head}
 use Rattle.definition.specs.Opcode.{Instr}
 use Rattle.definition.specs.Bytecode.{Code, sizeOf, Const, Image}
 use Rattle.definition.specs.Decode.{Decoded, decoded, malformed, readImage}
+use Rattle.definition.specs.Call.{cleared}
 use Rattle.definition.specs.Output.{over}
 use Rattle.definition.specs.declared.Refusal.{Refusal}
 use Rattle.listing.specs.Reads.{ImageAt}
@@ -84,7 +85,7 @@ outcomeInto (Outcome.refused r) out = out
 
 -- the work area afterwards
 abbrev pub workAfter : List ℕ → List ℕ
-workAfter w = pick (ltb (length w) workSize) w (replicate workSize 0 ++ drop workSize w)
+workAfter w = pick (ltb (length w) workSize) w (cleared workSize w)
 
 -- what going over main finds, as the code answers it
 abbrev pub scanAnswer : Option ℕ → ℕ → Scanned

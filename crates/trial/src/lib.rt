@@ -99,6 +99,19 @@ fn run_image(image: &[u8], heights: &[u32], work: &mut [u64], output: &mut [u8])
     }
 }
 
+// The same on a work area of just its size, which is cleared before and after.
+fn run_in(image: &[u8], heights: &[u32], work: &mut [u64], output: &mut [u8]) -> RunAnswer
+    requires { ⌜ length (now work) ≡ workSize ⌝ }
+    ensures answers { λ r. ⌜ r ≡ outcomeAnswer (imageOutcome (readImage (now (image .entry))) (now (heights .entry)) (length (now (output .entry)))) ⌝ }
+    ensures writes { λ r. ⌜ now (output .exit) ≡ outcomeInto (imageOutcome (readImage (now (image .entry))) (now (heights .entry)) (length (now (output .entry)))) (now (output .entry)) ⌝ }
+    ensures clears { λ r. ⌜ now (work .exit) ≡ replicate workSize 0 ⌝ }
+{
+    clear(work);
+    let answer = run_image(image, heights, work, output);
+    clear(work);
+    answer
+}
+
 // Runs main of an image with the heights offered for it, all globals unset. The output then starts with nine bytes for each global up to the highest
 // index that main names. The first 4,096 numbers of the work area are 0 after every answer but number 1.
 pub fn run(image: &[u8], heights: &[u32], work: &mut [u64], output: &mut [u8]) -> RunAnswer
@@ -109,8 +122,5 @@ pub fn run(image: &[u8], heights: &[u32], work: &mut [u64], output: &mut [u8]) -
     if work.len() < WORK_SIZE {
         return refused(number::SHORT_BUFFER, 0);
     }
-    clear(&mut work[..WORK_SIZE]);
-    let answer = run_image(image, heights, &mut work[..WORK_SIZE], output);
-    clear(&mut work[..WORK_SIZE]);
-    answer
+    run_in(image, heights, &mut work[..WORK_SIZE], output)
 }

@@ -138,7 +138,14 @@ fn reason(op: u8) -> usize
 }
 
 // An instruction that puts a value.
-fn produce(work: &mut [u64], image: &[u8], pool: usize, i: Instruction, next: usize, s: State) -> Stepped
+fn produce(
+    work: &mut [u64],
+    image: &[u8],
+    pool: usize,
+    i: Instruction,
+    next: usize,
+    s: State,
+) -> Stepped
     requires { ⌜ StepReady (now work) (now image) pool (instrOf i) next s × Produces (i .op) ⌝ }
     ensures { λ r. ⌜ ((cs : List Const) (f : Frame) → PoolAt (now (image .entry)) pool (length (now (image .entry))) cs → Framed (now (work .entry)) s f → next ≡ 3 + (f .at + size (instrOf i)) → After (now (work .exit)) (f .at) r (executed cs (instrOf i) f)) ⌝ }
 {
@@ -158,7 +165,14 @@ fn produce(work: &mut [u64], image: &[u8], pool: usize, i: Instruction, next: us
 }
 
 // One instruction, `next` behind it.
-fn execute(work: &mut [u64], image: &[u8], pool: usize, i: Instruction, next: usize, s: State) -> Stepped
+fn execute(
+    work: &mut [u64],
+    image: &[u8],
+    pool: usize,
+    i: Instruction,
+    next: usize,
+    s: State,
+) -> Stepped
     requires { ⌜ StepReady (now work) (now image) pool (instrOf i) next s × Runs (i .op) ⌝ }
     ensures { λ r. ⌜ ((cs : List Const) (f : Frame) → PoolAt (now (image .entry)) pool (length (now (image .entry))) cs → Framed (now (work .entry)) s f → next ≡ 3 + (f .at + size (instrOf i)) → After (now (work .exit)) (f .at) r (executed cs (instrOf i) f)) ⌝ }
 {
