@@ -18,9 +18,6 @@ abbrev μ-loop : tie.MeasureT-loop
 loop-holds : tie.Need-loop-holds Inv-loop μ-loop
 loop-holds c = λ h. let q = main-parts ((c .before .before .args) .image .now) (h .reads) (h .ends) (h .pools) in run-begins ((c .before .before .args) .image .now) ((c .before .before .args) .end) ((c .before .before .args) .pool) (h .image) (q .code) (q .pools) (h .safe) (h .cleared)
 
-decode-at-requires : tie.Need-decode-at-requires Inv-loop μ-loop
-decode-at-requires c κs = main-parts ((c .before .before .before .before .args) .image .now) ((c .before .before .before .before .pre) .reads) ((c .before .before .before .before .pre) .ends) ((c .before .before .before .before .pre) .pools) .code .within
-
 enum-told : tie.Need-enum-told Inv-loop μ-loop
 enum-told c = search needs
 
@@ -82,7 +79,7 @@ run-main-spec =
     Inv-loop
     μ-loop
     loop-holds
-    decode-at-requires
+    (λ c κs. search needs)
     enum-told
     same-length
     returns
