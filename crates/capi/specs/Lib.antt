@@ -2,3 +2,4 @@ pub mod Packed
 pub mod Framed
 pub mod Turned
 pub mod Heights
+pub mod Trial

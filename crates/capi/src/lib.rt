@@ -2,6 +2,7 @@
 use definition::Answer;
 use frames::FrameCount;
 use frames::FramePlace;
+use trial::RunAnswer;
 ghost use mathlib.Core.Path.{_≡_};
 ghost use Prim.Native.Nat.{_<_};
 ghost use Rattle.compiler.specs.Stage.{lentOf};
@@ -10,6 +11,7 @@ ghost use Rattle.chin.specs.Chin.{toChin, fromChin};
 ghost use Rattle.capi.specs.Turned.{TurnsPacked};
 ghost use Rattle.capi.specs.Heights.{ChecksPacked, ProposesPacked};
 ghost use Rattle.capi.specs.Framed.{paired, countAnswer, placeAnswer, CountsPacked, PlacesPacked, RefusesPacked};
+ghost use Rattle.capi.specs.Trial.{ranAnswer, RunsPacked};
 
 // What the numbers of a half are below: 2 to the 32nd.
 const HALF_BOUND: u64 = 4294967296;
@@ -172,5 +174,32 @@ pub extern "C" fn monkey_propose_heights(image: &[u8], heights: &mut [u32]) -> u
     ensures { λ r. ⌜ ProposesPacked (now (image .entry)) (now (heights .entry)) r (now (heights .exit)) ⌝ }
 {
     let answer = heights::propose_heights(image, heights);
+    pack(answer)
+}
+
+// What a trial run answers.
+fn run_answer(answer: RunAnswer) -> Answer
+    requires { ⌜ Fits (ranAnswer answer) ⌝ }
+    ensures { λ r. ⌜ r ≡ ranAnswer answer ⌝ }
+{
+    match answer {
+        RunAnswer::Ran(globals, steps) => pair(globals, steps),
+        RunAnswer::Refused(r) => Answer::Refused(r),
+    }
+}
+
+// Runs main of an image with the heights offered for it: globals × 65,536 + steps, and nine bytes for each global at the front of the output; or 1, 17 and
+// the place, 25 and the chunk, 27 and the offset, 15, 28 or 29 and the offset, and the output stays. The work area's first 4,096 numbers are 0 then, except
+// after 1.
+#[no_mangle]
+pub extern "C" fn monkey_run(
+    image: &[u8],
+    heights: &[u32],
+    work: &mut [u64],
+    output: &mut [u8],
+) -> u64
+    ensures { λ r. ⌜ RunsPacked (now (image .entry)) (now (heights .entry)) (now (work .entry)) (now (output .entry)) r (now (work .exit)) (now (output .exit)) ⌝ }
+{
+    let answer = run_answer(trial::run(image, heights, work, output));
     pack(answer)
 }

@@ -138,7 +138,7 @@ room-short {o} m room {n} e q l = ap (λ o. takenOutcome o m room) e ∙ pick-fa
 
 -- what a run gave
 module _ {o : Option ℕ} (m : Image) (room : ℕ) {n : ℕ} (e : o ≡ none) (q : n ≡ namedGlobals (m .code)) (l : 9 * n ≤ room) where
-  enough-room : takenOutcome o m room ≡ trialOutcome (namedGlobals (m .code)) (trial m)
+  pub enough-room : takenOutcome o m room ≡ trialOutcome (namedGlobals (m .code)) (trial m)
   enough-room = ap (λ o. takenOutcome o m room) e ∙ pick-true _ _ (le-leb (9 * namedGlobals (m .code)) room (omega (arith, q)))
 
   pub ended-stopped : {k p : ℕ} {w : List ℕ} {r : Ended} → EndsAs w r (trial m) → r ≡ Stopped k p → takenOutcome o m room ≡ Outcome.refused (refusal k p)

@@ -18,3 +18,5 @@ pub mod CodeLoop
 pub mod Scanning
 pub mod Running
 pub mod Calling
+pub mod Evaluates
+pub mod Bounds

@@ -15,7 +15,7 @@ use Rattle.definition.specs.Opcode.{Instr, instr, opSetGlobal}
 use Rattle.definition.specs.Bytecode.{Code, sizeOf, Const}
 use Rattle.definition.specs.SymbolTable.{Symbol, Table, Resolved, Defined, findGlobal, findBuiltin, outermost, resolve, loadOf, place}
 use Rattle.definition.specs.Valid.{All}
-use Rattle.trial.specs.Run.{runnable, orElse, firstUnrunnable}
+use Rattle.trial.specs.Run.{runnable}
 use Rattle.trial.specs.Evaluate.{namesStmt, namesStmts, namesElse, namesExpr}
 use Rattle.definition.proofs.Basic.{pick-true, pick-false}
 use Rattle.definition.proofs.Chunks.{PoolGrows, pool-same, pool-then, pool-more}
@@ -24,17 +24,6 @@ use Rattle.definition.proofs.Account.{Known, ifCode, Yields, StmtCode, StmtsCod
 -- each instruction is one that a trial run takes
 abbrev pub Runnable : List Const → Code → Type 0
 Runnable pool = All (λ i. T (runnable pool i))
-
--- no instruction is refused
-pub all-runnable : (pool : List Const) (c : Code) → firstUnrunnable pool c ≡ none → Runnable pool c
-unfolding firstUnrunnable
-all-runnable pool [] e = All.none
-all-runnable pool (i ∷ c) e = go (firstUnrunnable pool c) (runnable pool i) refl (all-runnable pool c) e
-  where
-    go : (o : Option ℕ) (b : Bool) → runnable pool i ≡ b → (o ≡ none → Runnable pool c) → orElse o (pick b none (some (sizeOf c))) ≡ none → Runnable pool (i ∷ c)
-    go (some p) b q f e = let z : _≡_ {A = ℕ} 0 1 = cc in absurd (omega arith)
-    go none true q f e = All.more (subst T (sym q) tt) (f refl)
-    go none false q f e = let z : _≡_ {A = ℕ} 0 1 = cc in absurd (omega arith)
 
 -- of the code before the last instruction
 all-rest : {A : Type 0} {P : A → Type 0} {x : A} {xs : List A} → All P (x ∷ xs) → All P xs

@@ -75,7 +75,7 @@ unfolding pass
 pass-none pool s = refl
 
 -- an instruction has a byte
-few : (c : Code) → length c ≤ sizeOf c
+pub few : (c : Code) → length c ≤ sizeOf c
 few [] = omega arith
 few (i ∷ c) = let l = few c in omega arith
 

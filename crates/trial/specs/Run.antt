@@ -67,11 +67,6 @@ abbrev pub orElse : Option ℕ → Option ℕ → Option ℕ
 orElse (some p) q = some p
 orElse none q = q
 
--- the position of the first instruction that a trial run does not take, heights apart
-unfoldable pub firstUnrunnable : List Const → Code → Option ℕ
-firstUnrunnable pool [] = none
-firstUnrunnable pool (i ∷ c) = orElse (firstUnrunnable pool c) (pick (runnable pool i) none (some (sizeOf c)))
-
 -- a run before the instruction at a position; its stack, the top first; the instructions executed so far
 pub record Frame : Type 0 where
   pub at : ℕ
