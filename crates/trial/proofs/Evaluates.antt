@@ -12,18 +12,18 @@ use Rattle.definition.specs.Limit.{sessionSize}
 use Rattle.definition.specs.Number.{refusal, shortBuffer, outputShort}
 use Rattle.definition.specs.Opcode.{Instr}
 use Rattle.definition.specs.Bytecode.{Code, sizeOf, Const, Image, imageBytes}
-use Rattle.definition.specs.Session.{fresh}
+use Rattle.definition.specs.Session.{Words, begun}
 use Rattle.definition.specs.Decode.{decoded, readImage}
 use Rattle.definition.specs.Tree.{readTree}
 use Rattle.definition.specs.Trusted.{Stands}
 use Rattle.definition.specs.Compile as Compile
 use Rattle.definition.specs.Compile.{Request, Step, compile, steps}
 use Rattle.definition.specs.Call.{Called, call, request}
-use Rattle.definition.specs.Series.{Call, sessionMade, lent}
-use Rattle.definition.specs.Valid.{All}
+use Rattle.definition.specs.Series.{Call, Start, lent}
+use Rattle.definition.specs.Valid.{All, ValidWords}
 use Rattle.definition.specs.declared.Answer.the-variants.{Length, Refused}
 use Rattle.definition.specs.declared.Refusal.{Refusal}
-use Rattle.definition.proofs.Series.{Gave, call-does, made-holds}
+use Rattle.definition.proofs.Series.{Gave, call-does, start-holds}
 use Rattle.heights.specs.Judgement.{Offers}
 use Rattle.heights.specs.Pass.{Verdict, judged}
 use Rattle.heights.proofs.Verdicts.{all-judged}
@@ -54,29 +54,29 @@ all-runnable pool [] h = All.none
 all-runnable pool (i ∷ c) h = All.more (subst T (sym (h i (sizeOf c) Stands.last)) tt) (all-runnable pool c (λ j p s. h j p (Stands.before s)))
 
 -- of one call
-one-passes : (c : Request) → HeightsPass (compile fresh c)
-one-passes c = go (compile-heights-pass (c ∷ []))
+one-passes : (w : Words) → ValidWords w → (c : Request) → HeightsPass (compile (begun w) c)
+one-passes w v c = go (compile-heights-pass w v (c ∷ []))
   where
     go : {x : Step} {xs : List Step} → All HeightsPass (x ∷ xs) → HeightsPass x
     go (All.more h hs) = h
 
 module _ (hs : List ℕ) (work room : ℕ) (long : workSize ≤ work) where
   -- the image of an accepted tree, with heights that offer each reached instruction its own; 27 and 15 do not refuse it
-  pub run-evaluates : (c : Request) {m : Image} → compile fresh c .outcome ≡ Compile.Outcome.accepted m → Offers hs m → refusedWith hs m ≡ none → 9 * namedGlobals (m .code) ≤ room
+  pub run-evaluates : (w : Words) → ValidWords w → (c : Request) {m : Image} → compile (begun w) c .outcome ≡ Compile.Outcome.accepted m → Offers hs m → refusedWith hs m ≡ none → 9 * namedGlobals (m .code) ≤ room
       → outcomeEnd (runOutcome (imageBytes m) hs work room) ≡ treeEnd (readTree (c .tree))
-  run-evaluates c {m} e o r l =
-      let h = one-passes c in
+  run-evaluates w v c {m} e o r l =
+      let h = one-passes w v c in
       let j = all-judged hs m (m .pool) (h .passes m e hs o) in
       let s = main-safe hs m (j .1) r in
       ap outcomeEnd (work-long (imageBytes m) hs work room long ∙ ap (λ d. imageOutcome d hs room) (h .reads m e) ∙ ap (λ v. judgedOutcome v hs m room) (j .1) ∙ enough-room m room r refl l)
       ∙ trial-end (namedGlobals (m .code)) (trial m)
-      ∙ call-agrees c e (all-runnable (m .pool) (m .code) (λ i p q. s .runs q))
+      ∙ call-agrees w c e (all-runnable (m .pool) (m .code) (λ i p q. s .runs q))
 
-  -- the same on lent memory: the first call on a session that was made in a buffer, and what it wrote
-  pub call-evaluates : (a : Bytes) → sessionSize ≤ length a → (c : Call) (n : ℕ) → call (c .tree) (lent (sessionMade a) c) .answer ≡ Length n
-      → (m : Image) → readImage (take n (call (c .tree) (lent (sessionMade a) c) .lent .output)) ≡ decoded m n → Offers hs m → refusedWith hs m ≡ none → 9 * namedGlobals (m .code) ≤ room
-      → outcomeEnd (runOutcome (take n (call (c .tree) (lent (sessionMade a) c) .lent .output)) hs work room) ≡ treeEnd (readTree (c .tree))
-  call-evaluates a h c n e m i o r l = go (compile fresh (request (lent (sessionMade a) c) (c .tree)) .outcome) refl (call-does (sessionMade a) fresh (made-holds a h) c .gave) e i
+  -- the same on lent memory: the first call on a session that was made, with either call, and what it wrote
+  pub call-evaluates : {a : Bytes} {w : Words} → Start a w → (c : Call) (n : ℕ) → call (c .tree) (lent a c) .answer ≡ Length n
+      → (m : Image) → readImage (take n (call (c .tree) (lent a c) .lent .output)) ≡ decoded m n → Offers hs m → refusedWith hs m ≡ none → 9 * namedGlobals (m .code) ≤ room
+      → outcomeEnd (runOutcome (take n (call (c .tree) (lent a c) .lent .output)) hs work room) ≡ treeEnd (readTree (c .tree))
+  call-evaluates {a} {w} h c n e m i o r l = go (compile (begun w) (request (lent a c) (c .tree)) .outcome) refl (call-does a (begun w) (start-holds h) c .gave) e i
     where
       same : {k n : ℕ} → Length k ≡ Length n → k ≡ n
       same e = cc
@@ -87,13 +87,13 @@ module _ (hs : List ℕ) (work room : ℕ) (long : workSize ≤ work) where
       never : {s : Refusal} {n : ℕ} → Refused s ≡ Length n → ⊥
       never e = let z : _≡_ {A = ℕ} 0 1 = cc in omega arith
 
-      go : (y : Compile.Outcome) → compile fresh (request (lent (sessionMade a) c) (c .tree)) .outcome ≡ y → {x : Called} → Gave y x → x .answer ≡ Length n → readImage (take n (x .lent .output)) ≡ decoded m n → outcomeEnd (runOutcome (take n (x .lent .output)) hs work room) ≡ treeEnd (readTree (c .tree))
+      go : (y : Compile.Outcome) → compile (begun w) (request (lent a c) (c .tree)) .outcome ≡ y → {x : Called} → Gave y x → x .answer ≡ Length n → readImage (take n (x .lent .output)) ≡ decoded m n → outcomeEnd (runOutcome (take n (x .lent .output)) hs work room) ≡ treeEnd (readTree (c .tree))
       go (Compile.Outcome.accepted k) q {x} (Gave.accepted b t g) e i =
           let z : length (imageBytes k) ≡ n = same (sym b ∙ e) in
-          let w : imageBytes k ≡ take n (x .lent .output) = sym t ∙ ap (λ n. take n (x .lent .output)) z in
-          let v : k ≡ m = image-same (sym (one-passes (request (lent (sessionMade a) c) (c .tree)) .reads k q) ∙ ap readImage w ∙ i) in
-          subst (λ b. outcomeEnd (runOutcome b hs work room) ≡ treeEnd (readTree (c .tree))) w
-          (run-evaluates (request (lent (sessionMade a) c) (c .tree)) q (subst (Offers hs) (sym v) o) (subst (λ m. refusedWith hs m ≡ none) (sym v) r) (subst (λ (m : Image). 9 * namedGlobals (m .code) ≤ room) (sym v) l))
+          let f : imageBytes k ≡ take n (x .lent .output) = sym t ∙ ap (λ n. take n (x .lent .output)) z in
+          let v : k ≡ m = image-same (sym (one-passes w (start-holds h .valid .words) (request (lent a c) (c .tree)) .reads k q) ∙ ap readImage f ∙ i) in
+          subst (λ b. outcomeEnd (runOutcome b hs work room) ≡ treeEnd (readTree (c .tree))) f
+          (run-evaluates w (start-holds h .valid .words) (request (lent a c) (c .tree)) q (subst (Offers hs) (sym v) o) (subst (λ m. refusedWith hs m ≡ none) (sym v) r) (subst (λ (m : Image). 9 * namedGlobals (m .code) ≤ room) (sym v) l))
       go (Compile.Outcome.refused s) q (Gave.refused b) e i = absurd (never (sym b ∙ e))
 
 -- the steps of a call are at most main's instructions

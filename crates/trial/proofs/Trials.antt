@@ -18,7 +18,7 @@ use Rattle.definition.specs.Bytecode.{Code, sizeOf, Const, Image, imageBytes}
 use Rattle.definition.specs.Walk.{Res, infixes, lessThan, walkStmts}
 use Rattle.definition.specs.SymbolTable.{Symbol, loadOf}
 use Rattle.definition.specs.Compiler.{State, machine}
-use Rattle.definition.specs.Session.{fresh}
+use Rattle.definition.specs.Session.{Words, begun}
 use Rattle.definition.specs.Tree.{Parsed, readTree}
 use Rattle.definition.specs.Compile.{Outcome, Request, start, imageOf, sessionOf, turnedDown, finish, translate, enough, compile}
 use Rattle.definition.specs.declared.Refusal.{Refusal}
@@ -146,43 +146,43 @@ settled-end {r = Evaluated.on v h} a = ap (λ s. trialEnd (trialOf s)) (through 
 settled-end {r = Evaluated.returned h} (Settles.returned e) = ap (λ s. trialEnd (trialOf s)) e
 settled-end {r = Evaluated.stopped k} (Settles.stopped e) = ap (λ s. trialEnd (trialOf s)) e
 
--- P13's theorem: a program that is walked in a fresh session, its main code one that a trial run takes
-pub trial-agrees : (b : Stmts) {s : State} → walkStmts machine b (start fresh) ≡ Res.on tt s → Runnable (s .pool) (s .code) → trialEnd (trial (imageOf s)) ≡ valueEnd (evaluate b)
-trial-agrees b e = go (accounted b (start fresh) e)
+-- P13's theorem: a program that is walked in a session just begun, with any words, its main code one that a trial run takes
+pub trial-agrees : (z : Words) (b : Stmts) {s : State} → walkStmts machine b (start (begun z)) ≡ Res.on tt s → Runnable (s .pool) (s .code) → trialEnd (trial (imageOf s)) ≡ valueEnd (evaluate b)
+trial-agrees z b e = go (accounted b (start (begun z)) e)
   where
-    program : {c : Code} {w : Known} → StmtsCode b 0 (knownOf (start fresh)) c w → Runnable (w .pool) c → trialEnd (trial (imageOf (stateOf c 0 w))) ≡ valueEnd (evaluate b)
+    program : {c : Code} {w : Known} → StmtsCode b 0 (knownOf (start (begun z))) c w → Runnable (w .pool) c → trialEnd (trial (imageOf (stateOf c 0 w))) ≡ valueEnd (evaluate b)
     program {w = w} x a = settled-end (run-stmts (w .pool) b x a (pool-same (w .pool)) refl [] none unsetGlobals 0)
 
-    go : {s : State} → Emitted (StmtsCode b 0 (knownOf (start fresh))) [] 0 0 s → Runnable (s .pool) (s .code) → trialEnd (trial (imageOf s)) ≡ valueEnd (evaluate b)
+    go : {s : State} → Emitted (StmtsCode b 0 (knownOf (start (begun z)))) [] 0 0 s → Runnable (s .pool) (s .code) → trialEnd (trial (imageOf s)) ≡ valueEnd (evaluate b)
     go (Emitted.emitted c w x l) =
         subst (λ d. Runnable (w .pool) d → trialEnd (trial (imageOf (stateOf d 0 w))) ≡ valueEnd (evaluate b)) (sym (append-nil c)) (program x)
 
 -- and so for a compile call's tree and image
-pub call-agrees : (c : Request) {m : Image} → compile fresh c .outcome ≡ Outcome.accepted m → Runnable (m .pool) (m .code) → trialEnd (trial m) ≡ treeEnd (readTree (c .tree))
+pub call-agrees : (z : Words) (c : Request) {m : Image} → compile (begun z) c .outcome ≡ Outcome.accepted m → Runnable (m .pool) (m .code) → trialEnd (trial m) ≡ treeEnd (readTree (c .tree))
 unfolding compile
-call-agrees c {m} e a = entered (enough c) e a
+call-agrees z c {m} e a = entered (enough c) e a
   where
     Agrees : Parsed Stmts → Outcome → Type 0
     Agrees t o = o ≡ Outcome.accepted m → Runnable (m .pool) (m .code) → trialEnd (trial m) ≡ treeEnd t
 
     never : {A : Type 0} {r : Refusal} → Outcome.refused r ≡ Outcome.accepted m → A
-    never e = let z : _≡_ {A = ℕ} 0 1 = cc in absurd (omega arith)
+    never e = let f : _≡_ {A = ℕ} 0 1 = cc in absurd (omega arith)
 
-    written : (b : Stmts) (k : ℕ) {s : State} → walkStmts machine b (start fresh) ≡ Res.on tt s → (x : Bool)
-        → Agrees (Parsed.parsed b k) (pick x (record { outcome = Outcome.accepted (imageOf s); session = sessionOf s }) (turnedDown fresh (refusal Number.outputShort 0)) .outcome)
+    written : (b : Stmts) (k : ℕ) {s : State} → walkStmts machine b (start (begun z)) ≡ Res.on tt s → (x : Bool)
+        → Agrees (Parsed.parsed b k) (pick x (record { outcome = Outcome.accepted (imageOf s); session = sessionOf s }) (turnedDown (begun z) (refusal Number.outputShort 0)) .outcome)
     written b k {s} q true e a =
-        let z : imageOf s ≡ m = cc in
-        subst (λ (y : Image). Runnable (y .pool) (y .code) → trialEnd (trial y) ≡ valueEnd (evaluate b)) z (trial-agrees b q) a
+        let f : imageOf s ≡ m = cc in
+        subst (λ (y : Image). Runnable (y .pool) (y .code) → trialEnd (trial y) ≡ valueEnd (evaluate b)) f (trial-agrees z b q) a
     written b k q false e a = never e
 
-    walked : (b : Stmts) (k : ℕ) (w : Res State (Unit {0})) → walkStmts machine b (start fresh) ≡ w → Agrees (Parsed.parsed b k) (finish (c .output) fresh w .outcome)
+    walked : (b : Stmts) (k : ℕ) (w : Res State (Unit {0})) → walkStmts machine b (start (begun z)) ≡ w → Agrees (Parsed.parsed b k) (finish (c .output) (begun z) w .outcome)
     walked b k (Res.on u s) q e a = written b k q (leb (length (imageBytes (imageOf s))) (c .output)) e a
     walked b k (Res.stop r s) q e a = never e
 
-    read : (t : Parsed Stmts) → Agrees t (translate (c .output) fresh t .outcome)
-    read (Parsed.parsed b k) e a = walked b k (walkStmts machine b (start fresh)) refl e a
+    read : (t : Parsed Stmts) → Agrees t (translate (c .output) (begun z) t .outcome)
+    read (Parsed.parsed b k) e a = walked b k (walkStmts machine b (start (begun z))) refl e a
     read (Parsed.refused r) e a = never e
 
-    entered : (x : Bool) → Agrees (readTree (c .tree)) (pick x (translate (c .output) fresh (readTree (c .tree))) (turnedDown fresh (refusal Number.shortBuffer 0)) .outcome)
+    entered : (x : Bool) → Agrees (readTree (c .tree)) (pick x (translate (c .output) (begun z) (readTree (c .tree))) (turnedDown (begun z) (refusal Number.shortBuffer 0)) .outcome)
     entered true e a = read (readTree (c .tree)) e a
     entered false e a = never e
