@@ -14,8 +14,14 @@ fn print_word(number: usize) -> bool {
     match number {
         number::BAD_IMAGE => io::write_all(STDERR_FILENO, b"bad image, at offset "),
         heights::BAD_HEIGHTS => io::write_all(STDERR_FILENO, b"no heights pass, in chunk "),
-        27 => io::write_all(STDERR_FILENO, b"instruction that a trial run does not take, at offset "),
-        28 => io::write_all(STDERR_FILENO, b"wrong operand kind, overflow or zero divisor, at offset "),
+        27 => io::write_all(
+            STDERR_FILENO,
+            b"instruction that a trial run does not take, at offset ",
+        ),
+        28 => io::write_all(
+            STDERR_FILENO,
+            b"wrong operand kind, overflow or zero divisor, at offset ",
+        ),
         29 => io::write_all(STDERR_FILENO, b"global not yet set, at offset "),
         _ => io::write_all(STDERR_FILENO, b"output short, at "),
     }
