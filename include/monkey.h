@@ -7,8 +7,8 @@
  *   No pointer is null, also where the length is 0; a table area or a list of heights is aligned as a uint32_t, a work area as a uint64_t.
  *   No two buffers of one call overlap, and nothing else reads or writes them while it runs.
  *   The functions keep nothing of their own between calls and use no heap, so that threads may call them on buffers of their own.
- *   A call takes up to 100,000 bytes of stack (measured on trees of 64 levels); those on heights and the trial run up to 270,000 (most of it
- *   one number for each offset of the longest image).
+ *   A call takes up to 100,000 bytes of stack (measured on trees of 64 levels); those on heights up to 270,000 (measured: 262,880, most of it one
+ *   number for each offset of the longest image), the trial run, which goes over main twice, up to 540,000 (measured: 529,712).
  *
  * Answers
  *   Each function answers one 64-bit number. Where the high half is 0, the low half is a length, of what was written, in elements. Otherwise the
