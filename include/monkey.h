@@ -2,16 +2,17 @@
  * The profile compiler for C: link target/staticlib/libcapi.a (rt staticlib capi; x86-64). The bytes of trees, sessions and images: docs/FORMAT.md.
  *
  * Buffers
- *   Each is a pointer and a length. A length counts elements: bytes, and for the table area and lists of heights 32-bit numbers.
- *   No pointer is null, also where the length is 0; a table area or a list of heights is aligned as a uint32_t.
+ *   Each is a pointer and a length. A length counts elements: bytes, for the table area and lists of heights 32-bit numbers, and for the work area of
+ *   a trial run 64-bit numbers.
+ *   No pointer is null, also where the length is 0; a table area or a list of heights is aligned as a uint32_t, a work area as a uint64_t.
  *   No two buffers of one call overlap, and nothing else reads or writes them while it runs.
  *   The functions keep nothing of their own between calls and use no heap, so that threads may call them on buffers of their own.
  *   A call takes up to 100,000 bytes of stack (measured on trees of 64 levels); those on heights up to 270,000 (measured: 262,880, most of it one
- *   number for each offset of the longest image).
+ *   number for each offset of the longest image), the trial run, which goes over main twice, up to 540,000 (measured: 529,712).
  *
  * Answers
  *   Each function answers one 64-bit number. Where the high half is 0, the low half is a length, of what was written, in elements. Otherwise the
- *   call was refused: the high half is the number of the refusal, 1 to 17, 19 or 22 to 26, the low half its place, an offset or a chunk.
+ *   call was refused: the high half is the number of the refusal, 1 to 17, 19 or 22 to 29, the low half its place, an offset or a chunk.
  *   monkey_number and monkey_value take the halves. Every call ends with an answer, whatever bytes the buffers hold.
  */
 #ifndef MONKEY_H
@@ -35,7 +36,9 @@ enum {
     MONKEY_LOAD_LIMIT = 2048,    /* bytes of the longest tree of a seed */
     MONKEY_WORDS_LIMIT = 24,     /* words of a session */
     MONKEY_HEIGHTS_LIMIT = 61440, /* no image has more instructions: 32,768 bytes of main code and 28,672 of pool */
-    MONKEY_CHUNKS_LIMIT = 4097   /* no image has more chunks: main and 4,096 functions */
+    MONKEY_CHUNKS_LIMIT = 4097,  /* no image has more chunks: main and 4,096 functions */
+    MONKEY_WORK_SIZE = 4096,     /* 64-bit numbers of the work area of a trial run */
+    MONKEY_GLOBALS_LIMIT = 9216  /* no trial run writes more bytes: nine for each of 1,024 globals */
 };
 
 /* The numbers of refusals. The place is an offset in the tree, 0 where none is named here. */
@@ -62,7 +65,10 @@ enum monkey_refusal {
     MONKEY_FRAME_SIZE = 23,      /* a frame's size is below 16 or above 1,024 */
     MONKEY_NO_FRAME = 24,        /* the image has no frame of this number */
     MONKEY_BAD_HEIGHTS = 25,     /* image and heights do not pass; place: the first chunk that fails, 0 for main, else the function's pool index plus 1 */
-    MONKEY_BAD_JUMP = 26         /* a jump has no operand in the other form; place: its offset in the image that was given */
+    MONKEY_BAD_JUMP = 26,        /* a jump has no operand in the other form; place: its offset in the image that was given */
+    MONKEY_NOT_RUNNABLE = 27,    /* an instruction of main that a trial run does not take; place: its offset in the image */
+    MONKEY_OPERAND = 28,         /* a trial run met a wrong operand kind, an overflow or a zero divisor; place: the instruction's offset in the image */
+    MONKEY_UNSET = 29            /* a trial run met a global not yet set; place: the GetGlobal's offset in the image */
 };
 
 /* The number of a refusal, 0 where there is none. */
@@ -190,6 +196,22 @@ uint64_t monkey_check_heights(const uint8_t *image, size_t image_length,
  *   Refused, and the list is as it was: 17 and the place; then 15, where the list has fewer numbers than the image has instructions.
  */
 uint64_t monkey_propose_heights(const uint8_t *image, size_t image_length, uint32_t *heights, size_t heights_length);
+
+/*
+ * Trial run. Runs the main code of an image, all globals unset at first, with the heights that are offered for it (monkey_propose_heights). Main may use the instructions
+ * 00 to 11 and 16 alone; docs/FORMAT.md says what they do. The answer's low half is the number of globals written times 65,536 plus the number of instructions executed
+ * (monkey_run_globals and monkey_run_steps take them), and the output starts with nine bytes for each global up to the highest index that main names: a kind, 0 unset,
+ * 1 integer, 2 boolean, 3 null, then the value in eight bytes, high byte first: an integer in two's complement, 0 or 1 for a boolean, else 0. What is behind them stays.
+ *   The work area has MONKEY_WORK_SIZE numbers, and they are 0 after every answer but 1; numbers behind them stay.
+ *   Refused, and the output is as it was: 1, where the work area is shorter (nothing is touched then); 17 and the place; 25 and the chunk; 27 and the offset of the first
+ *     instruction of main that a run does not take: another instruction, a Constant that names no integer, a global index above 1,023 or, where it is reached, a height
+ *     above 1,024 before it; 15, where the output has fewer than nine bytes for each global; then, as the run meets it, 28 or 29 and the instruction's offset.
+ */
+uint64_t monkey_run(const uint8_t *image, size_t image_length, const uint32_t *heights, size_t heights_length, uint64_t *work, size_t work_length, uint8_t *output, size_t output_length);
+
+/* The globals that a trial run wrote, and the instructions that it executed. */
+static inline uint32_t monkey_run_globals(uint64_t answer) { return (uint32_t)answer >> 16; }
+static inline uint32_t monkey_run_steps(uint64_t answer) { return (uint32_t)answer & 65535; }
 
 #ifdef __cplusplus
 }

@@ -8,3 +8,4 @@ pub mod Cells
 pub mod Machine
 pub mod Call
 pub mod Examples
+pub mod CallExamples
