@@ -99,3 +99,28 @@ begins-statement k h = rw (ne-eqb k closeBrace (λ e. omega arith), ne-eqb k end
 pub begins-expression : (k : ℕ) → aName ≤ k → statementTag k ≡ tagExprStmt
 unfolding statementTag
 begins-expression k h = rw (ne-eqb k letWord (λ e. omega arith), ne-eqb k returnWord (λ e. omega arith)) refl
+
+-- the tightness of a kind, by its range
+pub tight-call : (k : ℕ) → openParen ≤ k → k < minus → tightOf k ≡ 6
+unfolding tightOf
+tight-call k a b = rw (le-ltb k openParen a, lt-ltb k minus b) refl
+
+pub tight-sum : (k : ℕ) → minus ≤ k → k < 15 → tightOf k ≡ 3
+unfolding tightOf
+tight-sum k a b = rw (le-ltb k openParen (omega arith), le-ltb k minus a, lt-ltb k 15 b) refl
+
+pub tight-product : (k : ℕ) → 15 ≤ k → k < 17 → tightOf k ≡ 4
+unfolding tightOf
+tight-product k a b = rw (le-ltb k openParen (omega arith), le-ltb k minus (omega arith), le-ltb k 15 a, lt-ltb k 17 b) refl
+
+pub tight-comparison : (k : ℕ) → 17 ≤ k → k < 19 → tightOf k ≡ 2
+unfolding tightOf
+tight-comparison k a b = rw (le-ltb k openParen (omega arith), le-ltb k minus (omega arith), le-ltb k 15 (omega arith), le-ltb k 17 a, lt-ltb k 19 b) refl
+
+pub tight-equality : (k : ℕ) → 19 ≤ k → k < elseWord → tightOf k ≡ 1
+unfolding tightOf
+tight-equality k a b = rw (le-ltb k openParen (omega arith), le-ltb k minus (omega arith), le-ltb k 15 (omega arith), le-ltb k 17 (omega arith), le-ltb k 19 a, lt-ltb k elseWord b) refl
+
+pub late-loose : (k : ℕ) → elseWord ≤ k → tightOf k ≡ 0
+unfolding tightOf
+late-loose k a = rw (le-ltb k openParen (omega arith), le-ltb k minus (omega arith), le-ltb k 15 (omega arith), le-ltb k 17 (omega arith), le-ltb k 19 (omega arith), le-ltb k elseWord a) refl

@@ -13,7 +13,7 @@ use Rattle.text.specs.Token.{token, Row, kindOf, behind}
 use Rattle.text.specs.Node.{Node, leaf, node, Nodes, none, _then_, one, operator, named}
 use Rattle.text.specs.Grammar.{Is, Infix, Prefixed, Names, Parameters, Statements, More, Statement, Block, Expression, Binary, Prefix, Postfix, Primary, Branches, Items, SomeItems, Pairs, SomePairs, Script}
 use Rattle.text.specs.Shape.{tightOf, closesGroup, closing, separating, ending, isLeaf, isList, operatorOf, continuedTag, operandTag, statementTag, leafBytes}
-use Rattle.text.specs.Parse.{itemRow, pastSemicolon, NamesRow, ExpressionRow, ClimbRow, OperandRow, InsideRow, ListRow, IfRow, ElseRow, FunctionRow, BlockRow, StatementsRow, StatementRow, ClauseRow}
+use Rattle.text.specs.Parse.{itemRow, pastSemicolon, NamesRow, ParametersRow, LetRow, ExpressionRow, ClimbRow, OperandRow, InsideRow, ListRow, IfRow, ElseRow, FunctionRow, BlockRow, StatementsRow, StatementRow, ClauseRow}
 use Rattle.text.proofs.Follow.{Begins, first-expression}
 use Rattle.text.proofs.KindTests.{not-closes, closes-one, loose-ends, tight-goes, early-loose, InfixKind, infix-kind, begins-open, begins-first, begins-statement, begins-expression}
 
@@ -132,7 +132,7 @@ mutual
   row-primary (Primary.conditional Is.is Is.is d Is.is bs) e l c =
       ExpressionRow.begins refl (OperandRow.deeper refl refl (InsideRow.anIf refl (row-branches bs e (row-expression d (record { loose = refl; noElse = refl }))))) c
   row-primary (Primary.function Is.is Is.is ps Is.is d) e l c =
-      ExpressionRow.begins refl (OperandRow.deeper refl refl (InsideRow.aFunction refl refl (FunctionRow.functionRow (row-parameters ps refl refl) (row-block d)))) c
+      ExpressionRow.begins refl (OperandRow.deeper refl refl (InsideRow.aFunction refl refl (FunctionRow.functionRow (ParametersRow.parametersRow (row-parameters ps refl refl)) (row-block d)))) c
 
   -- a condition in parentheses and what is behind it
   row-branches : {vs ys zs : Row} {a b : Bytes} {x : Node} {xs : Nodes} → Branches ys zs xs → eqb (kindOf zs) elseWord ≡ false → ExpressionRow 0 0 vs (token closeParen b ∷ ys) x → IfRow (token openParen a ∷ vs) zs (x then xs)
@@ -195,7 +195,7 @@ mutual
       rw (ne-eqb (kindOf ts) semicolon (λ e. omega arith)) (StatementsRow.aStatement (begins-statement (kindOf ts) (begins-one d)) (row-statement d (past-statement m f)) (row-more m f))
 
   row-statement : {ts us : Row} {x : Node} → Statement ts us x → Past (kindOf us) → StatementRow ts (pastSemicolon us) x
-  row-statement {us = us} (Statement.letStatement {n = n} {e = e} Is.is Is.is Is.is d v) p = rw v (StatementRow.statementRow (ClauseRow.aLet refl refl (row-expression d p)))
+  row-statement {us = us} (Statement.letStatement {n = n} {e = e} Is.is Is.is Is.is d v) p = rw v (StatementRow.statementRow (ClauseRow.aLet refl (LetRow.letRow refl (row-expression d p))))
   row-statement (Statement.returnStatement Is.is d) p = StatementRow.statementRow (ClauseRow.aReturn refl refl (row-expression d p))
   row-statement {ts} {us} (Statement.expressionStatement {e = e} d) p = plain-statement (first-expression d) (row-expression d p)
 

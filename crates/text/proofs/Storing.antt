@@ -3,11 +3,13 @@ use Prim.Native.Nat.{ℕ, zero, suc, _+_, _-_, _≤_, _<_}
 use native.Mathlib.Omega.{arith}
 use mathlib.Core.List.{[], _∷_, _++_, append-assoc}
 use mathlib.Core.Path.{_≡_, refl, sym, ap, _∙_}
-use lib.ListN.{length, set, take, drop, length-append, take-append-drop}
-use lib.Seq.{sets, sets-eq, length-sets, length-take-le, take-at, drop-at}
+use lib.ListN.{length, set, take, drop, getD, length-append, length-set, take-append-drop}
+use lib.Seq.{sets, sets-eq, length-sets, length-take-le, take-at, drop-at, getD-set-other}
 use Rattle.definition.specs.Basic.{Bytes, byteAt}
 use Rattle.definition.specs.Field.{bytes}
 use Rattle.definition.proofs.Bytes.{bytes-slice}
+use borrow.Author.Tests.{le-ltb}
+use Rattle.text.specs.Parts.{movedBy}
 use Rattle.session.proofs.Stores.{sets-append, sets-before, sets-again}
 
 -- at least as many bytes again
@@ -50,3 +52,70 @@ pub behind-front : (l : Bytes) (i : ℕ) (front xs : Bytes) {j : ℕ} → j ≡ 
 behind-front l i front xs {j} e h =
     ap (λ m. bytes (byteAt m) j (length xs)) (sym (sets-append l i {j = j} front xs (sym e)))
     ∙ stored-bytes (sets l i front) j xs (omega (arith, length-sets l i front))
+
+-- one byte more
+pub stored-one : (o : Bytes) (i : ℕ) (xs : Bytes) {m n : Bytes} {j : ℕ} (b : ℕ) → m ≡ sets o i xs → n ≡ set m j b → j ≡ i + length xs → n ≡ sets o i (xs ++ (b ∷ []))
+stored-one o i xs {j = j} b e f g = f ∙ ap (λ l. set l j b) e ∙ sets-append o i {j = j} xs (b ∷ []) (sym g)
+
+-- a loop that copies a text's bytes: what is left decides
+pub record Copying (text old : Bytes) (to from end : ℕ) (out : Bytes) (next k : ℕ) : Type 0 where
+  pub first : from ≤ k
+  pub last : k ≤ end
+  pub place : next ≡ to + (k - from)
+  pub left : sets old to (bytes (byteAt text) from (end - from)) ≡ sets out next (bytes (byteAt text) k (end - k))
+  pub lengths : length out ≡ length old
+
+pub copies-on : {text old out out′ : Bytes} {to from end next k : ℕ} → Copying text old to from end out next k → k < end → out′ ≡ set out next (byteAt text k) → Copying text old to from end out′ (next + 1) (k + 1)
+copies-on {text} {old} {out} {out′} {to} {from} {end} {next} {k} c h e =
+    let n : end - k ≡ suc (end - (k + 1)) = omega arith in
+    let s : suc next ≡ next + 1 = omega arith in
+    record {
+      first = omega (arith, c .first);
+      last = omega arith;
+      place = omega (arith, c .place, c .first);
+      left = c .left ∙ ap (λ m. sets out next (bytes (byteAt text) k m)) n ∙ (λ j. sets (sym e j) (s j) (bytes (byteAt text) (k + 1) (end - (k + 1))));
+      lengths = ap length e ∙ length-set out next (byteAt text k) ∙ c .lengths;
+    }
+
+pub copied : {text old out : Bytes} {to from end next k : ℕ} → Copying text old to from end out next k → end ≤ k → (next ≡ to + (end - from)) × (out ≡ sets old to (bytes (byteAt text) from (end - from)))
+copied {text} {old} {out} {to} {from} {end} {next} {k} c h =
+    let z : end - k ≡ 0 = omega arith in
+    (omega (arith, c .place, c .last), sym (c .left ∙ ap (λ m. sets out next (bytes (byteAt text) k m)) z))
+
+-- what is in front of the bytes stored stays
+front-stays : (l : Bytes) (i j : ℕ) (xs : Bytes) → j < i → getD (sets l i xs) j 0 ≡ getD l j 0
+front-stays l i j [] h = refl
+front-stays l i j (x ∷ xs) h = front-stays (set l i x) (suc i) j xs (omega arith) ∙ getD-set-other l i j x 0 (λ e. omega arith)
+
+-- a loop that moves bytes back, the last first
+pub record Moving (old : Bytes) (from end by : ℕ) (out : Bytes) (k : ℕ) : Type 0 where
+  pub first : from ≤ k
+  pub last : k ≤ end
+  pub moved : out ≡ sets old (k + by) (bytes (byteAt old) k (end - k))
+  pub lengths : length out ≡ length old
+
+pub moves-begin : (old : Bytes) (from end by : ℕ) → from ≤ end → Moving old from end by old end
+moves-begin old from end by h =
+    let z : end - end ≡ 0 = omega arith in
+    record { first = h; last = omega arith; moved = sym (ap (λ m. sets old (end + by) (bytes (byteAt old) end m)) z); lengths = refl }
+
+pub moves-on : {old out out′ : Bytes} {from end by k j b : ℕ} → Moving old from end by out k → from < k → j ≡ k - 1 → b ≡ byteAt out j → out′ ≡ set out (j + by) b → Moving old from end by out′ j
+moves-on {old} {out} {out′} {from} {end} {by} {k} {j} {b} m h e f g =
+    let n : end - j ≡ suc (end - (j + 1)) = omega (arith, m .last) in
+    let s : j + 1 ≡ k = omega arith in
+    let p : byteAt out j ≡ byteAt old j = ap (λ l. getD l j 0) (m .moved) ∙ front-stays old (k + by) j (bytes (byteAt old) k (end - k)) (omega arith) in
+    let q : out ≡ sets old (k + by) (bytes (byteAt old) (j + 1) (end - (j + 1))) = m .moved ∙ ap (λ i. sets old (k + by) (bytes (byteAt old) i (end - i))) (sym s) in
+    record {
+      first = omega arith;
+      last = omega (arith, m .last);
+      moved =
+          g ∙ (λ i. set (q i) (j + by) ((f ∙ p) i))
+          ∙ sets-before old (j + by) {j = k + by} (byteAt old j ∷ []) (bytes (byteAt old) (j + 1) (end - (j + 1))) (omega arith)
+          ∙ ap (λ i. sets old (j + by) (bytes (byteAt old) j i)) (sym n);
+      lengths = ap length g ∙ length-set out (j + by) b ∙ m .lengths;
+    }
+
+pub moves-end : {old out : Bytes} {from end by k : ℕ} → Moving old from end by out k → k ≤ from → end + by ≤ length old → out ≡ movedBy old from end by
+moves-end {old} {out} {from} {end} {by} {k} m h l =
+    let e : k ≡ from = omega (arith, m .first) in
+    rw (le-ltb (length old) (end + by) l) (m .moved ∙ ap (λ i. sets old (i + by) (bytes (byteAt old) i (end - i))) e)

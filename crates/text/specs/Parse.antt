@@ -24,6 +24,10 @@ pub data NamesRow : Row → Row → Nodes → Type 0 where
   aComma : {ts us : Row} {xs : Nodes} → eqb (kindOf ts) nameKind ≡ false → eqb (kindOf ts) comma ≡ true → NamesRow (behind ts) us xs → NamesRow ts us xs
   noName : {ts : Row} → eqb (kindOf ts) nameKind ≡ false → eqb (kindOf ts) comma ≡ false → NamesRow ts (behind ts) none
 
+-- the same in their parentheses
+pub data ParametersRow : Row → Row → Node → Type 0 where
+  parametersRow : {ts us : Row} {xs : Nodes} → NamesRow (behind ts) us xs → ParametersRow ts us (node tagParams xs)
+
 mutual
   -- an expression with operators tighter than a level, behind so many parentheses of its own
   pub data ExpressionRow : ℕ → ℕ → Row → Row → Node → Type 0 where
@@ -60,7 +64,7 @@ mutual
     anElse : {ts us : Row} {b : Node} → eqb (kindOf ts) elseWord ≡ true → BlockRow (behind ts) us b → ElseRow ts us (one b)
 
   pub data FunctionRow : Row → Row → Nodes → Type 0 where
-    functionRow : {ts us vs : Row} {ns : Nodes} {b : Node} → NamesRow (behind ts) us ns → BlockRow us vs b → FunctionRow ts vs (leaf tagName [] then node tagParams ns then one b)
+    functionRow : {ts us vs : Row} {ns b : Node} → ParametersRow ts us ns → BlockRow us vs b → FunctionRow ts vs (leaf tagName [] then ns then one b)
 
   pub data BlockRow : Row → Row → Node → Type 0 where
     blockRow : {ts us : Row} {xs : Nodes} → StatementsRow (behind ts) us xs → BlockRow ts (behind us) (node tagBlock xs)
@@ -72,8 +76,12 @@ mutual
   pub data StatementRow : Row → Row → Node → Type 0 where
     statementRow : {ts us : Row} {xs : Nodes} → ClauseRow ts us xs → StatementRow ts (pastSemicolon us) (node (statementTag (kindOf ts)) xs)
 
+  -- a name and its value
+  pub data LetRow : Row → Row → Nodes → Type 0 where
+    letRow : {ts us : Row} {e : Node} → kindOf ts ≡ nameKind → ExpressionRow 0 0 (behind (behind ts)) us e → LetRow ts us (leaf tagName (bytesOf ts) then one (named (bytesOf ts) e))
+
   -- what a statement has inside
   pub data ClauseRow : Row → Row → Nodes → Type 0 where
-    aLet : {ts us : Row} {e : Node} → eqb (kindOf ts) letWord ≡ true → kindOf (behind ts) ≡ nameKind → ExpressionRow 0 0 (behind (behind (behind ts))) us e → ClauseRow ts us (leaf tagName (bytesOf (behind ts)) then one (named (bytesOf (behind ts)) e))
+    aLet : {ts us : Row} {xs : Nodes} → eqb (kindOf ts) letWord ≡ true → LetRow (behind ts) us xs → ClauseRow ts us xs
     aReturn : {ts us : Row} {e : Node} → eqb (kindOf ts) letWord ≡ false → eqb (kindOf ts) returnWord ≡ true → ExpressionRow 0 0 (behind ts) us e → ClauseRow ts us (one e)
     anExpression : {ts us : Row} {e : Node} → eqb (kindOf ts) letWord ≡ false → eqb (kindOf ts) returnWord ≡ false → ExpressionRow 0 0 ts us e → ClauseRow ts us (one e)

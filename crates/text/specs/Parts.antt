@@ -1,17 +1,23 @@
 -- What passes 2 and 3 promise: the bytes of what is read at an offset, put into an output where there is room, and its levels.
 use Prim.Native.Nat.{ℕ, zero, suc, _+_, _*_, _-_, _/_, _%_, _≤_, _<_}
+use mathlib.Core.Bool.{false}
 use mathlib.Core.List.{[], _∷_, _++_}
 use mathlib.Core.Path.{_≡_}
 use lib.ListN.{length}
 use lib.Seq.{sets}
 use lib.Dec.{ltb, eqb}
 use Rattle.definition.specs.Basic.{Bytes, byteAt, pick}
-use Rattle.definition.specs.Field.{bytes}
-use Rattle.text.specs.Kind.{aName, aString, anInteger, ended}
+use Rattle.definition.specs.Field.{bytes, field}
+use Rattle.text.specs.Kind.{aName, aString, anInteger, trueWord, falseWord, openParen, ended}
 use Rattle.text.specs.Token.{Row, kindOf, bytesOf, behind}
-use Rattle.text.specs.Node.{Node, leaf, node, Nodes, written, writtenAll, levels, levelsAll, larger}
+use Rattle.definition.specs.Tag.{tagFunction, tagName}
+use Rattle.text.specs.Node
+use Rattle.text.specs.Node.{Node, leaf, node, Nodes, _then_, named, written, writtenAll, levels, levelsAll, larger}
+use Rattle.text.specs.Shape.{tightOf, continuedTag}
+use Rattle.text.specs.Parse.{pastSemicolon, ExpressionRow, InsideRow}
 use Rattle.text.specs.Scan.{Next, found, large, broken, finished, nextAt, textLimit, smaller, value, eight}
 use Rattle.text.specs.declared.part.Part.{Part}
+use Rattle.text.specs.declared.part.Groups.{Groups}
 use Rattle.text.specs.declared.scan.Token as piece
 
 -- bytes moved further back, where there is room for all
@@ -59,10 +65,36 @@ pub record Sees (text : Bytes) (at : ℕ) (t : piece.Token) : Type 0 where
   pub string : t .kind ≡ aString → t .start + 2 ≤ t .end
   pub integer : t .kind ≡ anInteger → value 0 (bytes (byteAt text) (t .start) (t .end - t .start)) ≤ 9223372036854775807
 
+-- the content of a field that is one token
+unfoldable pub contentOf : Bytes → piece.Token → Bytes
+contentOf text t =
+    pick (eqb (t .kind) anInteger) (eight (value 0 (bytes (byteAt text) (t .start) (t .end - t .start))))
+    (pick (eqb (t .kind) aString) (bytes (byteAt text) (t .start + 1) (t .end - 1 - (t .start + 1)))
+    (pick (eqb (t .kind) trueWord) (1 ∷ [])
+    (pick (eqb (t .kind) falseWord) (0 ∷ []) (bytes (byteAt text) (t .start) (t .end - t .start)))))
+
+-- where a token stands in a text
+pub record Holds (text : Bytes) (t : piece.Token) : Type 0 where
+  pub order : t .start ≤ t .end
+  pub within : t .end ≤ endOf text
+  pub string : t .kind ≡ aString → t .start + 2 ≤ t .end
+  pub integer : t .kind ≡ anInteger → value 0 (bytes (byteAt text) (t .start) (t .end - t .start)) ≤ 9223372036854775807
+
+-- a field of one token put
+pub record PutToken (tag : ℕ) (text : Bytes) (t : piece.Token) (to : ℕ) (old out : Bytes) (p : Part) : Type 0 where
+  pub part : p ≡ record { at = t .end; to = to + 3 + length (contentOf text t); levels = 1; tag = tag }
+  pub stored : out ≡ sets old to (field tag (contentOf text t))
+  pub most : length (contentOf text t) ≤ 8 + (t .end - t .start)
+
 -- the tag of a field
 abbrev pub tagOf : Node → ℕ
 tagOf (leaf t c) = t
 tagOf (node t xs) = t
+
+-- a function as it is read: its name is empty
+pub record Shaped (x : Node) : Type 0 where
+  pub body : tagOf x ≡ tagFunction → Nodes
+  pub shape : (e : tagOf x ≡ tagFunction) → x ≡ node tagFunction (leaf tagName [] then body e)
 
 -- bytes put, of so many levels, with so many left; behind them this row is left of the text
 pub data Put (text : Bytes) (rest : Row) (new : Bytes) (deep left to : ℕ) (old out : Bytes) (p : Part) : Type 0 where
@@ -75,10 +107,11 @@ pub record PutNode (text : Bytes) (rest : Row) (x : Node) (left to : ℕ) (old o
   pub tag : levels x ≤ left → p .tag ≡ tagOf x
 
 -- from where a part may be put: no sum leaves the machine's numbers
-pub record Ready (text : Bytes) (at to left : ℕ) : Type 0 where
+pub record Ready (most : ℕ) (text : Bytes) (at to left : ℕ) : Type 0 where
   pub within : at ≤ endOf text
-  pub room : to + 16 * endOf text ≤ 140000 + 16 * at
-  pub most : left ≤ 64
+  pub room : to + 16 * endOf text ≤ most + 16 * at
+  pub small : most ≤ 140003
+  pub few : left ≤ 64
 
 -- how far it may get: at most 16 bytes for each byte of the text, and some more
 pub record Bounds (text : Bytes) (at to slack left : ℕ) (old out : Bytes) (p : Part) : Type 0 where
@@ -113,3 +146,33 @@ movedOn p at = record { at = at; to = p .to; levels = p .levels; tag = p .tag }
 -- a field of what was put behind its head
 abbrev pub closedOf : ℕ → Part → Part
 closedOf tag p = record { at = p .at; to = p .to; levels = 1 + p .levels; tag = tag }
+
+-- parentheses passed
+pub record Skips (text : Bytes) (from : ℕ) (g : Groups) : Type 0 where
+  pub onward : from ≤ g .at
+  pub within : g .at ≤ endOf text
+  pub few : g .opened ≤ g .at
+  pub rows : (least : ℕ) (rest : Row) (y : Node) → ExpressionRow least 0 (rowAt text from) rest y → ExpressionRow least (g .opened) (rowAt text (g .at)) rest y
+  pub operand : eqb (kindOf (rowAt text (g .at))) openParen ≡ false
+
+-- a part behind a `;`
+pub record Passes (text : Bytes) (p q : Part) : Type 0 where
+  pub part : q ≡ movedOn p (q .at)
+  pub onward : p .at ≤ q .at
+  pub within : q .at ≤ endOf text
+  pub row : rowAt text (q .at) ≡ pastSemicolon (rowAt text (p .at))
+
+-- a value with the name of its `let`
+pub record Named (text : Bytes) (name : piece.Token) (to : ℕ) (v : Part) (old out : Bytes) (p : Part) : Type 0 where
+  pub at : p .at ≡ v .at
+  pub levels : p .levels ≡ v .levels
+  pub behind : v .to ≤ p .to
+  pub most : p .to ≤ v .to + (name .end - name .start)
+  pub lengths : length out ≡ length old
+  pub puts : (x : Node) (rest : Row) (left : ℕ) (base : Bytes) → length old ≡ length base → name .kind ≡ aName → Shaped x → PutNode text rest x left to base old v → Put text rest (written (named (contentOf text name) x)) (Node.levels (named (contentOf text name) x)) left to base out p
+
+-- a call, an index or an infix operator behind what was put
+pub record Continues (text : Bytes) (t : piece.Token) (to : ℕ) (v : Part) (left : ℕ) (old out : Bytes) (p : Part) : Type 0 where
+  pub bounds : Bounds text (v .at) (v .to) 0 left old out p
+  pub deep : left ≤ v .levels → left < p .levels
+  pub puts : (x : Node) (xs : Nodes) (rest : Row) (base : Bytes) → length old ≡ length base → PutNode text (rowAt text (v .at)) x left to base old v → InsideRow (t .kind) (tightOf (t .kind)) (rowAt text (t .end)) rest xs → PutNode text rest (node (continuedTag (t .kind)) (x then xs)) left to base out p

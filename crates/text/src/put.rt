@@ -51,13 +51,14 @@ pub fn put_eight(output: &mut [u8], to: usize, value: u64) -> usize
     ensures behind { λ r. ⌜ r ≡ to + 8 ⌝ }
     ensures puts { λ r. ⌜ now (output .exit) ≡ sets (now (output .entry)) to (eight value) ⌝ }
 {
-    let mut rest = value;
-    let mut k = to + 8;
-    while to < k {
-        k -= 1;
-        put(output, k, (rest % 256) as u8);
-        rest = rest / 256;
-    }
+    put(output, to, (value / 72057594037927936 % 256) as u8);
+    put(output, to + 1, (value / 281474976710656 % 256) as u8);
+    put(output, to + 2, (value / 1099511627776 % 256) as u8);
+    put(output, to + 3, (value / 4294967296 % 256) as u8);
+    put(output, to + 4, (value / 16777216 % 256) as u8);
+    put(output, to + 5, (value / 65536 % 256) as u8);
+    put(output, to + 6, (value / 256 % 256) as u8);
+    put(output, to + 7, (value % 256) as u8);
     to + 8
 }
 

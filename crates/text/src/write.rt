@@ -30,12 +30,24 @@ use crate::shape::operator_of;
 use crate::shape::statement_tag;
 use crate::shape::tightness;
 use definition::tag;
+ghost use mathlib.Core.Path.{_≡_};
+ghost use Prim.Native.Nat.{_+_, _-_, _≤_, _<_};
+ghost use lib.Dec.{eqb};
+ghost use mathlib.Core.Bool.{false};
+ghost use Rattle.text.specs.Shape.{endsAt, ending as endingOf};
+ghost use Rattle.text.specs.Parse.{ExpressionRow, OperandRow, InsideRow, ListRow, IfRow, ElseRow, FunctionRow, BlockRow, StatementsRow, StatementRow, ClauseRow, LetRow};
+ghost use Rattle.text.specs.Parts.{endOf, Sees, Ready, Writes, WritesNode, Spares, Continues};
 
 // The level of a prefix operator: only calls and indices are tighter.
 const PREFIX_LEVEL: usize = 5;
 
 // An expression with the operators tighter than `least`; between its leading parentheses, with all.
-fn write_expression(text: &[u8], output: &mut [u8], at: usize, to: usize, least: usize, left: usize) -> Part {
+fn write_expression(text: &[u8], output: &mut [u8], at: usize, to: usize, least: usize, left: usize) -> Part
+    requires { ⌜ Ready 140003 (now text) at to left ⌝ }
+    requires { ⌜ least ≤ 6 ⌝ }
+    ensures writes { λ r. ⌜ WritesNode (ExpressionRow least 0) (now (text .entry)) at to 0 left (now (output .entry)) (now (output .exit)) r ⌝ }
+    ensures spares { λ r. ⌜ Spares (now (text .entry)) at to r ⌝ }
+{
     if left == 0 {
         return deep(text, to, 0);
     }
@@ -57,7 +69,11 @@ fn write_expression(text: &[u8], output: &mut [u8], at: usize, to: usize, least:
 }
 
 // A call, an index or an infix operator behind its left operand, which moves to make room for a head.
-fn write_continued(text: &[u8], output: &mut [u8], token: Token, to: usize, before: Part, left: usize) -> Part {
+fn write_continued(text: &[u8], output: &mut [u8], token: Token, to: usize, before: Part, left: usize) -> Part
+    requires { ⌜ Ready 140003 (now text) (before .at) (before .to) left × (before .at < token .end) × (token .end ≤ endOf (now text)) × (to ≤ before .to) ⌝ }
+    requires { ⌜ before .levels ≤ left + 1 ⌝ }
+    ensures { λ r. ⌜ Continues (now (text .entry)) token to before left (now (output .entry)) (now (output .exit)) r ⌝ }
+{
     if left <= before.levels {
         return deep(text, before.to, left);
     }
@@ -67,7 +83,11 @@ fn write_continued(text: &[u8], output: &mut [u8], token: Token, to: usize, befo
 }
 
 // A primary or a prefix operator with its operand; a level is left.
-fn write_operand(text: &[u8], output: &mut [u8], at: usize, to: usize, left: usize) -> Part {
+fn write_operand(text: &[u8], output: &mut [u8], at: usize, to: usize, left: usize) -> Part
+    requires { ⌜ Ready 140003 (now text) at to left × (0 < left) ⌝ }
+    ensures writes { λ r. ⌜ WritesNode OperandRow (now (text .entry)) at to 0 left (now (output .entry)) (now (output .exit)) r ⌝ }
+    ensures spares { λ r. ⌜ Spares (now (text .entry)) at to r ⌝ }
+{
     let token = token_at(text, at);
     if token.kind == kind::ENDED {
         return start(token.end, to);
@@ -80,7 +100,11 @@ fn write_operand(text: &[u8], output: &mut [u8], at: usize, to: usize, left: usi
 }
 
 // What an operator, a bracket, `if` or `fn` has inside its field, behind the left operand if there is one.
-fn write_inside(text: &[u8], output: &mut [u8], token: Token, to: usize, least: usize, left: usize) -> Part {
+fn write_inside(text: &[u8], output: &mut [u8], token: Token, to: usize, least: usize, left: usize) -> Part
+    requires { ⌜ Ready 139990 (now text) (token .end) to left ⌝ }
+    requires { ⌜ least ≤ 6 ⌝ }
+    ensures { λ r. ⌜ Writes (InsideRow (token .kind) least) (now (text .entry)) (token .end) to 9 left (now (output .entry)) (now (output .exit)) r ⌝ }
+{
     if token.kind == kind::IF {
         return write_if(text, output, token.end, to, left);
     }
@@ -96,7 +120,10 @@ fn write_inside(text: &[u8], output: &mut [u8], token: Token, to: usize, least: 
 }
 
 // Items, keys and values up to the token that closes them, and that token.
-fn write_list(text: &[u8], output: &mut [u8], at: usize, to: usize, left: usize) -> Part {
+fn write_list(text: &[u8], output: &mut [u8], at: usize, to: usize, left: usize) -> Part
+    requires { ⌜ Ready 139990 (now text) at to left ⌝ }
+    ensures { λ r. ⌜ Writes ListRow (now (text .entry)) at to 0 left (now (output .entry)) (now (output .exit)) r ⌝ }
+{
     let mut so_far = start(at, to);
     loop {
         let token = token_at(text, so_far.at);
@@ -109,7 +136,10 @@ fn write_list(text: &[u8], output: &mut [u8], at: usize, to: usize, left: usize)
 }
 
 // The condition and the blocks behind `if`.
-fn write_if(text: &[u8], output: &mut [u8], at: usize, to: usize, left: usize) -> Part {
+fn write_if(text: &[u8], output: &mut [u8], at: usize, to: usize, left: usize) -> Part
+    requires { ⌜ Ready 139990 (now text) at to left ⌝ }
+    ensures { λ r. ⌜ Writes IfRow (now (text .entry)) at to 6 left (now (output .entry)) (now (output .exit)) r ⌝ }
+{
     let token = token_at(text, at);
     let condition = write_expression(text, output, token.end, to, 0, left);
     let token2 = token_at(text, condition.at);
@@ -119,7 +149,10 @@ fn write_if(text: &[u8], output: &mut [u8], at: usize, to: usize, left: usize) -
 }
 
 // The other block, if there is one.
-fn write_else(text: &[u8], output: &mut [u8], at: usize, to: usize, left: usize) -> Part {
+fn write_else(text: &[u8], output: &mut [u8], at: usize, to: usize, left: usize) -> Part
+    requires { ⌜ Ready 139996 (now text) at to left ⌝ }
+    ensures { λ r. ⌜ Writes ElseRow (now (text .entry)) at to 3 left (now (output .entry)) (now (output .exit)) r ⌝ }
+{
     let token = token_at(text, at);
     if token.kind != kind::ELSE {
         return start(at, to);
@@ -128,7 +161,10 @@ fn write_else(text: &[u8], output: &mut [u8], at: usize, to: usize, left: usize)
 }
 
 // The empty name, the parameters and the block behind `fn`.
-fn write_function(text: &[u8], output: &mut [u8], at: usize, to: usize, left: usize) -> Part {
+fn write_function(text: &[u8], output: &mut [u8], at: usize, to: usize, left: usize) -> Part
+    requires { ⌜ Ready 139990 (now text) at to left ⌝ }
+    ensures { λ r. ⌜ Writes FunctionRow (now (text .entry)) at to 9 left (now (output .entry)) (now (output .exit)) r ⌝ }
+{
     let name = put_empty_name(output, at, to);
     let names = put_parameters(text, output, name.at, name.to);
     let block = write_block(text, output, names.at, names.to, left);
@@ -136,7 +172,10 @@ fn write_function(text: &[u8], output: &mut [u8], at: usize, to: usize, left: us
 }
 
 // A block in its braces.
-fn write_block(text: &[u8], output: &mut [u8], at: usize, to: usize, left: usize) -> Part {
+fn write_block(text: &[u8], output: &mut [u8], at: usize, to: usize, left: usize) -> Part
+    requires { ⌜ Ready 139996 (now text) at to left ⌝ }
+    ensures { λ r. ⌜ WritesNode BlockRow (now (text .entry)) at to 3 left (now (output .entry)) (now (output .exit)) r ⌝ }
+{
     if left == 0 {
         return deep(text, to, 0);
     }
@@ -147,7 +186,10 @@ fn write_block(text: &[u8], output: &mut [u8], at: usize, to: usize, left: usize
 }
 
 // Statements up to `}` or the text's end.
-fn write_statements(text: &[u8], output: &mut [u8], at: usize, to: usize, left: usize) -> Part {
+fn write_statements(text: &[u8], output: &mut [u8], at: usize, to: usize, left: usize) -> Part
+    requires { ⌜ Ready 140000 (now text) at to left ⌝ }
+    ensures { λ r. ⌜ Writes StatementsRow (now (text .entry)) at to 0 left (now (output .entry)) (now (output .exit)) r ⌝ }
+{
     let mut so_far = start(at, to);
     loop {
         let token = token_at(text, so_far.at);
@@ -160,7 +202,10 @@ fn write_statements(text: &[u8], output: &mut [u8], at: usize, to: usize, left: 
 }
 
 // A statement with its first token, and a `;` behind it.
-fn write_one(text: &[u8], output: &mut [u8], token: Token, at: usize, to: usize, left: usize) -> Part {
+fn write_one(text: &[u8], output: &mut [u8], token: Token, at: usize, to: usize, left: usize) -> Part
+    requires { ⌜ Ready 140000 (now text) at to left × Sees (now text) at token × (at < endOf (now text)) ⌝ }
+    ensures { λ r. ⌜ WritesNode StatementRow (now (text .entry)) at to 0 left (now (output .entry)) (now (output .exit)) r ⌝ }
+{
     if left == 0 {
         return deep(text, to, 0);
     }
@@ -170,7 +215,11 @@ fn write_one(text: &[u8], output: &mut [u8], token: Token, at: usize, to: usize,
 }
 
 // What a statement has inside.
-fn write_clause(text: &[u8], output: &mut [u8], token: Token, at: usize, to: usize, left: usize) -> Part {
+fn write_clause(text: &[u8], output: &mut [u8], token: Token, at: usize, to: usize, left: usize) -> Part
+    requires { ⌜ Ready 140003 (now text) at to left × Sees (now text) at token × (at < endOf (now text)) ⌝ }
+    ensures writes { λ r. ⌜ Writes ClauseRow (now (text .entry)) at to 0 left (now (output .entry)) (now (output .exit)) r ⌝ }
+    ensures spares { λ r. ⌜ Spares (now (text .entry)) at to r ⌝ }
+{
     if token.kind == kind::LET {
         return write_let(text, output, token.end, to, left);
     }
@@ -181,7 +230,10 @@ fn write_clause(text: &[u8], output: &mut [u8], token: Token, at: usize, to: usi
 }
 
 // The name and the value behind `let`; a function takes the name.
-fn write_let(text: &[u8], output: &mut [u8], at: usize, to: usize, left: usize) -> Part {
+fn write_let(text: &[u8], output: &mut [u8], at: usize, to: usize, left: usize) -> Part
+    requires { ⌜ Ready 139990 (now text) at to left ⌝ }
+    ensures { λ r. ⌜ Writes LetRow (now (text .entry)) at to 11 left (now (output .entry)) (now (output .exit)) r ⌝ }
+{
     let name = token_at(text, at);
     let first = put_name(text, output, name, to);
     let token = token_at(text, name.end);
