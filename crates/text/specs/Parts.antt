@@ -120,7 +120,7 @@ pub record Bounds (text : Bytes) (at to slack left : ℕ) (old out : Bytes) (p :
   pub within : p .at ≤ endOf text
   pub room : p .to + 16 * at ≤ to + slack + 16 * p .at
   pub behind : to ≤ p .to
-  pub depth : p .levels ≤ left + 1
+  pub depth : p .levels ≤ left + 2
 
 -- three bytes less where there is text
 abbrev pub Spares : Bytes → ℕ → ℕ → Part → Type 0

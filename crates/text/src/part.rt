@@ -267,7 +267,8 @@ pub fn put_operator(output: &mut [u8], at: usize, to: usize, b: u8) -> Part
 // Names, and the token behind them.
 fn put_names(text: &[u8], output: &mut [u8], at: usize, to: usize) -> Part
     requires { ⌜ Ready 139996 (now text) at to 64 ⌝ }
-    ensures { λ r. ⌜ ((left : ℕ) → Writes NamesRow (now (text .entry)) at to 0 left (now (output .entry)) (now (output .exit)) r) ⌝ }
+    ensures writes { λ r. ⌜ ((left : ℕ) → Writes NamesRow (now (text .entry)) at to 0 left (now (output .entry)) (now (output .exit)) r) ⌝ }
+    ensures flat { λ r. ⌜ r .levels ≤ 1 ⌝ }
 {
     let mut so_far = start(at, to);
     loop {

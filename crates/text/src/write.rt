@@ -71,7 +71,7 @@ fn write_expression(text: &[u8], output: &mut [u8], at: usize, to: usize, least:
 // A call, an index or an infix operator behind its left operand, which moves to make room for a head.
 fn write_continued(text: &[u8], output: &mut [u8], token: Token, to: usize, before: Part, left: usize) -> Part
     requires { ⌜ Ready 140003 (now text) (before .at) (before .to) left × (before .at < token .end) × (token .end ≤ endOf (now text)) × (to ≤ before .to) ⌝ }
-    requires { ⌜ before .levels ≤ left + 1 ⌝ }
+    requires { ⌜ before .levels ≤ left + 2 ⌝ }
     ensures { λ r. ⌜ Continues (now (text .entry)) token to before left (now (output .entry)) (now (output .exit)) r ⌝ }
 {
     if left <= before.levels {
