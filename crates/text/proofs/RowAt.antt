@@ -244,3 +244,7 @@ sees-more {text} {at} {t} s h f = go (ltb at (endOf text)) refl
     go false e =
         let i : at ≡ endOf text = omega (arith, ltb-false at (endOf text) e) in
         absurd (f (s .kind ∙ ap (λ j. kindOf (rowAt text j)) i ∙ ap kindOf (row-end text)))
+
+-- so it ends behind where it was looked for
+pub sees-ahead : {text : Bytes} {at : ℕ} {t : piece.Token} → Sees text at t → at ≤ endOf text → (t .kind ≡ ended → ⊥) → at < t .end
+sees-ahead s h f = s .onward (sees-more s h f)

@@ -74,7 +74,7 @@ fn larger(m: usize, n: usize) -> usize
 }
 
 // Nothing was put.
-pub fn start(at: usize, to: usize) -> Part
+pub fn empty_part(at: usize, to: usize) -> Part
     ensures { λ r. ⌜ r ≡ record { at = at; to = to; levels = 0; tag = 0 } ⌝ }
 {
     Part {
@@ -270,7 +270,7 @@ fn put_names(text: &[u8], output: &mut [u8], at: usize, to: usize) -> Part
     ensures writes { λ r. ⌜ ((left : ℕ) → Writes NamesRow (now (text .entry)) at to 0 left (now (output .entry)) (now (output .exit)) r) ⌝ }
     ensures flat { λ r. ⌜ r .levels ≤ 1 ⌝ }
 {
-    let mut so_far = start(at, to);
+    let mut so_far = empty_part(at, to);
     loop {
         let token = token_at(text, so_far.at);
         if token.kind == kind::NAME {

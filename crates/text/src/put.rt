@@ -64,7 +64,7 @@ pub fn put_eight(output: &mut [u8], to: usize, value: u64) -> usize
 
 // Moves the bytes from an offset up to another further back.
 pub fn make_room(output: &mut [u8], from: usize, end: usize, by: usize)
-    requires { ⌜ (from ≤ end) × (end < 1048576) × (by < 64) ⌝ }
+    requires { ⌜ (from ≤ end) × (end < 1048576) × (by < 10000) ⌝ }
     ensures { λ r. ⌜ now (output .exit) ≡ movedBy (now (output .entry)) from end by ⌝ }
 {
     if output.len() < end + by {

@@ -14,7 +14,7 @@ use crate::part::put_name;
 use crate::part::put_operator;
 use crate::part::put_parameters;
 use crate::part::skip_groups;
-use crate::part::start;
+use crate::part::empty_part;
 use crate::part::token_at;
 use crate::put::make_room;
 use crate::scan::Token;
@@ -90,7 +90,7 @@ fn write_operand(text: &[u8], output: &mut [u8], at: usize, to: usize, left: usi
 {
     let token = token_at(text, at);
     if token.kind == kind::ENDED {
-        return start(token.end, to);
+        return empty_part(token.end, to);
     }
     if is_leaf(token.kind) {
         return put_leaf(text, output, token, to);
@@ -124,7 +124,7 @@ fn write_list(text: &[u8], output: &mut [u8], at: usize, to: usize, left: usize)
     requires { ⌜ Ready 139990 (now text) at to left ⌝ }
     ensures { λ r. ⌜ Writes ListRow (now (text .entry)) at to 0 left (now (output .entry)) (now (output .exit)) r ⌝ }
 {
-    let mut so_far = start(at, to);
+    let mut so_far = empty_part(at, to);
     loop {
         let token = token_at(text, so_far.at);
         if closing(token.kind) {
@@ -155,7 +155,7 @@ fn write_else(text: &[u8], output: &mut [u8], at: usize, to: usize, left: usize)
 {
     let token = token_at(text, at);
     if token.kind != kind::ELSE {
-        return start(at, to);
+        return empty_part(at, to);
     }
     write_block(text, output, token.end, to, left)
 }
@@ -190,7 +190,7 @@ fn write_statements(text: &[u8], output: &mut [u8], at: usize, to: usize, left: 
     requires { ⌜ Ready 140000 (now text) at to left ⌝ }
     ensures { λ r. ⌜ Writes StatementsRow (now (text .entry)) at to 0 left (now (output .entry)) (now (output .exit)) r ⌝ }
 {
-    let mut so_far = start(at, to);
+    let mut so_far = empty_part(at, to);
     loop {
         let token = token_at(text, so_far.at);
         if ending(token.kind) {
