@@ -7,6 +7,7 @@ use lib.Dec.{leb, ltb, eqb}
 use borrow.Author.Tests.{eq-eqb, ne-eqb, lt-ltb, le-ltb, le-leb, lt-leb, eqb-true, eqb-false, leb-true}
 use Rattle.definition.specs.Basic.{pick, both}
 use Rattle.definition.specs.Tag.{tagInfix, tagExprStmt}
+use Rattle.definition.proofs.Basic.{chosen}
 use Rattle.text.specs.Kind.{letWord, returnWord, aName, openParen, minus, plus, elseWord, closeParen, semicolon, closeBrace, comma, colon, ended, ifWord, fnWord}
 use Rattle.text.specs.Grammar.{Infix}
 use Rattle.text.specs.Scan.{either}
@@ -124,3 +125,11 @@ tight-equality k a b = rw (le-ltb k openParen (omega arith), le-ltb k minus (ome
 pub late-loose : (k : ℕ) → elseWord ≤ k → tightOf k ≡ 0
 unfolding tightOf
 late-loose k a = rw (le-ltb k openParen (omega arith), le-ltb k minus (omega arith), le-ltb k 15 (omega arith), le-ltb k 17 (omega arith), le-ltb k 19 (omega arith), le-ltb k elseWord a) refl
+
+-- none is tighter than a call
+pub tight-most : (k : ℕ) → tightOf k ≤ 6
+unfolding tightOf
+tight-most k = chosen P (ltb k openParen) (λ _. omega arith) (λ _. chosen P (ltb k minus) (λ _. omega arith) (λ _. chosen P (ltb k 15) (λ _. omega arith) (λ _. chosen P (ltb k 17) (λ _. omega arith) (λ _. chosen P (ltb k 19) (λ _. omega arith) (λ _. chosen P (ltb k elseWord) (λ _. omega arith) (λ _. omega arith))))))
+  where
+    P : ℕ → Type 0
+    P m = m ≤ 6

@@ -176,6 +176,7 @@ unfolding levels levelsAll
 continued-deep {text} {t} {to} {left} {o} {v} {p} h k e =
     record {
       bounds = bounds-deep (v .at) (v .to) left h e;
+      ahead = λ g. omega (arith, ap (λ p. p .at) e);
       deep = λ _. omega (arith, ap (λ p. p .levels) e);
       puts = λ x xs rest base l f i. go x xs rest base (f .put);
     }
@@ -220,6 +221,7 @@ continued-writes {text} {t} {to} {l} {left} {o} {o₁} {o₂} {o₃} {v} {q} {u}
             behind = omega (arith, w .bounds .behind);
             depth = omega (arith, y .least (left + 1) (omega arith) (omega (arith, w .bounds .depth)));
           };
+      ahead = λ _. w .bounds .onward;
       deep = λ g. absurd (omega arith);
       puts = λ x xs rest base len f d. go n′ x xs rest base len (f .put) (w .puts xs rest d);
     })

@@ -174,5 +174,6 @@ pub record Named (text : Bytes) (name : piece.Token) (to : ℕ) (v : Part) (old 
 -- a call, an index or an infix operator behind what was put
 pub record Continues (text : Bytes) (t : piece.Token) (to : ℕ) (v : Part) (left : ℕ) (old out : Bytes) (p : Part) : Type 0 where
   pub bounds : Bounds text (v .at) (v .to) 0 left old out p
+  pub ahead : t .end ≤ endOf text → t .end ≤ p .at
   pub deep : left ≤ v .levels → left < p .levels
   pub puts : (x : Node) (xs : Nodes) (rest : Row) (base : Bytes) → length old ≡ length base → PutNode text (rowAt text (v .at)) x left to base old v → InsideRow (t .kind) (tightOf (t .kind)) (rowAt text (t .end)) rest xs → PutNode text rest (node (continuedTag (t .kind)) (x then xs)) left to base out p

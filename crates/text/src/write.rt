@@ -204,7 +204,8 @@ fn write_statements(text: &[u8], output: &mut [u8], at: usize, to: usize, left: 
 // A statement with its first token, and a `;` behind it.
 fn write_one(text: &[u8], output: &mut [u8], token: Token, at: usize, to: usize, left: usize) -> Part
     requires { ⌜ Ready 140000 (now text) at to left × Sees (now text) at token × (at < endOf (now text)) ⌝ }
-    ensures { λ r. ⌜ WritesNode StatementRow (now (text .entry)) at to 0 left (now (output .entry)) (now (output .exit)) r ⌝ }
+    ensures writes { λ r. ⌜ WritesNode StatementRow (now (text .entry)) at to 0 left (now (output .entry)) (now (output .exit)) r ⌝ }
+    ensures onward { λ r. ⌜ at < r .at ⌝ }
 {
     if left == 0 {
         return deep(text, to, 0);
