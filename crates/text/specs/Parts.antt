@@ -10,11 +10,11 @@ use Rattle.definition.specs.Basic.{Bytes, byteAt, pick}
 use Rattle.definition.specs.Field.{bytes, field}
 use Rattle.text.specs.Kind.{aName, aString, anInteger, trueWord, falseWord, openParen, ended}
 use Rattle.text.specs.Token.{Row, kindOf, bytesOf, behind}
-use Rattle.definition.specs.Tag.{tagFunction, tagName}
+use Rattle.definition.specs.Tag.{tagProgram, tagFunction, tagName}
 use Rattle.text.specs.Node
 use Rattle.text.specs.Node.{Node, leaf, node, Nodes, _then_, named, written, writtenAll, levels, levelsAll, larger}
 use Rattle.text.specs.Shape.{tightOf, continuedTag}
-use Rattle.text.specs.Parse.{pastSemicolon, ExpressionRow, InsideRow}
+use Rattle.text.specs.Parse.{pastSemicolon, ExpressionRow, InsideRow, StatementsRow}
 use Rattle.text.specs.Scan.{Next, found, large, broken, finished, nextAt, textLimit, smaller, value, eight}
 use Rattle.text.specs.declared.part.Part.{Part}
 use Rattle.text.specs.declared.part.Groups.{Groups}
@@ -177,3 +177,8 @@ pub record Continues (text : Bytes) (t : piece.Token) (to : ℕ) (v : Part) (lef
   pub ahead : t .end ≤ endOf text → t .end ≤ p .at
   pub deep : left ≤ v .levels → left < p .levels
   pub puts : (x : Node) (xs : Nodes) (rest : Row) (base : Bytes) → length old ≡ length base → PutNode text (rowAt text (v .at)) x left to base old v → InsideRow (t .kind) (tightOf (t .kind)) (rowAt text (t .end)) rest xs → PutNode text rest (node (continuedTag (t .kind)) (x then xs)) left to base out p
+
+-- a whole tree put at the start of an output
+pub record PutsTree (text old out : Bytes) (p : Part) : Type 0 where
+  pub lengths : length out ≡ length old
+  pub puts : (xs : Nodes) → StatementsRow (rowAt text 0) [] xs → Put text [] (written (node tagProgram xs)) (levels (node tagProgram xs)) 64 0 old out p

@@ -36,7 +36,7 @@ ghost use lib.Dec.{eqb};
 ghost use mathlib.Core.Bool.{false};
 ghost use Rattle.text.specs.Shape.{endsAt, ending as endingOf};
 ghost use Rattle.text.specs.Parse.{ExpressionRow, OperandRow, InsideRow, ListRow, IfRow, ElseRow, FunctionRow, BlockRow, StatementsRow, StatementRow, ClauseRow, LetRow};
-ghost use Rattle.text.specs.Parts.{endOf, Sees, Ready, Writes, WritesNode, Spares, Continues};
+ghost use Rattle.text.specs.Parts.{endOf, Sees, Ready, Writes, WritesNode, Spares, Continues, PutsTree};
 
 // The level of a prefix operator: only calls and indices are tighter.
 const PREFIX_LEVEL: usize = 5;
@@ -243,7 +243,9 @@ fn write_let(text: &[u8], output: &mut [u8], at: usize, to: usize, left: usize) 
 }
 
 // The whole tree.
-pub fn write_script(text: &[u8], output: &mut [u8]) -> Part {
+pub fn write_script(text: &[u8], output: &mut [u8]) -> Part
+    ensures { λ r. ⌜ PutsTree (now (text .entry)) (now (output .entry)) (now (output .exit)) r ⌝ }
+{
     let inside = write_statements(text, output, 0, 3, 63);
     close(output, 0, tag::PROGRAM as u8, inside)
 }
