@@ -132,7 +132,6 @@ climb-goes {least} {text} {at} {to} {left} {opened} {old} {mid} {out} {p} {s} {t
     by y rest (Climbs.lost b c) = Climbs.lost b (w .deep (omega arith))
     by y rest (Climbs.going x row c n h v) = step y rest row x c h v
 
-
 -- the parentheses that an expression begins with
 pub record Skipping (text : Bytes) (from at opened : ℕ) : Type 0 where
   pub onward : from ≤ at

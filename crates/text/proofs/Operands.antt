@@ -71,11 +71,13 @@ no-both-ways e f = let z : _≡_ {A = Bool} true false = sym e ∙ f in let y : 
 pub operand-ended : {text : Bytes} {at to left : ℕ} {o : Bytes} {t : piece.Token} {p : Part} → Sees text at t → t .kind ≡ ended → p ≡ record { at = t .end; to = to; levels = 0; tag = 0 } → WritesNode OperandRow text at to 0 left o o p × Spares text at to p
 operand-ended {text} {at} {to} {left} {o} {t} {p} a k e =
     let i = ap (λ p. p .at) e in
-    let j = ap (λ p. p .to) e in
-    (record {
-      bounds = record { lengths = refl; onward = omega (arith, a .from, a .order); within = omega (arith, a .within); room = omega (arith, a .from, a .order); behind = omega arith; depth = omega (arith, ap (λ p. p .levels) e) };
-      puts = λ x rest f. go x rest f;
-    }, λ h. omega (arith, a .onward h))
+    let j = ap (λ p. p .to) e in (
+      record {
+        bounds = record { lengths = refl; onward = omega (arith, a .from, a .order); within = omega (arith, a .within); room = omega (arith, a .from, a .order); behind = omega arith; depth = omega (arith, ap (λ p. p .levels) e) };
+        puts = λ x rest f. go x rest f;
+      },
+      λ h. omega (arith, a .onward h),
+    )
   where
     go : (x : Node) (rest : Row) → OperandRow (rowAt text at) rest x → PutNode text rest x left to o o p
     go _ _ (OperandRow.aLeaf h) = absurd (end-no-leaf (kindOf (rowAt text at)) (sym (a .kind) ∙ k) h)
@@ -101,11 +103,13 @@ pub operand-deeper : {text : Bytes} {at to l left : ℕ} {o o₁ o₂ : Bytes} {
 unfolding written levels
 operand-deeper {text} {at} {to} {l} {left} {o} {o₁} {o₂} {t} {p} {s} z a h k w j m =
     let f = bounds-field (operandTag (t .kind)) (w .bounds) m in
-    subst (λ left. WritesNode OperandRow text at to 0 left o o₂ s × Spares text at to s) (sym z) (subst (λ s. WritesNode OperandRow text at to 0 (suc l) o o₂ s × Spares text at to s) (sym j)
-    (record {
-      bounds = record { lengths = f .lengths; onward = omega (arith, f .onward); within = f .within; room = omega (arith, f .room, f .onward); behind = f .behind; depth = f .depth };
-      puts = λ x rest f. go x rest f;
-    }, λ _. omega (arith, w .bounds .room)))
+    subst (λ left. WritesNode OperandRow text at to 0 left o o₂ s × Spares text at to s) (sym z) (subst (λ s. WritesNode OperandRow text at to 0 (suc l) o o₂ s × Spares text at to s) (sym j) (
+      record {
+        bounds = record { lengths = f .lengths; onward = omega (arith, f .onward); within = f .within; room = omega (arith, f .room, f .onward); behind = f .behind; depth = f .depth };
+        puts = λ x rest f. go x rest f;
+      },
+      λ _. omega (arith, w .bounds .room),
+    ))
   where
     go : (x : Node) (rest : Row) → OperandRow (rowAt text at) rest x → PutNode text rest x (suc l) to o o₂ (closedOf (operandTag (t .kind)) p)
     go _ _ (OperandRow.aLeaf h) = absurd (no-both-ways h (ap isLeaf (sym (a .kind)) ∙ k))
@@ -150,14 +154,14 @@ pub inside-operator : {text : Bytes} {k least at to left : ℕ} {o o₁ o₂ : B
 unfolding written writtenAll levels levelsAll
 inside-operator {text} {k} {least} {at} {to} {left} {o} {o₁} {o₂} {p} {q} {s} a b e h n m w j =
     let v : Bounds text at to 4 left o o₁ p =
-            record {
-              lengths = ap length m ∙ length-sets o to (field tagOperator (operatorOf k ∷ []));
-              onward = omega (arith, ap (λ p. p .at) n);
-              within = omega (arith, ap (λ p. p .at) n);
-              room = omega (arith, ap (λ p. p .at) n, ap (λ p. p .to) n);
-              behind = omega (arith, ap (λ p. p .to) n);
-              depth = omega (arith, ap (λ p. p .levels) n);
-            } in
+    record {
+      lengths = ap length m ∙ length-sets o to (field tagOperator (operatorOf k ∷ []));
+      onward = omega (arith, ap (λ p. p .at) n);
+      within = omega (arith, ap (λ p. p .at) n);
+      room = omega (arith, ap (λ p. p .at) n, ap (λ p. p .to) n);
+      behind = omega (arith, ap (λ p. p .to) n);
+      depth = omega (arith, ap (λ p. p .levels) n);
+    } in
     subst (λ s. Writes (InsideRow k least) text at to 9 left o o₂ s) (sym j)
     (record { bounds = bounds-from (bounds-behind v (omega arith) (w .bounds)) (omega arith) (omega arith); puts = λ xs rest f. go v xs rest f })
   where

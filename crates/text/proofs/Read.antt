@@ -142,3 +142,11 @@ module _ (text old : Bytes) (a : Accepted text) where
           let i : outcome ≡ tree (written x) = a .read (length old) ∙ rw (le-ltb levelLimit (levels x) d, le-ltb (smaller (length old) treeLimit) (length (written x)) (omega arith)) refl in
           let n : q .to ≡ length (written x) = omega arith in
           (ap Length n ∙ ap answerOf (sym i), e′ (omega arith) ∙ sets-over old (written x) (omega arith) ∙ ap (λ o. outputOf o old) (sym i))
+
+-- a refusal is answered, and the output stays
+pub answers-refusal : {o : Outcome} {r : Refusal} {given : Answer} {old : Bytes} → o ≡ refused r → given ≡ AnswerRefused r → (given ≡ answerOf o) × (old ≡ outputOf o old)
+answers-refusal {old = old} e f = (f ∙ ap answerOf (sym e), ap (λ o. outputOf o old) (sym e))
+
+-- 20 and 21
+pub answers-refused : (lent : ℕ) (text : Bytes) {r : Refusal} → recognizeText text ≡ Refused r → readText lent text ≡ refused r
+answers-refused lent text h = settles lent text ∙ ap (λ r. settled r (judgedRow lent (readRow (scanText text .tokens)))) h

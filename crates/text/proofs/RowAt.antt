@@ -229,6 +229,7 @@ sees-ended text at h {y} {z} e f g {t} w = go (piece-next text at (omega (arith,
           string = λ k. absurd (omega arith);
           integer = λ k. absurd (omega arith);
         })
+
     go : {x : Next} → Piece text at x → nextAt (byteAt text) (length text) at ≡ x → isFound (ahead x) ≡ false → Sees text at t
     go (Piece.found l o w d s v n) i j = let z : _≡_ {A = ℕ} 0 1 = cc in absurd (omega arith)
     go Piece.large i j = none (row-next text at (omega (arith, end-within text)) i)

@@ -177,23 +177,23 @@ let-writes {text} {at} {to} {left} {o} {o₁} {o₂} {o₃} {t} {t′} {p} {v} {
     let i = ap (λ p. p .at) (w .part) in
     let i′ = ap (λ p. p .to) (w .part) in
     let l : Bounds text at to (11 + (t .end - t .start)) left o o₁ p =
-            record {
-              lengths = ap length (w .stored) ∙ length-sets o to (field tagName (contentOf text t));
-              onward = omega arith;
-              within = omega (arith, a .within);
-              room = omega (arith, w .most);
-              behind = omega arith;
-              depth = omega (arith, ap (λ p. p .levels) (w .part));
-            } in
+    record {
+      lengths = ap length (w .stored) ∙ length-sets o to (field tagName (contentOf text t));
+      onward = omega arith;
+      within = omega (arith, a .within);
+      room = omega (arith, w .most);
+      behind = omega arith;
+      depth = omega (arith, ap (λ p. p .levels) (w .part));
+    } in
     let f : Bounds text (t′ .end) (p .to) (t .end - t .start) left o₁ o₃ u =
-            record {
-              lengths = m .lengths ∙ e .bounds .lengths;
-              onward = omega (arith, m .at, e .bounds .onward);
-              within = omega (arith, m .at, e .bounds .within);
-              room = omega (arith, m .at, m .most, e .bounds .room);
-              behind = omega (arith, m .behind, e .bounds .behind);
-              depth = omega (arith, m .levels, e .bounds .depth);
-            } in
+    record {
+      lengths = m .lengths ∙ e .bounds .lengths;
+      onward = omega (arith, m .at, e .bounds .onward);
+      within = omega (arith, m .at, e .bounds .within);
+      room = omega (arith, m .at, m .most, e .bounds .room);
+      behind = omega (arith, m .behind, e .bounds .behind);
+      depth = omega (arith, m .levels, e .bounds .depth);
+    } in
     let r = bounds-behind l (omega arith) f in
     subst (λ s. Writes LetRow text at to 11 left o o₃ s) (sym j)
     (record {
@@ -213,11 +213,13 @@ let-writes {text} {at} {to} {left} {o} {o₁} {o₂} {o₃} {t} {t′} {p} {v} {
 -- what a statement has inside, by its first token
 module _ {text : Bytes} {at to left : ℕ} {o o₁ : Bytes} {t : piece.Token} {p : Part} where
   pub clause-let : Sees text at t → at < t .end → t .kind ≡ letWord → Writes LetRow text (t .end) to 11 left o o₁ p → Writes ClauseRow text at to 0 left o o₁ p × Spares text at to p
-  clause-let a h k w =
-      (record {
-        bounds = record { lengths = w .bounds .lengths; onward = omega (arith, w .bounds .onward); within = w .bounds .within; room = omega (arith, w .bounds .room); behind = w .bounds .behind; depth = w .bounds .depth };
-        puts = λ xs rest f. go xs rest f;
-      }, λ _. omega (arith, w .bounds .room))
+  clause-let a h k w = (
+    record {
+      bounds = record { lengths = w .bounds .lengths; onward = omega (arith, w .bounds .onward); within = w .bounds .within; room = omega (arith, w .bounds .room); behind = w .bounds .behind; depth = w .bounds .depth };
+      puts = λ xs rest f. go xs rest f;
+    },
+    λ _. omega (arith, w .bounds .room),
+  )
     where
       go : (xs : Nodes) (rest : Row) → ClauseRow (rowAt text at) rest xs → Put text rest (writtenAll xs) (levelsAll xs) left to o o₁ p
       go xs rest (ClauseRow.aLet _ d) = w .puts xs rest (rw (a .rest) d)
@@ -225,11 +227,13 @@ module _ {text : Bytes} {at to left : ℕ} {o o₁ : Bytes} {t : piece.Token} {p
       go _ rest (ClauseRow.anExpression n _ _) = absurd (eqb-false (kindOf (rowAt text at)) letWord n (sym (a .kind) ∙ k))
 
   pub clause-return : Sees text at t → at < t .end → t .kind ≡ returnWord → WritesNode (ExpressionRow 0 0) text (t .end) to 0 left o o₁ p → Writes ClauseRow text at to 0 left o o₁ p × Spares text at to p
-  clause-return a h k w =
-      (record {
-        bounds = record { lengths = w .bounds .lengths; onward = omega (arith, w .bounds .onward); within = w .bounds .within; room = omega (arith, w .bounds .room); behind = w .bounds .behind; depth = w .bounds .depth };
-        puts = λ xs rest f. go xs rest f;
-      }, λ _. omega (arith, w .bounds .room))
+  clause-return a h k w = (
+    record {
+      bounds = record { lengths = w .bounds .lengths; onward = omega (arith, w .bounds .onward); within = w .bounds .within; room = omega (arith, w .bounds .room); behind = w .bounds .behind; depth = w .bounds .depth };
+      puts = λ xs rest f. go xs rest f;
+    },
+    λ _. omega (arith, w .bounds .room),
+  )
     where
       go : (xs : Nodes) (rest : Row) → ClauseRow (rowAt text at) rest xs → Put text rest (writtenAll xs) (levelsAll xs) left to o o₁ p
       go xs rest (ClauseRow.aLet n _) = let z = eqb-true (kindOf (rowAt text at)) letWord n in let y = a .kind in absurd (omega arith)

@@ -76,14 +76,14 @@ pub function-writes : {text : Bytes} {at to left : ℕ} {o o₁ o₂ o₃ : Byte
 unfolding written writtenAll levels levelsAll
 function-writes {text} {at} {to} {left} {o} {o₁} {o₂} {o₃} {p} {q} {r} {u} {s} h n m ps w i j =
     let b : Bounds text at to 3 left o o₁ p =
-            record {
-              lengths = ap length m ∙ length-sets o to (field tagName []);
-              onward = omega (arith, ap (λ p. p .at) n);
-              within = omega (arith, ap (λ p. p .at) n);
-              room = omega (arith, ap (λ p. p .at) n, ap (λ p. p .to) n);
-              behind = omega (arith, ap (λ p. p .to) n);
-              depth = omega (arith, ap (λ p. p .levels) n);
-            } in
+    record {
+      lengths = ap length m ∙ length-sets o to (field tagName []);
+      onward = omega (arith, ap (λ p. p .at) n);
+      within = omega (arith, ap (λ p. p .at) n);
+      room = omega (arith, ap (λ p. p .at) n, ap (λ p. p .to) n);
+      behind = omega (arith, ap (λ p. p .to) n);
+      depth = omega (arith, ap (λ p. p .levels) n);
+    } in
     subst (λ s. Writes FunctionRow text at to 9 left o o₃ s) (sym (j ∙ ap (joinedOf p) i))
     (record {
       bounds = bounds-behind b (omega arith) (bounds-behind (ps left .bounds) (omega arith) (w .bounds));

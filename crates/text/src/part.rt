@@ -161,7 +161,11 @@ pub fn skip_groups(text: &[u8], from: usize) -> Groups
 pub fn item_start(token: Token, at: usize) -> usize
     ensures { λ r. ⌜ r ≡ pick (separatingOf (token .kind)) (token .end) at ⌝ }
 {
-    if separating(token.kind) { token.end } else { at }
+    if separating(token.kind) {
+        token.end
+    } else {
+        at
+    }
 }
 
 // The same behind a `;`, if one stands there.

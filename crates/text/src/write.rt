@@ -3,6 +3,7 @@ use crate::kind;
 use crate::part::Part;
 use crate::part::close;
 use crate::part::deep;
+use crate::part::empty_part;
 use crate::part::item_start;
 use crate::part::joined;
 use crate::part::moved_on;
@@ -14,7 +15,6 @@ use crate::part::put_name;
 use crate::part::put_operator;
 use crate::part::put_parameters;
 use crate::part::skip_groups;
-use crate::part::empty_part;
 use crate::part::token_at;
 use crate::put::make_room;
 use crate::scan::Token;
@@ -42,7 +42,14 @@ ghost use Rattle.text.specs.Parts.{endOf, Sees, Ready, Writes, WritesNod
 const PREFIX_LEVEL: usize = 5;
 
 // An expression with the operators tighter than `least`; between its leading parentheses, with all.
-fn write_expression(text: &[u8], output: &mut [u8], at: usize, to: usize, least: usize, left: usize) -> Part
+fn write_expression(
+    text: &[u8],
+    output: &mut [u8],
+    at: usize,
+    to: usize,
+    least: usize,
+    left: usize,
+) -> Part
     requires { ⌜ Ready 140003 (now text) at to left ⌝ }
     requires { ⌜ least ≤ 6 ⌝ }
     ensures writes { λ r. ⌜ WritesNode (ExpressionRow least 0) (now (text .entry)) at to 0 left (now (output .entry)) (now (output .exit)) r ⌝ }
@@ -69,7 +76,14 @@ fn write_expression(text: &[u8], output: &mut [u8], at: usize, to: usize, least:
 }
 
 // A call, an index or an infix operator behind its left operand, which moves to make room for a head.
-fn write_continued(text: &[u8], output: &mut [u8], token: Token, to: usize, before: Part, left: usize) -> Part
+fn write_continued(
+    text: &[u8],
+    output: &mut [u8],
+    token: Token,
+    to: usize,
+    before: Part,
+    left: usize,
+) -> Part
     requires { ⌜ Ready 140003 (now text) (before .at) (before .to) left × (before .at < token .end) × (token .end ≤ endOf (now text)) × (to ≤ before .to) ⌝ }
     requires { ⌜ before .levels ≤ left + 2 ⌝ }
     ensures { λ r. ⌜ Continues (now (text .entry)) token to before left (now (output .entry)) (now (output .exit)) r ⌝ }
@@ -78,7 +92,14 @@ fn write_continued(text: &[u8], output: &mut [u8], token: Token, to: usize, befo
         return deep(text, before.to, left);
     }
     make_room(output, to, before.to, 3);
-    let rest = write_inside(text, output, token, before.to + 3, tightness(token.kind), left - 1);
+    let rest = write_inside(
+        text,
+        output,
+        token,
+        before.to + 3,
+        tightness(token.kind),
+        left - 1,
+    );
     close(output, to, continued_tag(token.kind), joined(before, rest))
 }
 
@@ -100,7 +121,14 @@ fn write_operand(text: &[u8], output: &mut [u8], at: usize, to: usize, left: usi
 }
 
 // What an operator, a bracket, `if` or `fn` has inside its field, behind the left operand if there is one.
-fn write_inside(text: &[u8], output: &mut [u8], token: Token, to: usize, least: usize, left: usize) -> Part
+fn write_inside(
+    text: &[u8],
+    output: &mut [u8],
+    token: Token,
+    to: usize,
+    least: usize,
+    left: usize,
+) -> Part
     requires { ⌜ Ready 139990 (now text) (token .end) to left ⌝ }
     requires { ⌜ least ≤ 6 ⌝ }
     ensures { λ r. ⌜ Writes (InsideRow (token .kind) least) (now (text .entry)) (token .end) to 9 left (now (output .entry)) (now (output .exit)) r ⌝ }
@@ -130,7 +158,14 @@ fn write_list(text: &[u8], output: &mut [u8], at: usize, to: usize, left: usize)
         if closing(token.kind) {
             return moved_on(so_far, token.end);
         }
-        let item = write_expression(text, output, item_start(token, so_far.at), so_far.to, 0, left);
+        let item = write_expression(
+            text,
+            output,
+            item_start(token, so_far.at),
+            so_far.to,
+            0,
+            left,
+        );
         so_far = joined(so_far, item);
     }
 }
@@ -202,7 +237,14 @@ fn write_statements(text: &[u8], output: &mut [u8], at: usize, to: usize, left: 
 }
 
 // A statement with its first token, and a `;` behind it.
-fn write_one(text: &[u8], output: &mut [u8], token: Token, at: usize, to: usize, left: usize) -> Part
+fn write_one(
+    text: &[u8],
+    output: &mut [u8],
+    token: Token,
+    at: usize,
+    to: usize,
+    left: usize,
+) -> Part
     requires { ⌜ Ready 140000 (now text) at to left × Sees (now text) at token × (at < endOf (now text)) ⌝ }
     ensures writes { λ r. ⌜ WritesNode StatementRow (now (text .entry)) at to 0 left (now (output .entry)) (now (output .exit)) r ⌝ }
     ensures onward { λ r. ⌜ at < r .at ⌝ }
@@ -216,7 +258,14 @@ fn write_one(text: &[u8], output: &mut [u8], token: Token, at: usize, to: usize,
 }
 
 // What a statement has inside.
-fn write_clause(text: &[u8], output: &mut [u8], token: Token, at: usize, to: usize, left: usize) -> Part
+fn write_clause(
+    text: &[u8],
+    output: &mut [u8],
+    token: Token,
+    at: usize,
+    to: usize,
+    left: usize,
+) -> Part
     requires { ⌜ Ready 140003 (now text) at to left × Sees (now text) at token × (at < endOf (now text)) ⌝ }
     ensures writes { λ r. ⌜ Writes ClauseRow (now (text .entry)) at to 0 left (now (output .entry)) (now (output .exit)) r ⌝ }
     ensures spares { λ r. ⌜ Spares (now (text .entry)) at to r ⌝ }
