@@ -12,7 +12,7 @@
  *
  * Answers
  *   Each function answers one 64-bit number. Where the high half is 0, the low half is a length, of what was written, in elements. Otherwise the
- *   call was refused: the high half is the number of the refusal, 1 to 17, 19 or 22 to 29, the low half its place, an offset or a chunk.
+ *   call was refused: the high half is the number of the refusal, 1 to 17, 19 to 29, the low half its place, an offset or a chunk.
  *   monkey_number and monkey_value take the halves. Every call ends with an answer, whatever bytes the buffers hold.
  */
 #ifndef MONKEY_H
@@ -61,6 +61,8 @@ enum monkey_refusal {
     MONKEY_BAD_INSTRUCTION = 16, /* an unknown byte or missing operands; none of these functions answers it */
     MONKEY_BAD_IMAGE = 17,       /* place: the offset in the image of its first wrong field or instruction */
     MONKEY_BAD_WORDS = 19,       /* words that are no list of name fields, have a name of a wrong length, a repeated one or a 25th */
+    MONKEY_BAD_SCRIPT = 20,      /* the text is no script; place: the first token that cannot stand there, or where it ends too early */
+    MONKEY_LARGE_INTEGER = 21,   /* an integer above 9,223,372,036,854,775,807; place: its offset in the text */
     MONKEY_NO_VALUE = 22,        /* a branch that yields no value: it is empty or ends in a let; place: the If */
     MONKEY_FRAME_SIZE = 23,      /* a frame's size is below 16 or above 1,024 */
     MONKEY_NO_FRAME = 24,        /* the image has no frame of this number */
@@ -212,6 +214,14 @@ uint64_t monkey_run(const uint8_t *image, size_t image_length, const uint32_t *h
 /* The globals that a trial run wrote, and the instructions that it executed. */
 static inline uint32_t monkey_run_globals(uint64_t answer) { return (uint32_t)answer >> 16; }
 static inline uint32_t monkey_run_steps(uint64_t answer) { return (uint32_t)answer & 65535; }
+
+/*
+ * Reads a script in text form, by the grammar of docs/GRAMMAR.md: the answer is the length of its tree, at most 32,768, and the tree stands at the front of the
+ * output, whose other bytes stay as they were. The tree passes the tree check. Tokens end at or before offset 8,192. Text and output do not overlap.
+ *   Refused, and the output is as it was: 20 or 21 and the place in the text, the earlier of the two; then 4 at 0, where the tree has a field at level 65; then
+ *   15 at 0, where it is longer than the output or than 32,768.
+ */
+uint64_t monkey_read_text(const uint8_t *text, size_t text_length, uint8_t *output, size_t output_length);
 
 #ifdef __cplusplus
 }

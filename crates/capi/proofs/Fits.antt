@@ -22,6 +22,8 @@ use Rattle.definition.proofs.Basic.{pick-false}
 use Rattle.definition.proofs.Numbers.{each, of-each, below}
 use Rattle.definition.proofs.Places.{Within, made-within, made-words-within, call-within-limit}
 use Rattle.definition.proofs.ListingLength.{list-within}
+use Rattle.text.specs.Script.{readText, answerOf as readAnswer}
+use Rattle.text.proofs.Small.{ReadWithin, read-within}
 use Rattle.load.specs.Load.{treeOf}
 use Rattle.load.proofs.Theorems.{tree-short}
 use Rattle.bytecode.specs.declared.Form.{Form}
@@ -113,3 +115,11 @@ call-told tree l a = within-told callNumbers tt (call-within-limit tree l a)
 -- the answer from its number
 pub packs-back : {a : Answer} {r : ℕ} → Told a → Packs a r → unpacked r ≡ a
 packs-back t p = (λ i. ofHalves (p .number i) (p .value i)) ∙ t .back
+
+-- the answer to a text
+pub read-fits : (lent : ℕ) (text : Bytes) → Fits (readAnswer (readText lent text))
+read-fits lent text = go (read-within lent text)
+  where
+    go : {a : Answer} → ReadWithin a → Fits a
+    go (ReadWithin.wrote h) = record { number = omega arith; value = omega arith }
+    go (ReadWithin.refused h k) = record { number = omega arith; value = omega arith }

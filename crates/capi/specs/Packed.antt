@@ -16,6 +16,7 @@ use Rattle.definition.specs.Listing.{listAnswer, listInto}
 use Rattle.definition.specs.Output.{outputAnswer, outputAfter}
 use Rattle.definition.specs.declared.Answer.{Answer}
 use Rattle.definition.specs.declared.Answer.the-variants.{Length, Refused}
+use Rattle.text.specs.Script.{readText, answerOf as readAnswer, outputOf as readOutput}
 use Rattle.load.specs.Load.{treeOf}
 
 -- what the numbers of a half are below: 2 to the 32nd
@@ -101,3 +102,8 @@ pub record ListsPacked (image o : Bytes) (r : ℕ) (o′ : Bytes) : Type 0 where
 pub record LoadsPacked (seed : ℕ) (o : Bytes) (r : ℕ) (o′ : Bytes) : Type 0 where
   pub answer : Packs (outputAnswer (treeOf seed) (length o)) r
   pub output : o′ ≡ outputAfter (treeOf seed) o
+
+-- a script in text form: answer and output are the definition's
+pub record ReadsPacked (text o : Bytes) (r : ℕ) (o′ : Bytes) : Type 0 where
+  pub answer : Packs (readAnswer (readText (length o) text)) r
+  pub output : o′ ≡ readOutput (readText (length o) text) o

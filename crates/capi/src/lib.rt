@@ -6,7 +6,7 @@ use trial::RunAnswer;
 ghost use mathlib.Core.Path.{_≡_};
 ghost use Prim.Native.Nat.{_<_};
 ghost use Rattle.compiler.specs.Stage.{lentOf};
-ghost use Rattle.capi.specs.Packed.{Fits, Packs, MakesPacked, WordsPacked, CompilesPacked, ListsPacked, LoadsPacked, halfBound};
+ghost use Rattle.capi.specs.Packed.{Fits, Packs, MakesPacked, WordsPacked, CompilesPacked, ListsPacked, LoadsPacked, ReadsPacked, halfBound};
 ghost use Rattle.chin.specs.Chin.{toChin, fromChin};
 ghost use Rattle.capi.specs.Turned.{TurnsPacked};
 ghost use Rattle.capi.specs.Heights.{ChecksPacked, ProposesPacked};
@@ -201,5 +201,14 @@ pub extern "C" fn monkey_run(
     ensures { λ r. ⌜ RunsPacked (now (image .entry)) (now (heights .entry)) (now (work .entry)) (now (output .entry)) r (now (work .exit)) (now (output .exit)) ⌝ }
 {
     let answer = run_answer(trial::run(image, heights, work, output));
+    pack(answer)
+}
+
+// Reads a script in text form and writes its tree to the output: its length; or 20 or 21 and the place in the text, 4 or 15, and the output stays.
+#[no_mangle]
+pub extern "C" fn monkey_read_text(text: &[u8], output: &mut [u8]) -> u64
+    ensures { λ r. ⌜ ReadsPacked (now (text .entry)) (now (output .entry)) r (now (output .exit)) ⌝ }
+{
+    let answer = text::read_text(text, output);
     pack(answer)
 }

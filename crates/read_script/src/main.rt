@@ -1,0 +1,81 @@
+// Reads a script in text form from standard input and writes its tree to standard output. A refusal is a sentence on standard error, with line
+// and column, and standard output stays empty.
+use definition::Answer;
+use definition::limit::TREE_LIMIT;
+use libc::STDERR_FILENO;
+use libc::STDIN_FILENO;
+use libc::STDOUT_FILENO;
+
+// A text longer than this is refused as its first bytes are: no token ends behind 8,192.
+const TEXT_MOST: usize = 8193;
+
+// A line and a column, both from 1.
+struct Position {
+    line: usize,
+    column: usize,
+}
+
+// Where an offset of a text stands.
+fn position(text: &[u8], place: usize) -> Position {
+    let mut line = 1;
+    let mut column = 1;
+    let mut i = 0;
+    while i < text.len() {
+        if i == place {
+            return Position { line, column };
+        }
+        if text[i] == b'\n' {
+            line += 1;
+            column = 1;
+        } else {
+            column += 1;
+        }
+        i += 1;
+    }
+    Position { line, column }
+}
+
+// Writes what a number stands for; whether it could.
+fn print_word(number: usize) -> bool {
+    match number {
+        20 => io::write_all(STDERR_FILENO, b"no script"),
+        21 => io::write_all(STDERR_FILENO, b"integer too large"),
+        4 => io::write_all(STDERR_FILENO, b"tree too deep"),
+        _ => io::write_all(STDERR_FILENO, b"tree too long"),
+    }
+}
+
+// Writes a refusal as a sentence.
+fn print_refusal(number: usize, at: Position) {
+    io::write_all(STDERR_FILENO, b"read_script: refused with number ");
+    io::print_decimal(STDERR_FILENO, number as u64);
+    io::write_all(STDERR_FILENO, b", ");
+    print_word(number);
+    io::write_all(STDERR_FILENO, b", at line ");
+    io::print_decimal(STDERR_FILENO, at.line as u64);
+    io::write_all(STDERR_FILENO, b", column ");
+    io::print_decimal(STDERR_FILENO, at.column as u64);
+    io::write_all(STDERR_FILENO, b".\n");
+}
+
+// Writes the first bytes of the output.
+fn write_tree(output: &[u8], length: usize) {
+    if length <= output.len() {
+        io::write_all(STDOUT_FILENO, &output[..length]);
+    }
+}
+
+// Reads a text.
+fn run(text: &[u8]) {
+    let mut output = [0u8; TREE_LIMIT];
+    match text::read_text(text, &mut output) {
+        Answer::Length(n) => write_tree(&output, n),
+        Answer::Refused(r) => print_refusal(r.number, position(text, r.place)),
+    }
+}
+
+fn main() {
+    let mut text = [0u8; TEXT_MOST];
+    let length = io::read_full(STDIN_FILENO, &mut text);
+    run(&text[..length]);
+}
