@@ -5,6 +5,8 @@ use definition::limit::TREE_LIMIT;
 use libc::STDERR_FILENO;
 use libc::STDIN_FILENO;
 use libc::STDOUT_FILENO;
+ghost use Prim.Native.Nat.{_+_, _≤_};
+ghost use lib.ListN.{length};
 
 // A text longer than this is refused as its first bytes are: no token ends behind 8,192.
 const TEXT_MOST: usize = 8193;
@@ -15,24 +17,38 @@ struct Position {
     column: usize,
 }
 
+// The position behind a byte.
+fn passed(at: Position, b: u8) -> Position
+    requires { ⌜ (at .line ≤ 8193) × (at .column ≤ 8193) ⌝ }
+    ensures line { λ r. ⌜ r .line ≤ at .line + 1 ⌝ }
+    ensures column { λ r. ⌜ r .column ≤ at .column + 1 ⌝ }
+{
+    if b == b'\n' {
+        return Position {
+            line: at.line + 1,
+            column: 1,
+        };
+    }
+    Position {
+        line: at.line,
+        column: at.column + 1,
+    }
+}
+
 // Where an offset of a text stands.
-fn position(text: &[u8], place: usize) -> Position {
-    let mut line = 1;
-    let mut column = 1;
+fn position_of(text: &[u8], place: usize) -> Position
+    requires { ⌜ length (now text) ≤ 8193 ⌝ }
+{
+    let mut at = Position { line: 1, column: 1 };
     let mut i = 0;
     while i < text.len() {
         if i == place {
-            return Position { line, column };
+            return at;
         }
-        if text[i] == b'\n' {
-            line += 1;
-            column = 1;
-        } else {
-            column += 1;
-        }
+        at = passed(at, text[i]);
         i += 1;
     }
-    Position { line, column }
+    at
 }
 
 // Writes what a number stands for; whether it could.
@@ -66,11 +82,13 @@ fn write_tree(output: &[u8], length: usize) {
 }
 
 // Reads a text.
-fn run(text: &[u8]) {
+fn run(text: &[u8])
+    requires { ⌜ length (now text) ≤ 8193 ⌝ }
+{
     let mut output = [0u8; TREE_LIMIT];
     match text::read_text(text, &mut output) {
         Answer::Length(n) => write_tree(&output, n),
-        Answer::Refused(r) => print_refusal(r.number, position(text, r.place)),
+        Answer::Refused(r) => print_refusal(r.number, position_of(text, r.place)),
     }
 }
 
