@@ -4,14 +4,17 @@ use native.Mathlib.Omega.{arith}
 use mathlib.Core.List.{List, [], _∷_, _++_, append-assoc, append-nil}
 use mathlib.Core.Path.{_≡_, refl, sym, ap, _∙_}
 use lib.ListN.{length, take, drop, replicate, length-append, length-replicate, take-append-drop}
-use lib.Seq.{sets, take-at, drop-at, length-sets}
+use lib.Seq.{sets, take-at, take-take, drop-at, length-sets}
 use Rattle.definition.specs.Basic.{Bytes}
 use Rattle.definition.specs.Limit.{sessionSize}
-use Rattle.definition.specs.Tag.{tagNames, tagPool}
+use Rattle.definition.specs.Tag.{tagPool}
 use Rattle.definition.specs.Field.{field}
 use Rattle.definition.specs.Bytecode.{Const, poolBytes, poolSize}
-use Rattle.definition.specs.Session.{Session, nameBytes, namesBytes, sessionFields, sessionBytes}
+use Rattle.definition.specs.Session.{Session, wordList, nameBytes, namesBytes, frontFields, sessionFields, sessionBytes}
+use Rattle.definition.specs.Decode.{wordsIn}
+use Rattle.definition.specs.Valid.{ValidSession}
 use Rattle.definition.proofs.Pools.{pool-length}
+use Rattle.definition.proofs.Sessions.{words-alone}
 use Rattle.refinement.specs.Relation.{namesEnd, poolEnd, Marks, Appended, Pooled, Extends}
 use Rattle.refinement.proofs.Stores.{sets-over, sets-behind}
 
@@ -62,10 +65,21 @@ module _ (z : Session) (e : Bytes) (held : take sessionSize e ≡ sessionBytes z
     pub fields-stand : take (poolEnd z) b ≡ sessionFields z
     fields-stand = ap (take (poolEnd z)) new-stands ∙ take-at (sessionFields z) (a .new ++ drop (length (a .new)) (behind z e)) (poolEnd z) refl
 
+    -- so are those before the pool
+    pub front-stands : take (namesEnd z) b ≡ frontFields (z .words) (z .globals)
+    front-stands =
+        let front = frontFields (z .words) (z .globals) in
+        let pool = field tagPool (poolBytes (z .pool)) in
+        sym (take-take (namesEnd z) (poolEnd z) b (omega (arith, length-append front pool))) ∙ ap (take (namesEnd z)) fields-stand ∙ take-at front pool (namesEnd z) refl
+
+    -- and the words in front of them
+    pub words-stand : ValidSession z → wordsIn (take (m .namesEnd) b) ≡ wordList (z .words)
+    words-stand valid = (λ i. wordsIn (take (a .names i) b)) ∙ ap wordsIn front-stands ∙ words-alone (z .words) (z .globals) (valid .words)
+
   -- the pool's content stands in the buffer, behind the pool's head
   pub pool-stands : {b : Bytes} {m : Marks} {cs : List Const} → Pooled z e cs b m → take (poolSize cs) (drop (namesEnd z + 3) b) ≡ poolBytes cs
   pool-stands {b} {cs = cs} r =
-      let names = field tagNames (namesBytes (z .globals)) in
+      let names = frontFields (z .words) (z .globals) in
       let old = poolBytes (z .pool) in
       let head = tagPool ∷ length old / 256 % 256 ∷ length old % 256 ∷ [] in
       let new = r .appended .new in

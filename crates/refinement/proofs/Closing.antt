@@ -33,7 +33,7 @@ use Rattle.refinement.proofs.Loads.{withLoads, loads-fit, loads-refused
 
 -- the state outside again: the outer chunk, and what was added inside
 abbrev closedState : State → State → List Table → State
-closedState s s₁ ts = record { code = s .code; around = s .around; tables = ts; globals = s₁ .globals; pool = s₁ .pool }
+closedState s s₁ ts = record { code = s .code; around = s .around; tables = ts; words = s₁ .words; globals = s₁ .globals; pool = s₁ .pool }
 
 -- and the view
 abbrev closedView : View → View → List Table → View
@@ -59,6 +59,7 @@ module _ {z : Session} {e : Bytes} {n : ℕ} {w : Context} {s : State} {v : View
       record {
         code = outside-coded (r .code) (r₁ .code);
         pool = h;
+        words = r₁ .words;
         symbols = λ i. record { globals = r₁ .symbols i .globals; tables = ts };
         globals = r₁ .globals;
         level = r .level;

@@ -10,12 +10,12 @@ use Rattle.definition.specs.Limit.{constantsLimit, poolLimit}
 use Rattle.definition.specs.Tag.{tagNames, tagPool}
 use Rattle.definition.specs.Field.{field}
 use Rattle.definition.specs.Bytecode.{Const, content, tagOf, constBytes, poolBytes, poolSize}
-use Rattle.definition.specs.Session.{Session, namesBytes}
+use Rattle.definition.specs.Session.{Session, namesBytes, wordsField, frontFields}
 use Rattle.definition.specs.Valid.{ValidSession}
 use Rattle.definition.specs.Compiler as Structured
 use Rattle.definition.specs.Compiler.{State, withPool}
 use Rattle.definition.proofs.Simulation.{Both}
-use Rattle.definition.proofs.Sessions.{names-length}
+use Rattle.definition.proofs.Sessions.{words-length, names-length}
 use Rattle.definition.proofs.Pools.{pool-length}
 use Rattle.scope.specs.View.{View, view}
 use Rattle.scope.specs.Machine.{addConstant, withConstant}
@@ -24,14 +24,14 @@ use Rattle.refinement.proofs.Tests.{compared, on-same}
 use Rattle.refinement.proofs.Stores.{sets-append}
 
 -- where a valid session's names end
-names-end : (z : Session) → ValidSession z → namesEnd z ≤ 35843
-names-end z v = omega (arith, names-length (v .names), v .count)
+names-end : (z : Session) → ValidSession z → namesEnd z ≤ 36686
+names-end z v = omega (arith, words-length (z .words) (v .words), names-length (v .names), v .count, length-append (wordsField (z .words)) (field tagNames (namesBytes (z .globals))))
 
 -- the pool in the buffer begins behind its head, which follows the names
 pub pool-end : {z : Session} {e : Bytes} {cs : List Const} {b : Bytes} {m : Marks} → Pooled z e cs b m → m .poolEnd ≡ namesEnd z + 3 + poolSize cs
 pool-end {z} {cs = cs} r =
     omega
-    (arith, r .appended .upto, pool-length cs, ap length (r .pool), length-append (poolBytes (z .pool)) (r .appended .new), length-append (field tagNames (namesBytes (z .globals))) (field tagPool (poolBytes (z .pool))))
+    (arith, r .appended .upto, pool-length cs, ap length (r .pool), length-append (poolBytes (z .pool)) (r .appended .new), length-append (frontFields (z .words) (z .globals)) (field tagPool (poolBytes (z .pool))))
 
 -- a constant's bytes behind the pool
 abbrev pub withField : Const → View → View

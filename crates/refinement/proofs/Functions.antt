@@ -43,6 +43,7 @@ module _ {z : Session} {e : Bytes} {n : ℕ} where
               record {
                 code = inside-coded (r .code);
                 pool = r .pool;
+                words = r .words;
                 symbols = λ i. record { globals = r .symbols i .globals; tables = withParams xs (named x) ∷ r .symbols i .tables };
                 globals = r .globals;
                 level = omega (arith, r .level);
@@ -65,6 +66,7 @@ module _ {z : Session} {e : Bytes} {n : ℕ} where
         (record {
           code = return-coded (r .code) t;
           pool = r .pool;
+          words = r .words;
           symbols = r .symbols;
           globals = r .globals;
           level = r .level;

@@ -2,6 +2,7 @@ pub mod Stores
 pub mod Tests
 pub mod Area
 pub mod Operands
+pub mod Buffer
 pub mod Constants
 pub mod Depth
 pub mod Steps
@@ -10,4 +11,3 @@ pub mod Functions
 pub mod Closing
 pub mod Walk
 pub mod Outcome
-pub mod Buffer

@@ -4,16 +4,16 @@ use native.Mathlib.Omega.{arith}
 use mathlib.Core.Bool.{Bool}
 use mathlib.Core.List.{List, _∷_}
 use mathlib.Core.Path.{_≡_, refl, sym, subst, subst₂, _∙_}
-use lib.ListN.{length}
+use lib.ListN.{length, take}
 use lib.Dec.{T}
 use Rattle.definition.specs.Basic.{Bytes, pick}
-use Rattle.definition.specs.Limit.{codeSize}
+use Rattle.definition.specs.Limit.{codeSize, sessionSize}
 use Rattle.definition.specs.Opcode.{Instr, instr, size, opConstant, opPop, opJumpNotTruthy, opJump, opReturnValue}
 use Rattle.definition.specs.Bytecode.{Code, Const, sizeOf, content, tagOf}
-use Rattle.definition.specs.Session.{Session}
+use Rattle.definition.specs.Session.{Session, sessionBytes}
 use Rattle.definition.specs.Valid.{All, ValidInstr, ValidSession}
 use Rattle.definition.specs.Walk.{Res}
-use Rattle.definition.specs.SymbolTable.{Resolved, Defined, builtins, resolve, place, loadOf}
+use Rattle.definition.specs.SymbolTable.{Resolved, Defined, resolve, place, loadOf}
 use Rattle.definition.specs.Compiler as Structured
 use Rattle.definition.specs.Compiler.{State, withCode, withTables, unpatched}
 use Rattle.definition.proofs.Simulation.{Both, both-bind, both-map}
@@ -27,6 +27,7 @@ use Rattle.refinement.specs.Relation.{Context, jumped, Refines, Droppabl
 use Rattle.refinement.proofs.Tests.{forked, compared, on-same}
 use Rattle.refinement.proofs.Area.{put-coded, last-is, drop-coded}
 use Rattle.refinement.proofs.Operands.{patch-fits, patch-coded, prev-changed}
+use Rattle.refinement.proofs.Buffer.{words-stand}
 use Rattle.refinement.proofs.Constants.{Added, added}
 use Rattle.refinement.proofs.Depth.{Looked, resolve-depth, Placed, place-depth, extends-more}
 
@@ -59,6 +60,7 @@ module _ {z : Session} {e : Bytes} {n : ℕ} where
               record {
                 code = put-coded (r .code) wide i h;
                 pool = r .pool;
+                words = r .words;
                 symbols = r .symbols;
                 globals = r .globals;
                 level = r .level;
@@ -83,7 +85,7 @@ module _ {z : Session} {e : Bytes} {n : ℕ} where
     -- a constant, then its instruction
     constant-refines : {w : Context} {c : Const} {s : State} {v : View} {k : ℕ} {s′ : State} {v′ : View} → Refines z e n w s v → Added z e c s v k s′ v′ → Refines z e n w s′ v′
     constant-refines {w} r h =
-        subst₂ (Refines z e n w) (sym (h .state)) (sym (h .memory)) (record { code = r .code; pool = h .pooled; symbols = r .symbols; globals = r .globals; level = r .level; depth = r .depth; pending = r .pending })
+        subst₂ (Refines z e n w) (sym (h .state)) (sym (h .memory)) (record { code = r .code; pool = h .pooled; words = r .words; symbols = r .symbols; globals = r .globals; level = r .level; depth = r .depth; pending = r .pending })
 
     -- a constant of its own for each literal
     pub constant : {w : Context} {s : State} {v : View} → ValidSession z → Refines z e n w s v → (p : ℕ) (c : Const) → Like z e n w (Structured.literal p c s) (Machine.literal p (tagOf c) (content c) v)
@@ -93,18 +95,19 @@ module _ {z : Session} {e : Bytes} {n : ℕ} where
     loaded-refines : {w : Context} {s : State} {v : View} → Refines z e n w s v → (p : ℕ) {f : Resolved} → Looked (length (s .tables)) f → Like z e n w (Structured.loaded p s f) (Machine.loaded p v f)
     loaded-refines {w} {s} {v} r p (Looked.found {y = y} {ts = ts} l) =
         let r₁ : Refines z e n w (withTables ts s) (Machine.withTables ts v) =
-        record { code = r .code; pool = r .pool; symbols = λ i. record { globals = r .symbols i .globals; tables = ts }; globals = r .globals; level = r .level; depth = l ∙ r .depth; pending = r .pending }
+        record { code = r .code; pool = r .pool; words = r .words; symbols = λ i. record { globals = r .symbols i .globals; tables = ts }; globals = r .globals; level = r .level; depth = l ∙ r .depth; pending = r .pending }
         in
         emitted r₁ p (loadOf y)
     loaded-refines r p Looked.undefined = Both.stop _ tt (halted r)
     loaded-refines r p Looked.full = Both.stop _ tt (halted r)
 
-    -- a name is looked up and loaded
-    pub load-refines : {w : Context} {s : State} {v : View} → Refines z e n w s v → (p : ℕ) (x : Bytes) → Like z e n w (Structured.load p x s) (Machine.load p x v)
+    -- a name is looked up, by the words that the session's buffer began with, and loaded
+    pub load-refines : take sessionSize e ≡ sessionBytes z → ValidSession z → {w : Context} {s : State} {v : View} → Refines z e n w s v → (p : ℕ) (x : Bytes) → Like z e n w (Structured.load p x s) (Machine.load p x v)
     unfolding Structured.load Machine.load
-    load-refines {w} {s} {v} r p x =
-        subst (λ f. Like z e n w (Structured.load p x s) (Machine.loaded p v f)) (λ i. resolve builtins (sym (r .symbols) i .globals) x (sym (r .symbols) i .tables))
-        (loaded-refines r p (resolve-depth builtins (s .globals) x (s .tables)))
+    load-refines held valid {w} {s} {v} r p x =
+        let words = r .words ∙ sym (words-stand z e held (r .pool .appended) valid) in
+        subst (λ f. Like z e n w (Structured.load p x s) (Machine.loaded p v f)) (λ i. resolve (words i) (sym (r .symbols) i .globals) x (sym (r .symbols) i .tables))
+        (loaded-refines r p (resolve-depth (s .words) (s .globals) x (s .tables)))
 
     -- a jump, not yet patched
     pub jump-refines : {w : Context} {s : State} {v : View} → Refines z e n w s v → (p : ℕ) (b : Bool)
@@ -116,13 +119,13 @@ module _ {z : Session} {e : Bytes} {n : ℕ} where
         let r₁ = d .refines in
         let there = subst (λ c. T (jumpAt (sizeOf (s .code)) c)) (sym (h .code)) (at-last b (s .code)) in
         on-same (r .code .len)
-        (record { refines = record { code = r₁ .code; pool = r₁ .pool; symbols = r₁ .symbols; globals = r₁ .globals; level = r₁ .level; depth = r₁ .depth; pending = All.more there (r₁ .pending) }; prev = d .prev }))
+        (record { refines = record { code = r₁ .code; pool = r₁ .pool; words = r₁ .words; symbols = r₁ .symbols; globals = r₁ .globals; level = r₁ .level; depth = r₁ .depth; pending = All.more there (r₁ .pending) }; prev = d .prev }))
 
   -- a definition
   placed-refines : {w : Context} {s : State} {v : View} → Refines z e n w s v → (p : ℕ) {d : Defined} → Placed (length (s .tables)) (s .globals) d → DefinedValid d
       → Both (λ _. Stopped z e n) (λ i s v. ValidInstr i × Refines z e n w s v) (Structured.placed p s d) (Machine.placed p v d)
   placed-refines r p (Placed.defined i g l) valid =
-      Both.on i (valid, record { code = r .code; pool = r .pool; symbols = refl; globals = extends-more (r .globals) g; level = r .level; depth = l ∙ r .depth; pending = r .pending })
+      Both.on i (valid, record { code = r .code; pool = r .pool; words = r .words; symbols = refl; globals = extends-more (r .globals) g; level = r .level; depth = l ∙ r .depth; pending = r .pending })
   placed-refines r p (Placed.noRoom k) valid = Both.stop _ valid (halted r)
 
   -- a name is placed
@@ -142,6 +145,7 @@ module _ {z : Session} {e : Bytes} {n : ℕ} where
       (record {
         code = patch-coded (r .code) j h;
         pool = r .pool;
+        words = r .words;
         symbols = r .symbols;
         globals = r .globals;
         level = r .level;
@@ -161,6 +165,6 @@ module _ {z : Session} {e : Bytes} {n : ℕ} where
   drop-refines {w} {s} {v} d p =
       let r = d .refines in
       forked (Both (λ _. Stopped z e n) (λ (_ : Unit {0}). Refines z e n w)) (Structured.lastIs opPop (s .code)) (lastIs opPop (v .code) (v .state .chunk)) (last-is (r .code) opPop)
-      (λ t. Both.on tt (record { code = drop-coded (r .code) (d .prev); pool = r .pool; symbols = r .symbols; globals = r .globals; level = r .level; depth = r .depth; pending = still (Jumps.less (s .code) t) (r .pending) }))
+      (λ t. Both.on tt (record { code = drop-coded (r .code) (d .prev); pool = r .pool; words = r .words; symbols = r .symbols; globals = r .globals; level = r .level; depth = r .depth; pending = still (Jumps.less (s .code) t) (r .pending) }))
       (λ _. forked (Both (λ _. Stopped z e n) (λ (_ : Unit {0}). Refines z e n w)) (Structured.lastIs opReturnValue (s .code)) (lastIs opReturnValue (v .code) (v .state .chunk)) (last-is (r .code) opReturnValue)
       (λ _. Both.on tt r) (λ _. Both.stop _ tt (halted r)))

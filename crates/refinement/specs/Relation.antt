@@ -9,10 +9,8 @@ use lib.Dec.{T}
 use Rattle.definition.specs.Basic.{Bytes}
 use Rattle.definition.specs.Limit.{codeSize, sessionSize, poolLimit}
 use Rattle.definition.specs.Number.{walkNumber}
-use Rattle.definition.specs.Tag.{tagNames}
-use Rattle.definition.specs.Field.{field}
 use Rattle.definition.specs.Bytecode.{Code, Const, encode, sizeOf, poolBytes, poolSize}
-use Rattle.definition.specs.Session.{Session, namesBytes, sessionFields}
+use Rattle.definition.specs.Session.{Session, wordList, frontFields, sessionFields}
 use Rattle.definition.specs.Walk.{Res, on, stop}
 use Rattle.definition.specs.declared.Refusal.{Refusal}
 use Rattle.definition.specs.Compiler.{State, withoutLast}
@@ -26,7 +24,7 @@ use Rattle.scope.specs.declared.State as Memory
 
 -- where the names end in a session's bytes
 abbrev pub namesEnd : Session → ℕ
-namesEnd z = length (field tagNames (namesBytes (z .globals)))
+namesEnd z = length (frontFields (z .words) (z .globals))
 
 -- and the pool
 abbrev pub poolEnd : Session → ℕ
@@ -99,6 +97,7 @@ inside w c = record { jumps = []; around = w .around ++ encode c; depth = suc (w
 pub record Refines (z : Session) (e : Bytes) (n : ℕ) (w : Context) (s : State) (v : View) : Type 0 where
   pub code : Coded n (w .around) (s .around) (s .code) (v .code) (v .state .chunk)
   pub pool : Pooled z e (s .pool) (v .session) (marks (v .state))
+  pub words : s .words ≡ wordList (z .words)
   pub symbols : v .symbols ≡ record { globals = s .globals; tables = s .tables }
   pub globals : Extends (z .globals) (s .globals)
   pub level : v .state .level ≡ w .depth
@@ -121,6 +120,7 @@ pub record Compiled (z : Session) (e : Bytes) (n : ℕ) (s : State) (v : View) :
   pub len : v .state .chunk .len ≡ sizeOf (s .code)
   pub code : take (sizeOf (s .code)) (v .code) ≡ encode (s .code)
   pub area : length (v .code) ≡ n
+  pub words : s .words ≡ wordList (z .words)
   pub symbols : v .symbols ≡ record { globals = s .globals; tables = s .tables }
   pub globals : Extends (z .globals) (s .globals)
   pub pool : Pooled z e (s .pool) (v .session) (marks (v .state))
