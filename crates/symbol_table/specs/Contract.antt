@@ -1,5 +1,5 @@
 -- What the functions promise: equations with the definition's tables, and what stays as it was.
-use Prim.Native.Nat.{ℕ, suc, _+_, _≤_, _<_}
+use Prim.Native.Nat.{ℕ, suc, _+_, _^_, _≤_, _<_}
 use mathlib.Core.Path.{_≡_}
 use mathlib.Core.List.{List, [], _∷_}
 use mathlib.Core.Option.{Option, none, some}
@@ -7,7 +7,7 @@ use lib.ListN.{length, take, drop}
 use Rattle.definition.specs.Basic.{Bytes, byteAt}
 use Rattle.definition.specs.Number
 use Rattle.definition.specs.Opcode.{instr, opSetGlobal, opSetLocal}
-use Rattle.definition.specs.SymbolTable.{Symbol, Table, findGlobal, findBuiltin, Resolved, cross, resolve, Defined, place, named, withParams}
+use Rattle.definition.specs.SymbolTable.{Symbol, Table, findGlobal, findBuiltin, Resolved, cross, resolve, crossed, Defined, place, named, withParams}
 use Rattle.definition.specs.Session.{Words}
 use Rattle.definition.specs.Decode.{decoded, readWords, readNames}
 use Rattle.field.specs.Layout.{after, content}
@@ -32,9 +32,29 @@ asSymbol f none = none
 
 -- a lookup's answer, with the tables after it
 abbrev pub resolvedOf : Lookup → List Table → Resolved
-resolvedOf (Found c) ts = Resolved.found (symbolOf c) ts
+resolvedOf (Found c k) ts = Resolved.found (symbolOf c) ts
 resolvedOf Undefined ts = Resolved.undefined
 resolvedOf Full ts = Resolved.full
+
+-- the functions crossed by a lookup that found its name
+abbrev pub Crossed : ℕ → Lookup → Type 0
+Crossed n (Found c k) = k ≡ n
+Crossed n Undefined = Unit {0}
+Crossed n Full = Unit {0}
+
+-- one more fits
+abbrev pub Few : Lookup → Type 0
+Few (Found c k) = k + 1 < 2 ^ 64
+Few Undefined = Unit {0}
+Few Full = Unit {0}
+
+-- one more is crossed
+abbrev pub Further : Lookup → Lookup → Type 0
+Further (Found c k) (Found d j) = j ≡ k + 1
+Further Undefined (Found d j) = ⊥
+Further Full (Found d j) = ⊥
+Further outer Undefined = Unit {0}
+Further outer Full = Unit {0}
 
 -- the first of two symbols that is there
 abbrev pub firstOf : Option Symbol → Option Symbol → Resolved
@@ -67,6 +87,7 @@ pub record Inside (P : List ℕ → List ℕ → Type 0) (l : ℕ) (a a′ : Lis
 -- a lookup comes back through a function's part
 pub record Crosses (name hash : ℕ) (outer answer : Lookup) (r r′ : List ℕ) : Type 0 where
   pub resolved : (tree : Bytes) (ts : List Table) → resolvedOf answer (tableOf tree r′ ∷ ts) ≡ cross (content tree name) (tableOf tree r) (resolvedOf outer ts)
+  pub further : Further outer answer
   pub good : (tree : Bytes) → IsName tree name hash → GoodTable tree r → GoodTable tree r′
 
 -- the bytes before a session's pool begin with words, or have document 01's
@@ -78,6 +99,7 @@ pub record HasWords (names : Bytes) : Type 0 where
 -- a lookup from inside so many open functions, with the builtins' names
 pub record Resolves (builtins : List Bytes) (tree names : Bytes) (level name : ℕ) (answer : Lookup) (a a′ : List ℕ) : Type 0 where
   pub resolved : resolvedOf answer (tablesOf tree level a′) ≡ resolve builtins (globalsIn tree names a) (content tree name) (tablesOf tree level a)
+  pub crossed : Crossed (crossed (content tree name) (tablesOf tree level a)) answer
   pub good : Good tree names level a′
   pub globals : take globalsSize a′ ≡ take globalsSize a
   pub above : drop (base level) a′ ≡ drop (base level) a

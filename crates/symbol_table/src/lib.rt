@@ -37,7 +37,7 @@ ghost use Rattle.definition.specs.Decode.{wordsIn};
 ghost use Rattle.field.specs.Layout.{after, content};
 ghost use Rattle.symbol_table.specs.Name.{Stands, Row, buckets};
 ghost use Rattle.symbol_table.specs.Layout.{globalsSize, partSize, originalsAt, base, part, symbolOf, tableOf, globalsIn, Sized, GoodTable, GoodGlobals, Good};
-ghost use Rattle.symbol_table.specs.Contract.{hitOf, resolvedOf, outermostOf, IsName, Inside, Crosses, Resolves, DefinesLocal, Defines, Enters, HasWords, HasNames, Starts};
+ghost use Rattle.symbol_table.specs.Contract.{hitOf, resolvedOf, outermostOf, IsName, Inside, Few, Crossed, Crosses, Resolves, DefinesLocal, Defines, Enters, HasWords, HasNames, Starts};
 
 // The code of a symbol that a table has for a name.
 pub enum Hit {
@@ -45,9 +45,9 @@ pub enum Hit {
     Nothing,
 }
 
-// What a lookup gives: the code of the symbol, an undefined name, or a table with no room for a free symbol.
+// What a lookup gives: the code of the symbol and the functions crossed, an undefined name, or a table with no room for a free symbol.
 pub enum Lookup {
-    Found(u32),
+    Found(u32, usize),
     Undefined,
     Full,
 }
@@ -84,6 +84,7 @@ fn cross_at(table: &mut [u32], level: usize, name: usize, hash: usize, outer: Lo
     requires { ⌜ base level + partSize ≤ length (now table) ⌝ }
     requires { ⌜ Sized (part level (now table)) ⌝ }
     requires { ⌜ name < treeLimit ⌝ }
+    requires { ⌜ Few outer ⌝ }
     ensures { λ r. ⌜ Inside (Crosses name hash outer r) level (now (table .entry)) (now (table .exit)) ⌝ }
 {
     let start = GLOBALS_SIZE + PART_SIZE * level;
@@ -99,13 +100,14 @@ fn find_outermost(tree: &[u8], names: &[u8], table: &[u32], name: usize, hash: u
     requires { ⌜ IsName (now tree) name hash ⌝ }
     requires { ⌜ hash < buckets ⌝ }
     ensures { λ r. ⌜ resolvedOf r [] ≡ outermostOf (wordsIn (now (names .entry))) (globalsIn (now (tree .entry)) (now (names .entry)) (now (table .entry))) (content (now (tree .entry)) name) ⌝ }
+    ensures { λ r. ⌜ Crossed 0 r ⌝ }
 {
     let it = name_at(tree, name);
     if let Hit::At(code) = find_global(tree, names, &table[..GLOBALS_SIZE], it, hash) {
-        return Lookup::Found(code);
+        return Lookup::Found(code, 0);
     }
     if let Hit::At(code) = find_builtin(names, it) {
-        return Lookup::Found(code);
+        return Lookup::Found(code, 0);
     }
     Lookup::Undefined
 }
@@ -132,7 +134,7 @@ fn resolve(
     }
     let l = level - 1;
     if let Hit::At(code) = find_at(tree, table, l, name, hash) {
-        return Lookup::Found(code);
+        return Lookup::Found(code, 0);
     }
     let outer = resolve(
         tree,
