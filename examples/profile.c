@@ -1,6 +1,6 @@
 /*
  * Compiles profiles in one session, checks and lists their images in one call, sends one in frames and in the chin form, and shows refusals: two profiles, damaged
- * ones and the tree of a seed of its own, or the trees in the files that it is given. examples/run compares what it prints.
+ * ones and the tree of a seed of its own, then a session with a chin unit's words; or the trees in the files that it is given. examples/run compares what it prints.
  */
 #include <stdio.h>
 #include <string.h>
@@ -55,6 +55,30 @@ static const uint8_t empty_branch[] = {
         0x23, 0, 7,          /*     If */
           0x27, 0, 1, 1,     /*       Boolean */
           0x12, 0, 0,        /*       Block */
+};
+
+/* the words of a chin unit, and one of them again */
+static const uint8_t words[] = {
+    0x30, 0, 3, 's', 'i', 'p',
+    0x30, 0, 4, 'p', 'u', 'f', 'f',
+    0x30, 0, 3, 's', 'i', 'p',
+};
+
+/* puff */
+static const uint8_t puff[] = {
+    0x10, 0, 10,                         /* Program */
+      0x11, 0, 7,                        /*   ExprStmt */
+        0x20, 0, 4, 'p', 'u', 'f', 'f',  /*     Identifier */
+};
+
+/* let puff = 1; puff; */
+static const uint8_t own_puff[] = {
+    0x10, 0, 31,                             /* Program */
+      0x13, 0, 18,                           /*   Let */
+        0x30, 0, 4, 'p', 'u', 'f', 'f',      /*     name */
+        0x26, 0, 8, 0, 0, 0, 0, 0, 0, 0, 1,  /*     Integer */
+      0x11, 0, 7,                            /*   ExprStmt */
+        0x20, 0, 4, 'p', 'u', 'f', 'f',      /*     Identifier */
 };
 
 static uint8_t session[MONKEY_SESSION_SIZE];
@@ -155,11 +179,22 @@ static void show_seed(uint32_t seed) {
     show("its image", tree, monkey_value(answer));
 }
 
+/* A session with words of its own: a word, the name that hides it, and what is refused. */
+static void show_words(void) {
+    print_answer("repeated word", monkey_make_session_words(session, sizeof session, words, sizeof words));
+    print_answer("session with words", monkey_make_session_words(session, sizeof session, words, sizeof words - 6));
+    show("puff", puff, sizeof puff);
+    show("unknown", unknown, sizeof unknown);
+    show("own puff", own_puff, sizeof own_puff);
+}
+
 /* The profiles of this file, and what is refused. */
 static void show_own(void) {
     static uint8_t before[MONKEY_SESSION_SIZE];
 
+    printf("session begins with %02x\n", session[0]);
     show("top", top, sizeof top);
+    printf("session begins with %02x\n", session[0]);
     show("limit", limit, sizeof limit);
     send(output, 68, 32); /* limit's image has 68 bytes */
     send(output, 68, 15);
@@ -180,6 +215,7 @@ static void show_own(void) {
     list(output, 68);
 
     show_seed(619);
+    show_words();
 }
 
 /* The tree in a file. One byte more than the longest tree is enough to have a longer one refused. */

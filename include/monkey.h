@@ -10,7 +10,7 @@
  *
  * Answers
  *   Each function answers one 64-bit number. Where the high half is 0, the low half is a length, of what was written. Otherwise the
- *   call was refused: the high half is the number of the refusal, 1 to 17 or 22 to 26, the low half its place, an offset.
+ *   call was refused: the high half is the number of the refusal, 1 to 17, 19 or 22 to 26, the low half its place, an offset.
  *   monkey_number and monkey_value take the halves. Every call ends with an answer, whatever bytes the buffers hold.
  */
 #ifndef MONKEY_H
@@ -31,7 +31,8 @@ enum {
     MONKEY_TREE_LIMIT = 32768,   /* bytes of the longest tree */
     MONKEY_IMAGE_LIMIT = 61446,  /* bytes of the longest image: 6, and 32,768 of main code, and 28,672 of pool */
     MONKEY_LISTING_LIMIT = 6144100, /* no listing has more bytes; most have far fewer */
-    MONKEY_LOAD_LIMIT = 2048     /* bytes of the longest tree of a seed */
+    MONKEY_LOAD_LIMIT = 2048,    /* bytes of the longest tree of a seed */
+    MONKEY_WORDS_LIMIT = 24      /* words of a session */
 };
 
 /* The numbers of refusals. The place is an offset in the tree, 0 where none is named here. */
@@ -53,6 +54,7 @@ enum monkey_refusal {
     MONKEY_OUTPUT_SHORT = 15,    /* the result is longer than the output */
     MONKEY_BAD_INSTRUCTION = 16, /* an unknown byte or missing operands; none of these functions answers it */
     MONKEY_BAD_IMAGE = 17,       /* place: the offset in the image of its first wrong field or instruction */
+    MONKEY_BAD_WORDS = 19,       /* words that are no list of name fields, have a name of a wrong length, a repeated one or a 25th */
     MONKEY_NO_VALUE = 22,        /* a branch that yields no value: it is empty or ends in a let; place: the If */
     MONKEY_FRAME_SIZE = 23,      /* a frame's size is below 16 or above 1,024 */
     MONKEY_NO_FRAME = 24,        /* the image has no frame of this number */
@@ -66,15 +68,26 @@ static inline uint32_t monkey_number(uint64_t answer) { return (uint32_t)(answer
 static inline uint32_t monkey_value(uint64_t answer) { return (uint32_t)answer; }
 
 /*
- * Makes a fresh session in the first 65,536 bytes and answers 65,536. Refused: 1, and nothing is written.
+ * Makes a fresh session of document 01's two fields in the first 65,536 bytes and answers 65,536. Its built-in words are len, puts, first, last, rest, push.
+ * Refused: 1, and nothing is written.
  */
 uint64_t monkey_make_session(uint8_t *session, size_t session_length);
+
+/*
+ * Makes a session with words of its own, in index order, in the first 65,536 bytes and answers 65,536. `names` holds a field 30 for each word, one behind the other
+ * and nothing else: 30, the length in two bytes with the high one first, the name. 0 to MONKEY_WORDS_LIMIT words of 1 to 32 bytes each, any bytes, none repeated; no
+ * bytes at all are a list without words. Only these words are built in: len is undefined in a session whose list has no len.
+ *   Refused, and nothing is written: 1; then 19 at 0, where `names` is anything else.
+ */
+uint64_t monkey_make_session_words(uint8_t *session, size_t session_length, const uint8_t *names, size_t names_length);
 
 /*
  * Compiles a tree in a session.
  *   Accepted: the answer is the image's length, and the image stands at the front of the output, whose other bytes stay as they were.
  *     The tree's definitions and constants are added to the session, so that the next tree is compiled with them.
- *     In a session that monkey_make_session made and monkey_compile alone has written, what code names is there and its jumps land: docs/FORMAT.md, Image.
+ *     A session is written back with three fields, its words first: one of two fields, which monkey_make_session makes, grows by 45 bytes in its 65,536.
+ *     A definition of a word's name hides the word, in this tree from there on and in the next ones.
+ *     In a session that monkey_make_session or monkey_make_session_words made and monkey_compile alone has written, what code names is there and its jumps land: docs/FORMAT.md, Image.
  *   Refused, 1 to 15 or 22: session and output are as they were. An output of any length is taken; MONKEY_IMAGE_LIMIT bytes are enough for
  *     every image.
  *   Work areas may hold anything before. They are zero afterwards, over their sizes, after every call but one that is refused 1, which

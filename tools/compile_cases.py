@@ -20,6 +20,7 @@ def long(n):
 
 
 FRESH = bytes.fromhex("400000510000")
+SIX = bytes.fromhex("42002a3000036c656e3000047075747330000566697273743000046c6173743000047265737430000470757368")
 OTHER = b"\xa5" * 16
 
 
@@ -29,42 +30,57 @@ def call(sizes, lend, tree, outcome):
     return kind + long(lend) + word(len(tree)) + tree + outcome
 
 
-def make(size, values):
-    """A session made over other bytes, and what must stand there afterwards."""
+def make(size, names, values):
+    """A session made over other bytes, fresh or with words, and what must stand there afterwards: where words were taken, the case says it."""
     ok = values[0] == "ok"
-    number, value = (0, size) if ok else (int(values[1]), int(values[2]))
-    after = FRESH if ok else OTHER
-    made = b"\x05" + long(size) + bytes([number]) + long(value)
-    return b"\x02" + word(len(OTHER)) + OTHER + made + b"\x04" + word(len(after)) + after
+    number, value = (0, 65536) if ok else (int(values[1]), int(values[2]))
+    kind = b"\x05" + long(size) if names is None else b"\x07" + long(size) + word(len(names)) + names
+    made = b"\x02" + word(len(OTHER)) + OTHER + kind + bytes([number]) + long(value)
+    after = OTHER if not ok else FRESH if names is None else None
+    return made if after is None else made + b"\x04" + word(len(after)) + after
 
 
 def records(lines):
-    """The records of a topic: 1 fresh, 2 start, 3 call, 4 session, 5 make, 6 call in parts of the buffers."""
-    out, lend, tree, sizes = b"", 65536, b"", None
+    """The records of a topic: 1 fresh, 2 start, 3 call, 4 session, 5 make, 6 call in parts of the buffers, 7 make with words."""
+    out, lend, tree, sizes, names, accepted = b"", 65536, b"", None, None, False
     for line in lines:
         key, *values = line.split()
         if key == "case":
-            out, lend, sizes = out + b"\x01", 65536, None
+            out, lend, sizes, names, accepted = out + b"\x01", 65536, None, None, False
         elif key == "start":
             start = expand(values[0])
             out += b"\x02" + word(len(start)) + start
         elif key == "sizes":
             sizes = [int(v) for v in values]
+        elif key == "words":
+            names = expand(values[0])
         elif key == "make":
-            out += make(sizes[0], values)
+            out += make(sizes[0] if sizes else 65536, names, values)
         elif key == "lend":
             lend = int(values[0])
         elif key == "tree":
             tree = expand(values[0])
         elif key == "ok":
             image = expand(values[0])
+            accepted = True
             out += call(sizes, lend, tree, b"\x00" + word(len(image)) + image)
         elif key == "refused":
             out += call(sizes, lend, tree, bytes([int(values[0])]) + word(int(values[1])))
         elif key in ("session", "state"):
             session = expand(values[0])
+            if key == "state" and accepted:
+                session = SIX + session
             out += b"\x04" + word(len(session)) + session
     return out
+
+
+def begins(case):
+    """The lines of a second series that say how it begins, in place of the first one's."""
+    own = [line.removeprefix("twin") for line in case if line.startswith(("twinstart ", "twinwords "))]
+    if not own:
+        return case
+    made = [line for begin in own for line in ([begin, "make ok"] if begin.startswith("words ") else [begin])]
+    return case[:1] + made + [line for line in case[1:] if line.split()[0] not in ("start", "words", "make", "twinstart", "twinwords")]
 
 
 def second(lines):
@@ -72,7 +88,7 @@ def second(lines):
     starts = [k for k, line in enumerate(lines) if line.startswith("case ")] + [len(lines)]
     pairs = [lines[a:b] for a, b in zip(starts, starts[1:]) if any(line.startswith("twin ") for line in lines[a:b])]
     return [line.removeprefix("twin") if line.startswith(("twinok", "twinsession", "twinstate")) else line.replace("twin ", "tree ")
-            for case in pairs for line in case if line.split()[0] not in ("tree", "ok", "session", "state")]
+            for case in pairs for line in begins(case) if line.split()[0] not in ("tree", "ok", "session", "state")]
 
 
 def main(cases, data, topics):

@@ -9,9 +9,9 @@ use borrow.Author.Tests.{ne-eqb}
 use lib.ListN.{length, take}
 use Rattle.definition.specs.Basic.{Bytes, pick}
 use Rattle.definition.specs.Limit.{sessionSize}
-use Rattle.definition.specs.Number.{refusal, outputShort, callNumbers, makeNumbers, listNumbers}
+use Rattle.definition.specs.Number.{refusal, outputShort, callNumbers, makeNumbers, wordNumbers, listNumbers}
 use Rattle.definition.specs.Decode.{readImage}
-use Rattle.definition.specs.Call.{Lent, call, made}
+use Rattle.definition.specs.Call.{Lent, call, made, madeWords}
 use Rattle.definition.specs.Listing.{listAnswer}
 use Rattle.definition.specs.Output.{outputAnswer}
 use Rattle.definition.specs.Valid.{AreBytes}
@@ -20,7 +20,7 @@ use Rattle.definition.specs.declared.Answer.{Answer}
 use Rattle.definition.specs.declared.Answer.the-variants.{Length, Refused}
 use Rattle.definition.proofs.Basic.{pick-false}
 use Rattle.definition.proofs.Numbers.{each, of-each, below}
-use Rattle.definition.proofs.Places.{Within, made-within, call-within-limit}
+use Rattle.definition.proofs.Places.{Within, made-within, made-words-within, call-within-limit}
 use Rattle.definition.proofs.ListingLength.{list-within}
 use Rattle.load.specs.Load.{treeOf}
 use Rattle.load.proofs.Theorems.{tree-short}
@@ -60,6 +60,9 @@ within-fits numbers n l p (Within.refused {r = r} b) = record { number = below n
 pub made-fits : (s : Bytes) → Fits (made s .answer)
 made-fits s = within-fits makeNumbers tt (omega arith) (omega arith) (made-within s)
 
+pub words-fits : (s names : Bytes) → Fits (madeWords s names .answer)
+words-fits s names = within-fits wordNumbers tt (omega arith) (omega arith) (made-words-within s names)
+
 pub call-fits : (tree : Bytes) (l : Lent) → AreBytes (take sessionSize (l .session)) → Fits (call tree l .answer)
 call-fits tree l a = within-fits callNumbers tt (omega arith) (omega arith) (call-within-limit tree l a)
 
@@ -91,6 +94,9 @@ within-told numbers m (Within.refused {r = r} b) = record { back = refusal-told 
 
 pub made-told : (s : Bytes) → Told (made s .answer)
 made-told s = within-told makeNumbers tt (made-within s)
+
+pub words-told : (s names : Bytes) → Told (madeWords s names .answer)
+words-told s names = within-told wordNumbers tt (made-words-within s names)
 
 pub call-told : (tree : Bytes) (l : Lent) → AreBytes (take sessionSize (l .session)) → Told (call tree l .answer)
 call-told tree l a = within-told callNumbers tt (call-within-limit tree l a)

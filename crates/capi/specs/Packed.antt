@@ -5,9 +5,12 @@ use mathlib.Core.List.{List, [], _∷_}
 use lib.ListN.{length}
 use lib.Dec.{eqb}
 use Rattle.definition.specs.Basic.{Bytes, pick}
+use Rattle.definition.specs.Limit.{sessionSize}
+use Rattle.definition.specs.Session.{Words, six}
+use Rattle.definition.specs.Valid.{AreBytes}
 use Rattle.definition.specs.Number.{refusal, outputShort}
-use Rattle.definition.specs.Decode.{readImage}
-use Rattle.definition.specs.Call.{Lent, Called, call, made}
+use Rattle.definition.specs.Decode.{decoded, readHanded, readImage}
+use Rattle.definition.specs.Call.{Lent, Called, call, made, madeWords}
 use Rattle.definition.specs.Series.{Call, sessionAfter, lent}
 use Rattle.definition.specs.Listing.{listAnswer, listInto}
 use Rattle.definition.specs.Output.{outputAnswer, outputAfter}
@@ -65,6 +68,17 @@ pub record MakesPacked (s : Bytes) (r : ℕ) (s′ : Bytes) : Type 0 where
   pub answer : Packs (made s .answer) r
   pub back : unpacked r ≡ made s .answer
   pub session : s′ ≡ made s .session
+
+-- making a session with words, likewise
+pub record WordsPacked (s names : Bytes) (r : ℕ) (s′ : Bytes) : Type 0 where
+  pub answer : Packs (madeWords s names .answer) r
+  pub back : unpacked r ≡ madeWords s names .answer
+  pub session : s′ ≡ madeWords s names .session
+
+-- a buffer as an exported call that was not refused made a session in it, of these words
+pub data MadeByPacked (s : Bytes) : Words → Type 0 where
+  fresh : (a : Bytes) {r : ℕ} → MakesPacked a r s → unpacked r ≡ Length sessionSize → MadeByPacked s six
+  worded : (a names : Bytes) {r : ℕ} {w : Words} {n : ℕ} → AreBytes names → WordsPacked a names r s → unpacked r ≡ Length sessionSize → readHanded names ≡ decoded w n → MadeByPacked s w
 
 -- compiling: answer and lent memory are the definition's, and the answer is had from its number
 pub record CompilesPacked (tree : Bytes) (l : Lent) (r : ℕ) (l′ : Lent) : Type 0 where

@@ -5,7 +5,7 @@ use frames::FramePlace;
 ghost use mathlib.Core.Path.{_≡_};
 ghost use Prim.Native.Nat.{_<_};
 ghost use Rattle.compiler.specs.Stage.{lentOf};
-ghost use Rattle.capi.specs.Packed.{Fits, Packs, MakesPacked, CompilesPacked, ListsPacked, LoadsPacked, halfBound};
+ghost use Rattle.capi.specs.Packed.{Fits, Packs, MakesPacked, WordsPacked, CompilesPacked, ListsPacked, LoadsPacked, halfBound};
 ghost use Rattle.chin.specs.Chin.{toChin, fromChin};
 ghost use Rattle.capi.specs.Turned.{TurnsPacked};
 ghost use Rattle.capi.specs.Framed.{paired, countAnswer, placeAnswer, CountsPacked, PlacesPacked, RefusesPacked};
@@ -27,12 +27,21 @@ fn pack(answer: Answer) -> u64
     }
 }
 
-// Makes a fresh session.
+// Makes a fresh session of document 01's two fields.
 #[no_mangle]
 pub extern "C" fn monkey_make_session(session: &mut [u8]) -> u64
     ensures { λ r. ⌜ MakesPacked (now (session .entry)) r (now (session .exit)) ⌝ }
 {
     let answer = compiler::make_session(session);
+    pack(answer)
+}
+
+// Makes a session with words, handed over as name fields; or refuses: 1, then 19.
+#[no_mangle]
+pub extern "C" fn monkey_make_session_words(session: &mut [u8], names: &[u8]) -> u64
+    ensures { λ r. ⌜ WordsPacked (now (session .entry)) (now (names .entry)) r (now (session .exit)) ⌝ }
+{
+    let answer = compiler::make_session_words(session, names);
     pack(answer)
 }
 

@@ -8,14 +8,15 @@ use Rattle.definition.specs.Bytecode.{Image, imageBytes}
 use Rattle.definition.specs.Decode.{decoded}
 use Rattle.definition.specs.Literal.{Mask, imageMask}
 use Rattle.definition.specs.Series.{Agree}
-use Rattle.definition.specs.Session.{Session, fresh}
-use Rattle.definition.specs.Valid.{ValidImage, ValidSession}
+use Rattle.definition.specs.Session.{Words, wordList, Session, begun}
+use Rattle.definition.specs.Valid.{ValidImage, ValidWords, ValidSession}
 use Rattle.definition.specs.Number.{refusal}
 use Rattle.definition.specs.Compile.{Outcome, Step, Request, compile, steps}
 use Rattle.definition.specs.declared.Refusal.{Refusal}
-use Rattle.definition.proofs.Agreement.{eraseImage, eraseSession}
-use Rattle.definition.proofs.Erase.{Alike, self}
-use Rattle.definition.proofs.Steps.{fresh-valid, OutcomeLike, StepLike, withShape, compile-valid, compile-like}
+use Rattle.definition.proofs.Agreement.{eraseImage}
+use Rattle.definition.proofs.Erase.{Alike}
+use Rattle.definition.proofs.Series.{begun-like}
+use Rattle.definition.proofs.Steps.{begun-valid, OutcomeLike, SessionLike, like-itself, StepLike, withShape, compile-valid, compile-like}
 use Rattle.bytecode.specs.declared.Form.{Form}
 use Rattle.bytecode.specs.declared.Form.the-variants.{Plain, Chin}
 use Rattle.bytecode.specs.Form.{imageIn, readForm}
@@ -87,19 +88,21 @@ pub data ChinSeries : List Step → List Step → List Step → Type 0 where
   done : ChinSeries [] [] []
   step : {p x y : Step} {ps xs ys : List Step} → ChinAnswers (p .outcome) (x .outcome) (y .outcome) → ChinSeries ps xs ys → ChinSeries (p ∷ ps) (x ∷ xs) (y ∷ ys)
 
-series-from : {cs ds : List Request} → AlikeRequests cs ds → (x y p : Session) → ValidSession x → ValidSession y → ValidSession p → Alike eraseSession x p → Alike eraseSession y p
+series-from : {compared : Type 0} {cs ds : List Request} → AlikeRequests cs ds → (x y p : Session) → ValidSession x → ValidSession y → ValidSession p → SessionLike compared x p → SessionLike compared y p
     → ChinSeries (steps p (map withShape cs)) (steps x cs) (steps y ds)
 series-from none x y p vx vy vp e f = ChinSeries.done
-series-from (more {c = c} {d} a rest) x y p vx vy vp e f =
+series-from {compared} (more {c = c} {d} a rest) x y p vx vy vp e f =
     let u = compile-valid x vx c in
     let v = compile-valid y vy d in
     let w = compile-valid p vp (withShape c) in
     let l = compile-like e c in
-    let k : StepLike (compile y d) (compile p (withShape c)) = subst (λ m. StepLike (compile y d) (compile p m)) (sym a) (compile-like f d) in
+    let k : StepLike compared (compile y d) (compile p (withShape c)) = subst (λ m. StepLike compared (compile y d) (compile p m)) (sym a) (compile-like f d) in
     ChinSeries.step (outcomes-alike (u .image) (v .image) (w .image) (l .outcome) (k .outcome))
     (series-from rest (compile x c .session) (compile y d .session) (compile p (withShape c) .session) (u .session) (v .session) (w .session) (l .session) (k .session))
 
--- Two series from fresh sessions, of equal lengths and shapes call by call: where one step is accepted so is the other, and the chin forms of its two images
+-- Two series from sessions of equal words, of equal lengths and shapes call by call: where one step is accepted so is the other, and the chin forms of its two images
 -- are equally long and agree at all but the literals' places, or are refused alike
-pub chin-series : (cs ds : List Request) → AlikeRequests cs ds → ChinSeries (steps fresh (map withShape cs)) (steps fresh cs) (steps fresh ds)
-chin-series cs ds a = series-from a fresh fresh fresh fresh-valid fresh-valid fresh-valid (self fresh) (self fresh)
+pub chin-series : (u v : Words) → ValidWords u → ValidWords v → wordList u ≡ wordList v → (cs ds : List Request) → AlikeRequests cs ds
+    → ChinSeries (steps (begun u) (map withShape cs)) (steps (begun u) cs) (steps (begun v) ds)
+chin-series u v p q e cs ds a =
+    series-from a (begun u) (begun v) (begun u) (begun-valid u p) (begun-valid v q) (begun-valid u p) (like-itself (begun u)) (begun-like u v e)

@@ -8,14 +8,13 @@ use mathlib.Core.Path.{_≡_, refl, sym, ap, subst, _∙_}
 use lib.Dec.{T, eqb}
 use lib.ListN.{length, take}
 use Rattle.definition.specs.Basic.{Bytes, pick}
-use Rattle.definition.specs.Limit.{sessionSize}
 use Rattle.definition.specs.Number.{isOneOf}
 use Rattle.definition.specs.Opcode.{Instr, size, opJumpNotTruthy, opJump}
 use Rattle.definition.specs.Bytecode.{Code, sizeOf, Const, Image}
-use Rattle.definition.specs.Session.{Session}
+use Rattle.definition.specs.Session.{Words, Session}
 use Rattle.definition.specs.Decode.{Decoded, readImage}
 use Rattle.definition.specs.Call.{Called}
-use Rattle.definition.specs.Series.{Call, calls, sessionMade}
+use Rattle.definition.specs.Series.{Call, calls, Start}
 use Rattle.definition.specs.Trusted.{Stands, constantAt, Chunk, TrustedChunk, Trusted, TrustedCall}
 use Rattle.definition.specs.Valid.{All}
 use Rattle.definition.specs.declared.Answer.the-variants.{Length}
@@ -100,5 +99,5 @@ all-turned [] All.none = All.none
 all-turned (x ∷ xs) (All.more t ts) = All.more (trusted-turned x t) (all-turned xs ts)
 
 -- No image of such calls is refused, neither 17 nor 26
-pub calls-turned : (a : Bytes) → sessionSize ≤ length a → (cs : List Call) → All Turned (calls (sessionMade a) cs)
-calls-turned a h cs = all-turned (calls (sessionMade a) cs) (trusted-calls a h cs)
+pub calls-turned : {s : Bytes} {w : Words} → Start s w → (cs : List Call) → All Turned (calls s cs)
+calls-turned {s} x cs = all-turned (calls s cs) (trusted-calls x cs)

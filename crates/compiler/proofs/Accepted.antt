@@ -10,10 +10,10 @@ use Rattle.definition.specs.Basic.{Bytes}
 use Rattle.definition.specs.Limit.{sessionSize}
 use Rattle.definition.specs.Number
 use Rattle.definition.specs.Number.{refusal}
-use Rattle.definition.specs.Tag.{tagNames, tagMain, tagPool}
+use Rattle.definition.specs.Tag.{tagMain, tagPool}
 use Rattle.definition.specs.Field.{field}
 use Rattle.definition.specs.Bytecode.{poolBytes, poolSize, encode, imageBytes}
-use Rattle.definition.specs.Session.{Session, namesBytes, sessionFields, sessionBytes}
+use Rattle.definition.specs.Session.{listed, Session, nameBytes, namesBytes, frontFields, sessionFields, sessionBytes}
 use Rattle.definition.specs.Valid.{ValidSession}
 use Rattle.definition.specs.Output.{over}
 use Rattle.definition.specs.Compile.{imageOf, sessionOf}
@@ -22,15 +22,16 @@ use Rattle.definition.proofs.Basic.{pick-true, pick-false}
 use Rattle.definition.proofs.Instructions.{code-length}
 use Rattle.definition.proofs.Pools.{pool-length}
 use Rattle.definition.proofs.Sessions.{session-length, fields-length}
-use Rattle.session.specs.Write.{finished}
+use Rattle.session.specs.Write.{writtenBack}
 use Rattle.session.proofs.Fields.{second-content}
-use Rattle.session.proofs.Sessions.{extended, accepted-session}
+use Rattle.session.proofs.Sessions.{written-append, front-length, words-longer, extended, accepted-session}
 use Rattle.scope.specs.declared.State as Memory
 use Rattle.refinement.specs.Relation.{namesEnd, poolEnd}
-use Rattle.refinement.proofs.Buffer.{restored, pool-stands, appended-length, names-extended}
+use Rattle.refinement.proofs.Buffer.{restored, pool-stands, appended-length}
 use Rattle.bytecode.specs.declared.SessionLayout.{SessionLayout}
 use Rattle.compiler.specs.Result.{stepResult}
 use Rattle.compiler.specs.Names.{Appends, laterFields}
+use Rattle.compiler.specs.Stage.{wordsEnd}
 use Rattle.compiler.specs.Translated.{imageLength, Translated, finalResult}
 use Rattle.compiler.proofs.Opened.{pool-end}
 use Rattle.compiler.proofs.Defined.{later-are}
@@ -51,6 +52,9 @@ module _ {tree c b : Bytes} {t : List ℕ} {l : SessionLayout} {s : Memory.State
   -- where the layout has the names' and the pool's end
   names-end : l .«names_end» ≡ namesEnd (p .session)
   names-end = ap (λ (l : SessionLayout). l .«names_end») (p .layout)
+
+  pub words-end : l .«words_end» ≡ wordsEnd (p .session)
+  words-end = ap (λ (l : SessionLayout). l .«words_end») (p .layout)
 
   old-end : l .«pool_end» ≡ poolEnd (p .session)
   old-end = ap (λ (l : SessionLayout). l .«pool_end») (p .layout)
@@ -93,25 +97,28 @@ module _ {tree c b : Bytes} {t : List ℕ} {l : SessionLayout} {s : Memory.State
   fields-later : laterFields tree (take (l .«names_end») b) t (l .names) (getD t 0 0) ≡ namesBytes (p .compiled .globals .more)
   fields-later = ap namesBytes (later-are p)
 
-  -- the length of the session's fields with them
-  fields-size : length (sessionFields (sessionOf (p .state))) ≡ l .«names_end» + length (laterFields tree (take (l .«names_end») b) t (l .names) (getD t 0 0)) + 3 + length (poolBytes (p .state .pool))
-  fields-size =
-      let names = namesBytes (p .state .globals) in
-      let pool = poolBytes (p .state .pool) in
-      let n = ap length (names-extended (p .compiled .globals)) ∙ length-append (namesBytes (p .session .globals)) (namesBytes (p .compiled .globals .more)) in
-      let m = ap length fields-later in
-      omega (arith, names-end, length-append (field tagNames names) (field tagPool pool))
-
-  -- there is room for them, and for the pool behind
-  pub names-room : l .«names_end» + length (laterFields tree (take (l .«names_end») b) t (l .names) (getD t 0 0)) + 3 + (s .«pool_end» - (l .«names_end» + 3)) ≤ sessionSize
-  names-room = omega (arith, fields-size, new-end, fields-length (sessionOf (p .state)) (p .compiled .valid .session))
-
   -- the session with them and the pool
   extended-is : extended (p .compiled .globals .more) (p .state .pool) (p .session) ≡ sessionOf (p .state)
-  extended-is = λ i. record { globals = sym (p .compiled .globals .same) i; pool = p .state .pool }
+  extended-is = λ i. record { words = listed (sym (p .compiled .words) i); globals = sym (p .compiled .globals .same) i; pool = p .state .pool }
 
-  session-written : {b₁ b₂ x : Bytes} {end : ℕ} → Appends (laterFields tree (take (l .«names_end») b) t (l .names) (getD t 0 0)) (l .«names_end») b b₁ end → x ≡ poolBytes (p .state .pool) → b₂ ≡ finished end x b₁
-      → b₂ ≡ sessionBytes (sessionOf (p .state))
+  -- its fields are as long at least as what is stored
+  fields-size : l .«names_end» + length (laterFields tree (take (l .«names_end») b) t (l .names) (getD t 0 0)) + 3 + length (poolBytes (p .state .pool)) ≤ length (sessionFields (sessionOf (p .state)))
+  fields-size =
+      let z = p .session in
+      let y = extended (p .compiled .globals .more) (p .state .pool) z in
+      let more = namesBytes (p .compiled .globals .more) in
+      let n = ap (λ z. length (sessionFields z)) extended-is in
+      let m = ap length fields-later in
+      let all = ap length (written-append nameBytes (p .compiled .globals .more) (z .globals)) ∙ length-append (namesBytes (z .globals)) more in
+      omega
+      (arith, names-end, words-longer (z .words), front-length (z .words) (z .globals), front-length (y .words) (y .globals), length-append (frontFields (y .words) (y .globals)) (field tagPool (poolBytes (p .state .pool))))
+
+  -- there is room for them, for the six words' field, and for the pool behind
+  pub names-room : l .«names_end» + length (laterFields tree (take (l .«names_end») b) t (l .names) (getD t 0 0)) + 45 + 3 + (s .«pool_end» - (l .«names_end» + 3)) ≤ sessionSize
+  names-room = omega (arith, fields-size, new-end, fields-length (sessionOf (p .state)) (p .compiled .valid .session))
+
+  session-written : {b₁ b₂ x : Bytes} {end : ℕ} → Appends (laterFields tree (take (l .«names_end») b) t (l .names) (getD t 0 0)) (l .«names_end») b b₁ end → x ≡ poolBytes (p .state .pool)
+      → b₂ ≡ writtenBack (p .session .words) end x b₁ → b₂ ≡ sessionBytes (sessionOf (p .state))
   session-written {end} n e q =
       let z = p .session in
       let more = p .compiled .globals .more in
@@ -120,25 +127,25 @@ module _ {tree c b : Bytes} {t : List ℕ} {l : SessionLayout} {s : Memory.State
       let same = ap (λ z. length (sessionFields z)) extended-is in
       let m = ap length fields-later in
       q
-      ∙ (λ i. finished end (e i) (n .session i))
-      ∙ (λ i. finished end (poolBytes (p .state .pool)) (sets (a .session i) (l .«names_end») (fields-later i)))
-      ∙ accepted-session z (a .new) more (p .state .pool) refl (omega (arith, names-end)) (omega (arith, n .end)) (omega (arith, new-end, a .upto)) (omega (arith, fields-length (sessionOf (p .state)) (p .compiled .valid .session)))
+      ∙ (λ i. writtenBack (z .words) end (e i) (n .session i))
+      ∙ (λ i. writtenBack (z .words) end (poolBytes (p .state .pool)) (sets (a .session i) (l .«names_end») (fields-later i)))
+      ∙ accepted-session z (a .new) more (p .state .pool) refl names-end (omega (arith, n .end)) (omega (arith, new-end, a .upto)) (omega (arith, fields-length (sessionOf (p .state)) (p .compiled .valid .session)))
       ∙ ap sessionBytes extended-is
 
   -- the output has room for the image's parts
   pub image-room : {o : ℕ} → imageLength l s ≤ o → 6 + length (take (s .chunk .len) c) + length (take (s .«pool_end» - (l .«names_end» + 3)) (drop (l .«names_end» + 3) b)) ≤ o
   image-room h = omega (arith, ap length code-part, ap length pool-part, new-end, p .compiled .len, code-length (p .state .code))
 
-  -- the session has room for the names and the pool behind them
+  -- the session has room for words and names, and the pool behind them
   pub session-room : {end : ℕ} {b₁ : Bytes} → Appends (laterFields tree (take (l .«names_end») b) t (l .names) (getD t 0 0)) (l .«names_end») b b₁ end → length b₁ ≡ length b
-      → (k : ℕ) → k ≤ s .«pool_end» - (l .«names_end» + 3) → (3 ≤ end) × (end + (3 + k) ≤ length b₁)
-  session-room n e k h = (omega (arith, n .end, names-end), omega (arith, n .end, names-room, bounds .session))
+      → (k : ℕ) → k ≤ s .«pool_end» - (l .«names_end» + 3) → (l .«words_end» + 3 ≤ end) × (end + 45 + (3 + k) ≤ length b₁)
+  session-room n e k h = (omega (arith, n .end, names-end, words-end, front-length (p .session .words) (p .session .globals)), omega (arith, n .end, names-room, bounds .session))
 
   -- The output has room: image and session are written
   pub accepted : (o : Bytes) {o₁ b₁ b₂ : Bytes} {end total : ℕ} → total ≡ imageLength l s → total ≤ length o
       → o₁ ≡ over (field tagMain (take (s .chunk .len) c) ++ field tagPool (take (s .«pool_end» - (l .«names_end» + 3)) (drop (l .«names_end» + 3) b))) o
       → Appends (laterFields tree (take (l .«names_end») b) t (l .names) (getD t 0 0)) (l .«names_end») b b₁ end
-      → b₂ ≡ finished end (take (total - (6 + s .chunk .len)) (drop (6 + s .chunk .len) o₁)) b₁
+      → b₂ ≡ writtenBack (p .session .words) end (take (total - (6 + s .chunk .len)) (drop (6 + s .chunk .len) o₁)) b₁
       → record { answer = Length total; session = b₂; output = o₁ } ≡ finalResult p o
   accepted o {o₁} {b₁} {end = end} {total} k h w n q =
       let m = imageOf (p .state) in

@@ -12,7 +12,7 @@ use Rattle.definition.specs.Tag.{tagName}
 use Rattle.definition.specs.Session.{nameBytes, namesBytes}
 use Rattle.definition.proofs.Basic.{pick-true, pick-false}
 use Rattle.session.specs.Write.{heading}
-use Rattle.session.proofs.Stores.{sets-append, take-sets}
+use Rattle.session.proofs.Stores.{sets-append, take-sets, getD-sets}
 use Rattle.session.proofs.Fields.{field-stored}
 use Rattle.session.proofs.Sessions.{written-append}
 use Rattle.field.specs.Layout.{len, content}
@@ -40,10 +40,6 @@ module _ {A : Type 0} where
 
 -- Bytes that are there already, once more
 
--- what is in front of what was stored
-before-sets : (l : Bytes) (i j : ℕ) (xs : Bytes) → j < i → getD (sets l i xs) j 0 ≡ getD l j 0
-before-sets l i j xs h = sym (getD-take i (sets l i xs) j 0 h) ∙ ap (λ m. getD m j 0) (take-sets l i i xs (omega arith)) ∙ getD-take i l j 0 h
-
 -- the first i of n bytes from an offset on are stored at another, which lies behind them
 pub record Repeated (e : Bytes) (from to n i : ℕ) (b : Bytes) : Type 0 where
   pub within : i ≤ n
@@ -62,7 +58,7 @@ module _ {e : Bytes} {from to n : ℕ} where
         let xs = take i (drop from e) in
         let l : i < length (drop from e) = omega (arith, length-drop from e) in
         let n = length-take-le i (drop from e) (omega arith) in
-        let byte : getD b (from + i) 0 ≡ getD (drop from e) i 0 = ap (λ b. getD b (from + i) 0) (r .stored) ∙ before-sets e to (from + i) xs (omega arith) ∙ sym (getD-drop from e i 0) in
+        let byte : getD b (from + i) 0 ≡ getD (drop from e) i 0 = ap (λ b. getD b (from + i) 0) (r .stored) ∙ getD-sets e to (from + i) xs (omega arith) ∙ sym (getD-drop from e i 0) in
         record {
           within = omega arith;
           stored =

@@ -11,11 +11,11 @@ use Rattle.definition.specs.Limit.{sessionSize}
 use Rattle.definition.specs.Number
 use Rattle.definition.specs.Number.{refusal, translateNumbers, lentNumbers}
 use Rattle.definition.specs.Bytecode.{Image, imageBytes}
-use Rattle.definition.specs.Session.{Session, sessionBytes}
+use Rattle.definition.specs.Session.{Words, wordList, fieldCount, Session, sessionBytes}
 use Rattle.definition.specs.Decode.{Decoded, decoded, malformed, readSession}
 use Rattle.definition.specs.Compile.{Outcome, Step, enough, compile}
 use Rattle.definition.specs.Call.{Lent, Called, answered, inSession, request, call}
-use Rattle.definition.specs.Series.{Call, sessionAfter, sessionMade, lent, calls, AllAlike, shapes, Indistinguishable}
+use Rattle.definition.specs.Series.{Call, sessionAfter, Start, lent, calls, AllAlike, shapes, Indistinguishable}
 use Rattle.definition.specs.declared.Refusal.{Refusal}
 use Rattle.definition.specs.declared.Answer.{Answer}
 use Rattle.definition.specs.declared.Answer.the-variants.{Refused}
@@ -25,24 +25,26 @@ use Rattle.definition.proofs.Sessions.{write-session, session-length}
 use Rattle.definition.proofs.Steps.{CallNumber, translate-valid, compile-valid, compile-fits}
 use Rattle.definition.proofs.Series.{condition-3}
 use Rattle.compiler.proofs.Whole.{compile-is, call-enough, call-short, long-front}
-use Rattle.compiler.specs.Promise.{Compiles, Makes, Ended, Ran, Wrote, ExactIn, Exact}
+use Rattle.compiler.specs.Promise.{Compiles, MadeBy, Ended, Ran, Wrote, ExactIn, Exact}
 
 -- Condition 3
 
 -- a series that ran is the definition's
-ran-calls : {s : Bytes} {cs : List Call} {xs : List Called} → Ran s cs xs → xs ≡ calls s cs
+pub ran-calls : {s : Bytes} {cs : List Call} {xs : List Called} → Ran s cs xs → xs ≡ calls s cs
 ran-calls Ran.none = refl
 ran-calls (Ran.more {s} {c} {r} {l′} {cs} p q) = λ i. record { answer = p .answer i; lent = p .lent i } ∷ (ran-calls q ∙ ap (λ (l : Lent). calls (sessionAfter s (l .session)) cs) (p .lent)) i
 
--- from a session that was made, too
-pub ran-made : {a a′ : Bytes} {r : Answer} {cs : List Call} {xs : List Called} → Makes a r a′ → Ran (take sessionSize a′) cs xs → calls (sessionMade a) cs ≡ xs
-ran-made {cs = cs} m x = sym (ran-calls x ∙ ap (λ s. calls (take sessionSize s) cs) (m .session))
+-- a buffer in which a session was made has the session that a series starts from
+pub made-start : {s : Bytes} {w : Words} → MadeBy s w → Start (take sessionSize s) w
+made-start (MadeBy.fresh a m e) = Start.fresh a (sym (m .answer) ∙ e) (ap (take sessionSize) (m .session))
+made-start (MadeBy.worded a names b m e h) = Start.worded a names b (sym (m .answer) ∙ e) h (ap (take sessionSize) (m .session))
 
--- Two series of compile calls, each from a session made in a buffer of its own, whose lent lengths are equal and whose trees have equal
--- shapes, call by call, can't be told apart but by the literals' bytes
-pub compile-condition-3 : (a b a′ b′ : Bytes) {r q : Answer} → Makes a r a′ → Makes b q b′ → sessionSize ≤ length a → sessionSize ≤ length b
-    → (cs ds : List Call) → AllAlike cs ds → (xs ys : List Called) → Ran (take sessionSize a′) cs xs → Ran (take sessionSize b′) ds ys → Indistinguishable (shapes cs) xs ys
-compile-condition-3 a b a′ b′ m n h k cs ds alike xs ys x y = subst₂ (Indistinguishable (shapes cs)) (ran-made m x) (ran-made n y) (condition-3 a b h k cs ds alike)
+-- Two series of compile calls, each from a session made in a buffer of its own by either call, the lists of words equal, whose lent lengths are equal and
+-- whose trees have equal shapes, call by call, can't be told apart but by the literals' bytes; sessions are compared where both start with equally many fields
+pub compile-condition-3 : {a b : Bytes} {u v : Words} → MadeBy a u → MadeBy b v → wordList u ≡ wordList v → (cs ds : List Call) → AllAlike cs ds → (xs ys : List Called)
+    → Ran (take sessionSize a) cs xs → Ran (take sessionSize b) ds ys → Indistinguishable (fieldCount u ≡ fieldCount v) (shapes u cs) xs ys
+compile-condition-3 {u = u} {v} m n e cs ds alike xs ys x y =
+    subst₂ (Indistinguishable (fieldCount u ≡ fieldCount v) (shapes u cs)) (sym (ran-calls x)) (sym (ran-calls y)) (condition-3 (made-start m) (made-start n) e cs ds alike)
 
 -- Condition 2
 

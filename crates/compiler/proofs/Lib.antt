@@ -8,3 +8,4 @@ pub mod Started
 pub mod Walked
 pub mod Defined
 pub mod Accepted
+pub mod Words

@@ -3,13 +3,13 @@ use Prim.Native.Nat.{ℕ, _-_, _≤_}
 use native.Mathlib.Omega.{arith}
 use mathlib.Core.List.{List}
 use mathlib.Core.Path.{_≡_, refl, sym, ap, subst, subst₂, _∙_}
-use lib.ListN.{length, replicate}
+use lib.ListN.{length, take, replicate}
 use lib.Seq.{sets, take-all}
 use Rattle.definition.specs.Basic.{Bytes}
 use Rattle.definition.specs.Limit.{sessionSize, codeSize}
 use Rattle.definition.specs.Syntax.{Stmts}
 use Rattle.definition.specs.Tree.{Parsed, readTree}
-use Rattle.definition.specs.Session.{Session}
+use Rattle.definition.specs.Session.{Session, sessionBytes}
 use Rattle.definition.specs.Valid.{AreBytes}
 use Rattle.definition.specs.Walk.{Res, on, stop, walkStmts}
 use Rattle.definition.specs.Compiler as Structured
@@ -82,10 +82,14 @@ abbrev pub WalksTree : Bytes → SessionLayout → Bytes → Bytes → Rest → 
 WalksTree tree l c c′ m m′ = Walks tree (ReadsTree tree) (walkStmts machine) c c′ m m′ (On (startState l))
 
 -- In bytes that read as a session, with a table area that was started on it and a code area, for a tree that reads well
-module _ {e : Bytes} {l : SessionLayout} (x : Opened e l) {t₀ t : List ℕ} (begun : Starts e (l .«names_end») t₀ t) (c : Bytes) (size : length c ≡ codeSize)
+module _ {e : Bytes} {l : SessionLayout} (x : Opened e l) {t₀ t : List ℕ} (begun : Starts e (l .«words_end») (l .«names_end») t₀ t) (c : Bytes) (size : length c ≡ codeSize)
     (tree : Bytes) (b : Stmts) (n : ℕ) (reads : readTree tree ≡ Parsed.parsed b n) where
+  -- the session's bytes are all of them
+  whole : take sessionSize e ≡ sessionBytes (x .session)
+  whole = take-all sessionSize e (omega (arith, ap length (x .bytes), session-length (x .session) (x .valid))) ∙ x .bytes
+
   both-end : WalkEnds (x .session) e (length c) (defined (x .session) b) (done (x .session) e c b)
-  both-end = walk-ends (x .session) (x .valid) e c (omega arith) b (read-well-formed tree b n reads)
+  both-end = walk-ends (x .session) (x .valid) e c whole (omega arith) b (read-well-formed tree b n reads)
 
   -- the call's result hangs on the definition's walk
   result-is : (o : Bytes) → result tree e o ≡ stepResult e o (Definition.finish (length o) (x .session) (defined (x .session) b))
@@ -119,12 +123,11 @@ module _ {e : Bytes} {l : SessionLayout} (x : Opened e l) {t₀ t : List ℕ} (b
       let u = settled-stop (done z e c b) (walk-is w) in
       let k = memory-halts both-end (u .same) in
       let a : Appended z e e′ (marks s) = subst₂ (λ b s. Appended z e b (marks s)) (u .session) (u .state) (k .facts .appended) in
-      let whole : length e ≡ sessionSize = ap length (x .bytes) ∙ session-length z (x .valid) in
       let ends : l .«pool_end» ≡ poolEnd z = ap (λ (l : SessionLayout). l .«pool_end») (x .layout) in
       record {
         low = omega (arith, a .upto);
         high = a .within;
-        restores = (λ i. sets e′ (ends i) (replicate (s .«pool_end» - ends i) 0)) ∙ restored z e (take-all sessionSize e (omega arith) ∙ x .bytes) a;
+        restores = (λ i. sets e′ (ends i) (replicate (s .«pool_end» - ends i) 0)) ∙ restored z e whole a;
         same = λ o. result-is o ∙ ap (λ w. stepResult e o (Definition.finish (length o) z w)) (k .same);
       }
 
@@ -158,12 +161,12 @@ module _ {tree e c : Bytes} {t : List ℕ} {l : SessionLayout} (k : Checked tree
   layout-small = opened-small x
 
   -- what starting the table area needs
-  pub start-needs : (length e ≤ sessionSize) × (HasNames e × (globalsSize ≤ length t))
+  pub start-needs : (length e ≤ sessionSize) × (HasNames e (l .«words_end») × (globalsSize ≤ length t))
   start-needs = (omega (arith, k .lengths .session), (opened-names x, omega (arith, k .lengths .table)))
 
-  module _ {end : ℕ} {t₁ : List ℕ} (ends : end ≡ after e 0) (begun : Starts e end t t₁) {s : Memory.State} (first : s ≡ startState l) where
-    begun-at : Starts e (l .«names_end») t t₁
-    begun-at = subst (λ n. Starts e n t t₁) (ends ∙ opened-after x) begun
+  module _ {end : ℕ} {t₁ : List ℕ} (ends : end ≡ after e (l .«words_end»)) (begun : Starts e (l .«words_end») end t t₁) {s : Memory.State} (first : s ≡ startState l) where
+    begun-at : Starts e (l .«words_end») (l .«names_end») t t₁
+    begun-at = subst (λ n. Starts e (l .«words_end») n t t₁) (ends ∙ opened-after x) begun
 
     -- what the walk needs
     pub walk-needs : length t₁ ≡ length t → Some (ReadsTree tree) × (Ready c (On s) × FineState tree (rest e t₁) s)

@@ -11,10 +11,11 @@ use Rattle.definition.specs.Limit.{sessionSize, codeSize, tableSize}
 use Rattle.definition.specs.Number
 use Rattle.definition.specs.Number.{refusal, isOneOf, lentNumbers}
 use Rattle.definition.specs.Bytecode.{Image, imageBytes}
-use Rattle.definition.specs.Session.{Session, sessionBytes}
-use Rattle.definition.specs.Decode.{decoded, malformed, readSession}
+use Rattle.definition.specs.Session.{Words, six, Session, sessionBytes}
+use Rattle.definition.specs.Decode.{decoded, malformed, readHanded, readSession}
+use Rattle.definition.specs.Valid.{AreBytes}
 use Rattle.definition.specs.Compile.{Outcome, enough, compile}
-use Rattle.definition.specs.Call.{Lent, Called, call, made, cleared, request}
+use Rattle.definition.specs.Call.{Lent, Called, call, made, madeWords, cleared, request}
 use Rattle.definition.specs.Output.{over}
 use Rattle.definition.specs.Series.{Call, sessionAfter, lent}
 use Rattle.definition.specs.declared.Refusal.{Refusal}
@@ -30,6 +31,16 @@ pub record Compiles (tree : Bytes) (l : Lent) (r : Answer) (l′ : Lent) : Type 
 pub record Makes (s : Bytes) (r : Answer) (s′ : Bytes) : Type 0 where
   pub answer : r ≡ made s .answer
   pub session : s′ ≡ made s .session
+
+-- making a session with words
+pub record MakesWords (s names : Bytes) (r : Answer) (s′ : Bytes) : Type 0 where
+  pub answer : r ≡ madeWords s names .answer
+  pub session : s′ ≡ madeWords s names .session
+
+-- a buffer as a call that was not refused made a session in it, of these words
+pub data MadeBy (s : Bytes) : Words → Type 0 where
+  fresh : (a : Bytes) {r : Answer} → Makes a r s → r ≡ Length sessionSize → MadeBy s six
+  worded : (a names : Bytes) {r : Answer} {w : Words} {n : ℕ} → AreBytes names → MakesWords a names r s → r ≡ Length sessionSize → readHanded names ≡ decoded w n → MadeBy s w
 
 -- both work areas zeroed over their sizes, and as they were beyond
 pub record Cleared (l l′ : Lent) : Type 0 where

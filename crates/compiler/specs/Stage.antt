@@ -6,7 +6,7 @@ use lib.ListN.{length}
 use Rattle.definition.specs.Basic.{Bytes}
 use Rattle.definition.specs.Limit.{sessionSize, codeSize, tableSize}
 use Rattle.definition.specs.Tree.{readTree}
-use Rattle.definition.specs.Session.{Session, sessionBytes}
+use Rattle.definition.specs.Session.{Session, wordsField, sessionBytes}
 use Rattle.definition.specs.Decode.{decoded, readSession}
 use Rattle.definition.specs.Valid.{ValidSession}
 use Rattle.definition.specs.Call.{Lent}
@@ -33,9 +33,13 @@ pub record Lengths (e c : Bytes) (t : List ℕ) : Type 0 where
   pub code : length c ≡ codeSize
   pub table : length t ≡ tableSize
 
+-- where the words end in a session's bytes
+abbrev pub wordsEnd : Session → ℕ
+wordsEnd z = length (wordsField (z .words))
+
 -- where the parts of a session lie in its bytes
 abbrev pub layoutAt : Session → SessionLayout
-layoutAt z = record { «names_end» = namesEnd z; «pool_end» = poolEnd z; names = length (z .globals); constants = length (z .pool) }
+layoutAt z = record { «words_end» = wordsEnd z; «names_end» = namesEnd z; «pool_end» = poolEnd z; names = length (z .globals); constants = length (z .pool) }
 
 -- bytes that read as a session of that layout
 pub record Opened (e : Bytes) (l : SessionLayout) : Type 0 where

@@ -4,12 +4,14 @@ mod translate;
 
 use bytecode::Layout;
 use bytecode::read_layout;
+use bytecode::words_stand;
 use definition::Answer;
 use definition::Refusal;
 use definition::limit::CODE_SIZE;
 use definition::limit::SESSION_SIZE;
 use definition::limit::TABLE_SIZE;
 use definition::number;
+use session::words::begin_session;
 use translate::translate;
 use tree::Checked;
 ghost use mathlib.Core.Path.{_≡_};
@@ -20,14 +22,34 @@ ghost use Rattle.definition.specs.Basic.{both};
 ghost use Rattle.definition.specs.Limit.{sessionSize, codeSize, tableSize};
 ghost use Rattle.definition.specs.Call.{cleared};
 ghost use Rattle.compiler.specs.Result.{result, wholeOf};
-ghost use Rattle.compiler.specs.Promise.{Compiles, Makes};
+ghost use Rattle.compiler.specs.Promise.{Compiles, Makes, MakesWords};
 ghost use Rattle.compiler.specs.Stage.{lentOf, Long, Lengths};
 
-// Makes a fresh session.
+// Makes a fresh session of document 01's two fields.
 pub fn make_session(session: &mut [u8]) -> Answer
     ensures { λ r. ⌜ Makes (now (session .entry)) r (now (session .exit)) ⌝ }
 {
-    session::make_session(session)
+    session::write_fresh(session)
+}
+
+// Makes a session of three fields with words that are handed over as name fields: at most 24, none repeated.
+pub fn make_session_words(session: &mut [u8], names: &[u8]) -> Answer
+    ensures { λ r. ⌜ MakesWords (now (session .entry)) (now (names .entry)) r (now (session .exit)) ⌝ }
+{
+    if session.len() < SESSION_SIZE {
+        return Answer::Refused(Refusal {
+            number: number::SHORT_BUFFER,
+            place: 0,
+        });
+    }
+    if words_stand(names) {
+        begin_session(session, names);
+        return Answer::Length(SESSION_SIZE);
+    }
+    Answer::Refused(Refusal {
+        number: number::BAD_WORDS,
+        place: 0,
+    })
 }
 
 // Whether all that is lent is as long as number 1 asks.

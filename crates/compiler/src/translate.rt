@@ -7,8 +7,8 @@ use definition::number;
 use scope::Chunk;
 use scope::State;
 use scope::Walked;
-use session::finish_session;
 use session::image::write_image;
+use session::write_back;
 use session::zero::restore;
 use walk::compile_tree;
 ghost use mathlib.Core.Path.{_≡_};
@@ -37,7 +37,7 @@ fn start_state(layout: SessionLayout) -> State
     }
 }
 
-// Writes the image, then the session with the new names and the new pool.
+// Writes the image, then the session of three fields with the new names and the new pool.
 fn accept(
     session: &mut [u8],
     tree: &[u8],
@@ -61,7 +61,7 @@ fn accept(
     write_image(output, &code[..len], &session[from..to]);
     let end = append_names(session, tree, table, layout.names, names_end);
     let start = 6 + len;
-    finish_session(session, end, &output[start..total]);
+    write_back(session, layout.words_end, end, &output[start..total]);
     Answer::Length(total)
 }
 
@@ -102,7 +102,7 @@ fn walk_tree(
     requires { ⌜ Checked (now tree) (now session) (now code) (now table) layout ⌝ }
     ensures { λ r. ⌜ WalkEnded (now (tree .entry)) (now (session .entry)) (now (code .exit)) (now (session .exit)) (now (table .exit)) layout r ⌝ }
 {
-    symbol_table::start(session, table);
+    symbol_table::start(session, table, layout.words_end);
     compile_tree(tree, session, code, table, start_state(layout))
 }
 

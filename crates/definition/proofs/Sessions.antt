@@ -84,7 +84,7 @@ module _ {byte : ℕ → ℕ} where
   read-names vs c end s h = read-row (tagged tagNames) (λ _. globalsLimit) tagNames reads-name vs (omega (arith, names-length vs)) refl c end s h
 
   -- the words in front of names are read; where there are none, the names begin with another tag
-  read-words : (w : Words) (ns : List Bytes) → ValidWords w → (end : ℕ) → Stands byte 0 (frontFields w ns) → length (wordsField w) ≤ end → readWords byte 0 end ≡ decoded w (length (wordsField w))
+  pub read-words : (w : Words) (ns : List Bytes) → ValidWords w → (end : ℕ) → Stands byte 0 (frontFields w ns) → length (wordsField w) ≤ end → readWords byte 0 end ≡ decoded w (length (wordsField w))
   read-words six ns v end s h = λ i. pick (eqb (stands-head s i) tagWords) (then (readNameFields byte tagWords wordsLimit 0 end) asWords) (decoded six 0)
   read-words (listed ws) ns v end s h = λ i. pick (eqb (stands-head s i) tagWords) (own i) (decoded six 0)
     where

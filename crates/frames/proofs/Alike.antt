@@ -98,6 +98,6 @@ sound-call tree l a = chosen Sound (enough (request l tree)) (λ big. opened big
     opened big (malformed p) e = refused-sound _
 
 -- The two images of a step in condition 3 have equal counts and rests at one frame size, and equally long frames
-pub step-frames : (tree tree′ : Bytes) (l l′ : Lent) → AreBytes (take sessionSize (l .session)) → AreBytes (take sessionSize (l′ .session)) → {p : Step} → Same p (call tree l) (call tree′ l′)
+pub step-frames : (tree tree′ : Bytes) (l l′ : Lent) → AreBytes (take sessionSize (l .session)) → AreBytes (take sessionSize (l′ .session)) → {compared : Type 0} {p : Step} → Same compared p (call tree l) (call tree′ l′)
     → FramesAlike (call tree l) (call tree′ l′)
 step-frames tree tree′ l l′ a b s = answers-alike (s .answer) (sound-call tree l a) (sound-call tree′ l′ b)

@@ -214,6 +214,27 @@ fn run_make(fd: i32, session: &mut [u8; SESSION_SIZE]) -> bool {
     as_recorded(make_in(session, size), number, value)
 }
 
+// Makes a session with words, the first bytes of a buffer, in a part of so many bytes.
+fn make_words_in(session: &mut [u8], size: usize, names: &[u8], length: usize) -> Answer {
+    if size <= session.len() {
+        if length <= names.len() {
+            return compiler::make_session_words(&mut session[..size], &names[..length]);
+        }
+    }
+    Answer::Length(0)
+}
+
+// Making a session with words: the length of its buffer, the name fields, the outcome.
+fn run_make_words(fd: i32, session: &mut [u8; SESSION_SIZE]) -> bool {
+    let size = read_long(fd);
+    let length = read_word(fd);
+    let mut names = io::large_buffer();
+    read_part(fd, &mut names, length);
+    let number = read_byte(fd);
+    let value = read_long(fd);
+    as_recorded(make_words_in(session, size, &names, length), number, value)
+}
+
 // The session's first bytes, and zeros after them.
 fn check_session(fd: i32, session: &[u8; SESSION_SIZE]) -> bool {
     let length = read_word(fd);
@@ -231,7 +252,7 @@ fn start_session(fd: i32, session: &mut [u8; SESSION_SIZE]) {
 }
 
 // The next record: 1 a fresh session, 2 a session of its own, 3 a call, 4 the session as it must be, 5 a session made in a part of the
-// buffer, 6 a call in parts of the buffers.
+// buffer, 6 a call in parts of the buffers, 7 a session made with words.
 fn run_record(fd: i32, session: &mut [u8; SESSION_SIZE]) -> Record {
     match read_byte(fd) {
         1 => {
@@ -249,6 +270,7 @@ fn run_record(fd: i32, session: &mut [u8; SESSION_SIZE]) -> Record {
             let sizes = read_sizes(fd);
             recorded(run_call(fd, session, sizes))
         }
+        7 => recorded(run_make_words(fd, session)),
         _ => Record::End,
     }
 }
@@ -322,5 +344,6 @@ fn main() {
     run_topic(b"boundary");
     run_topic(b"short-buffers");
     run_topic(b"alike");
+    run_topic(b"words");
     run_topic(b"compared");
 }

@@ -6,21 +6,23 @@ use mathlib.Core.List.{List, [], _∷_, map}
 use mathlib.Core.Path.{_≡_, refl, sym, ap, subst, _∙_}
 use lib.Dec.{leb}
 use lib.ListN.{length, take, drop, replicate, length-append, length-drop, length-replicate}
-use borrow.Author.Tests.{leb-true}
+use borrow.Author.Tests.{le-leb, leb-true}
 use Rattle.definition.specs.Basic.{Bytes}
 use Rattle.definition.specs.Limit.{sessionSize, codeSize, tableSize}
+use Rattle.definition.specs.Number
 use Rattle.definition.specs.Shape.{shape}
 use Rattle.definition.specs.Bytecode.{Image, imageBytes}
-use Rattle.definition.specs.Session.{Session, fresh, sessionBytes}
+use Rattle.definition.specs.Session.{six, fieldCount, Session, fresh, sessionBytes}
 use Rattle.definition.specs.Decode.{Decoded, decoded, malformed, readSession}
 use Rattle.definition.specs.Compile.{Outcome, enough, compile}
-use Rattle.definition.specs.Call.{Lent, Called, Made, cleared, request, answered, inSession, call, made}
+use Rattle.definition.specs.Call.{Lent, Called, Made, cleared, request, answered, inSession, call, notMade, begins, made}
 use Rattle.definition.specs.Series.{Call, sessionAfter, sessionMade, lent, AllAlike, shapes, Indistinguishable}
 use Rattle.definition.specs.declared.Answer.{Answer}
-use Rattle.definition.proofs.Basic.{chosen, both-left, both-right}
+use Rattle.definition.proofs.Basic.{chosen, pick-true, both-left, both-right}
 use Rattle.definition.proofs.Sessions.{session-length}
-use Rattle.definition.proofs.Steps.{fresh-valid, compile-fits}
-use Rattle.definition.proofs.Series.{long-over, Holds, CallIs, call-does, made-holds}
+use Rattle.definition.proofs.Steps.{begun-valid, compile-fits}
+use Rattle.definition.proofs.Series.{long-over, Holds, CallIs, call-does, starts-fresh, start-holds}
+use Rattle.compiler.specs.Promise.{MadeBy}
 use Rattle.compiler.proofs.Conditions.{compile-condition-3}
 use Rattle.series.specs.Row.{rowCalls, rowGives, started, EquallyLent, RunsRow}
 use Rattle.series.proofs.Row.{Carries, carried, carries-after}
@@ -96,14 +98,18 @@ made-length : (s : Bytes) → length (made s .session) ≡ length s
 unfolding made
 made-length s =
     chosen (λ (x : Made). length (x .session) ≡ length s) (leb sessionSize (length s))
-    (λ e. let r = leb-true sessionSize (length s) e in let n = session-length fresh fresh-valid in long-over (sessionBytes fresh) s (omega arith)) (λ _. refl)
+    (λ e. let r = leb-true sessionSize (length s) e in let n = session-length fresh (begun-valid six tt) in long-over (sessionBytes fresh) s (omega arith)) (λ _. refl)
+
+-- a buffer with room for a session has one made in it
+by-call : (s : Bytes) → sessionSize ≤ length s → MadeBy (made s .session) six
+unfolding made
+by-call s h = MadeBy.fresh s {r = made s .answer} (record { answer = refl; session = refl }) (ap (λ (m : Made). m .answer) (pick-true (begins six s) (notMade Number.shortBuffer s) (le-leb sessionSize (length s) h)))
 
 -- Condition 3 of two rows that were run: their trees have equal shapes, and they were lent equally much
 pub row-condition-3 : (ts us : List Bytes) → map shape ts ≡ map shape us → (l m : Lent) → EquallyLent l m → sessionSize ≤ length (l .session) → {r q : Answer} {l′ m′ : Lent}
-    → RunsRow ts l r l′ → RunsRow us m q m′ → Indistinguishable (shapes (rowCalls ts (started l .lent))) (rowGives ts (started l .lent)) (rowGives us (started m .lent))
+    → RunsRow ts l r l′ → RunsRow us m q m′ → Indistinguishable (fieldCount six ≡ fieldCount six) (shapes six (rowCalls ts (started l .lent))) (rowGives ts (started l .lent)) (rowGives us (started m .lent))
 row-condition-3 ts us e l m k h x y =
-    compile-condition-3 (l .session) (m .session) (made (l .session) .session) (made (m .session) .session) {r = made (l .session) .answer} {q = made (m .session) .answer}
-    (record { answer = refl; session = refl }) (record { answer = refl; session = refl }) h room (rowCalls ts (started l .lent)) (rowCalls us (started m .lent)) alike _ _ (x .ran) (y .ran)
+    compile-condition-3 (by-call (l .session) h) (by-call (m .session) room) refl (rowCalls ts (started l .lent)) (rowCalls us (started m .lent)) alike _ _ (x .ran) (y .ran)
   where
     room : sessionSize ≤ length (m .session)
     room = omega (arith, k .session)
@@ -113,5 +119,5 @@ row-condition-3 ts us e l m k h x y =
 
     alike : AllAlike (rowCalls ts (started l .lent)) (rowCalls us (started m .lent))
     alike =
-        row-alike ts us e (started l .lent) (started m .lent) equal (sessionMade (l .session)) fresh (made-holds (l .session) h) (record { front = λ _. refl })
-        (sessionMade (m .session)) fresh (made-holds (m .session) room) (record { front = λ _. refl })
+        row-alike ts us e (started l .lent) (started m .lent) equal (sessionMade (l .session)) fresh (start-holds (starts-fresh (l .session) h)) (record { front = λ _. refl })
+        (sessionMade (m .session)) fresh (start-holds (starts-fresh (m .session) room)) (record { front = λ _. refl })

@@ -4,8 +4,8 @@ use native.Mathlib.Omega.{arith}
 use native.Mathlib.Nat.{zero-add}
 use mathlib.Core.List.{[], _∷_, _++_}
 use mathlib.Core.Path.{_≡_, refl, sym, ap, _∙_}
-use lib.ListN.{length, set, take, drop, replicate, length-replicate}
-use lib.Seq.{sets, sets-eq, set-set, set-comm, take-set-le, drop-set-lt, take-nil, drop-nil}
+use lib.ListN.{length, getD, set, take, drop, replicate, length-replicate}
+use lib.Seq.{sets, sets-eq, set-set, set-comm, take-set-le, drop-set-lt, getD-take, take-nil, drop-nil}
 use Rattle.definition.specs.Basic.{Bytes}
 use Rattle.definition.specs.Output.{over}
 
@@ -66,6 +66,10 @@ take-sets l i n (x ∷ xs) h = take-sets (set l i x) (suc i) n xs (omega arith) 
 pub drop-sets : (l : Bytes) (i n : ℕ) (xs : Bytes) → i + length xs ≤ n → drop n (sets l i xs) ≡ drop n l
 drop-sets l i n [] h = refl
 drop-sets l i n (x ∷ xs) h = drop-sets (set l i x) (suc i) n xs (omega arith) ∙ drop-set-lt n l i x (omega arith)
+
+-- byte by byte, too
+pub getD-sets : (l : Bytes) (i j : ℕ) (xs : Bytes) → j < i → getD (sets l i xs) j 0 ≡ getD l j 0
+getD-sets l i j xs h = sym (getD-take i (sets l i xs) j 0 h) ∙ ap (λ m. getD m j 0) (take-sets l i i xs (omega arith)) ∙ getD-take i l j 0 h
 
 -- zeros stored where zeros were restore them
 pub restored : (l : Bytes) (i : ℕ) (xs : Bytes) → take (length xs) (drop i l) ≡ replicate (length xs) 0 → sets (sets l i xs) i (replicate (length xs) 0) ≡ l

@@ -1,7 +1,8 @@
 -- `compile_in` gives the call's result: a broken session, a refused tree, or the translation. Assumes nothing.
 use native.Mathlib.Omega.{arith}
-use mathlib.Core.Path.{sym, _∙_}
+use mathlib.Core.Path.{sym, ap, _∙_}
 use borrow.Author.Needs.{needs}
+use Rattle.bytecode.specs.Checked.{layoutAnswer}
 use Rattle.compiler.specs.Stage.{Opened}
 use Rattle.compiler.proofs.Opened.{opened, broken, refused-tree}
 use Rattle.compiler.proofs.compile_in.Statement.{statement}
@@ -28,7 +29,7 @@ returns : tie.Need-returns
 returns c =
     let r = c .before .before in
     let e = entry r in
-    sym (broken (e .args .tree .now) (e .args .session .now) (e .args .output .now) (sym (r .read-layout .ensures .layout) ∙ c .enum-told .given .1))
+    sym (broken (e .args .tree .now) (e .args .session .now) (e .args .output .now) (sym (ap layoutAnswer (c .enum-told .given .1)) ∙ r .read-layout .ensures .answer))
 
 returns-2 : tie.Need-returns-2
 returns-2 c =

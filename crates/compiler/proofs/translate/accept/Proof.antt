@@ -6,7 +6,7 @@ use lib.ListN.{length, take, drop, length-take}
 use lib.Seq.{length-take-le}
 use borrow.Author.Needs.{needs}
 use Rattle.compiler.proofs.Defined.{later-names}
-use Rattle.compiler.proofs.Accepted.{bounds, image-room, names-room, session-room, accepted}
+use Rattle.compiler.proofs.Accepted.{bounds, words-end, image-room, names-room, session-room, accepted}
 use Rattle.compiler.proofs.translate.accept.Statement.{statement}
 use Rattle.compiler.proofs.translate.accept.Tie as tie
 
@@ -39,8 +39,8 @@ append-names-requires c κs =
     let p = entry (c .before .before .before .before) .pre .0 in
     (later-names p, omega (arith, names-room p, bounds p .session))
 
-finish-session-requires : tie.Need-finish-session-requires
-finish-session-requires c κs =
+write-back-requires : tie.Need-write-back-requires
+write-back-requires c κs =
     let n = c .before .before .before .before .before in
     let e = at-names n in
     let k = e .args .total - (6 + e .args .s .chunk .len) in
@@ -51,7 +51,7 @@ returns : tie.Need-returns
 returns c p =
     let n = c .before .before .before .before .before .before .before .before in
     let e = at-names n in
-    accepted p (e .args .output .now) (e .pre .1 .0) (e .pre .1 .1) (n .before .before .before .before .write-image .ensures) (n .append-names .ensures) (c .before .before .finish-session .ensures)
+    accepted p (e .args .output .now) (e .pre .1 .0) (e .pre .1 .1) (n .before .before .before .before .write-image .ensures) (n .append-names .ensures) (c .before .before .write-back .ensures (p .session .words) (words-end p))
 
 pub accept-spec : {M : Type 1} → statement M
 accept-spec =
@@ -70,7 +70,7 @@ accept-spec =
     (λ c. search needs)
     (λ c. search needs)
     (λ c. search needs)
-    finish-session-requires
+    write-back-requires
     (λ c. search needs)
     (λ c. search needs)
     returns)

@@ -1,8 +1,8 @@
--- `session::make_session` meets its contract: a short buffer is left alone; any other is zeroed, and gets the two heads.
+-- `session::write_fresh` meets its contract: a short buffer is left alone; any other is zeroed, and gets the two heads.
 use borrow.Author.Needs.{needs}
 use Rattle.session.proofs.Fresh.{made-short, made-fresh}
-use Rattle.session.proofs.make_session.Statement.{statement}
-use Rattle.session.proofs.make_session.Tie as tie
+use Rattle.session.proofs.write_fresh.Statement.{statement}
+use Rattle.session.proofs.write_fresh.Tie as tie
 
 returns : tie.Need-returns
 returns c = made-short (c .before .before .args .session .now) (c .if1 .taken)
@@ -14,5 +14,5 @@ returns-2 c =
     let entry = zeroed .before .before .before .before in
     made-fresh (entry .args .session .now) (zeroed .before .before .if1 .left) (zeroed .restore .ensures) (first .put-head .ensures) (c .before .before .put-head2 .ensures)
 
-pub make-session-spec : {M : Type 1} → statement M
-make-session-spec = tie.close (tie.spec returns (λ c κs. search needs) (λ c κs. search needs) (λ c κs. search needs) (λ c. search needs) returns-2)
+pub write-fresh-spec : {M : Type 1} → statement M
+write-fresh-spec = tie.close (tie.spec returns (λ c κs. search needs) (λ c κs. search needs) (λ c κs. search needs) (λ c. search needs) returns-2)
