@@ -12,14 +12,14 @@ use Rattle.definition.specs.Number.{refusal}
 use Rattle.definition.specs.Syntax.{Stmts}
 use Rattle.definition.specs.Opcode.{Instr, instr, plain, size, opConstant, opPop, opReturnValue, opReturn, opClosure}
 use Rattle.definition.specs.Bytecode.{Const, Image, sizeOf, poolSize, imageBytes}
-use Rattle.definition.specs.Walk.{Res, bind, walkStmts}
+use Rattle.definition.specs.Walk.{Res, refuse, bind, walkStmts}
 use Rattle.definition.specs.SymbolTable.{Symbol, Table, Resolved, Defined, resolve, crossed, loadOf, place, named, withParams}
 use Rattle.definition.specs.Compiler.{State, machine, emitBeside, addConstant, literal, booleanOf, load, loaded, define, placed, lastIs, dropped, unpatched, jump, patch, enter, returned, loads, closeOver, leave, withTables}
 use Rattle.definition.specs.Tree.{Parsed, readTree}
 use Rattle.definition.specs.Session.{Session, wordList}
 use Rattle.definition.specs.Compile.{Outcome, Request, start, imageOf, sessionOf, turnedDown, enough}
 use Rattle.records.specs.Records.{recordOf, noted, Logged, logged, beside, loadNoted, logging, mentions, Traced, untraced, traced, finishRecords, translateRecords, compileRecords}
-use Rattle.records.specs.Naming.{Names, names, namesOf, lookedUp, lookUp, placedName, defineName, closed, naming, recordsAt, recordsOf, recordsIn}
+use Rattle.records.specs.Naming.{Names, names, namesOf, lookedUp, lookUp, placedName, defineName, enterName, closed, naming, recordsAt, recordsOf, recordsIn}
 use Rattle.definition.specs.declared.Refusal.{Refusal}
 use Rattle.records.specs.declared.Record.{Record}
 use Rattle.records.proofs.Track.{Tracked, Jumped, Tracking, track-stmts}
@@ -115,9 +115,18 @@ patch-named : {l : List ℕ} {s : Logged} {t : Names} → NamedAs l s t → (j k
 unfolding patch
 patch-named (NamedAs.namedAs {s}) j k _ = NamedAs.namedAs {s = logged (s .records) (patch j (s .state))}
 
-enter-named : {l : List ℕ} {s : Logged} {t : Names} → NamedAs l s t → (p : ℕ) (x : Bytes) (xs : List Bytes) → Tracked true (NamedAs l) (logging .enter p x xs s) (naming .enter p x xs t)
-unfolding enter
-enter-named (NamedAs.namedAs {s}) p x xs = left-so (s .records) (leaves-pick (leb nestingLimit (length (s .state .tables))) Leaves.stop (leaves-pick (ltb argumentsLimit (length xs)) Leaves.stop (Leaves.on tt refl refl refl)))
+enter-named : {l : List ℕ} {s : Logged} {t : Names} → NamedAs l s t → (p : ℕ) (x : Bytes) (xs : List Bytes) → Tracked true (NamedAs l) (logging .enter p x xs s) (enterName p x xs t)
+unfolding enter enterName
+enter-named {l} (NamedAs.namedAs {s}) p x xs = go (leb nestingLimit (length (s .state .tables))) (ltb argumentsLimit (length xs))
+  where
+    inside : State
+    inside = record { code = []; around = s .state .around + sizeOf (s .state .code); tables = withParams xs (named x) ∷ s .state .tables; words = s .state .words; globals = s .state .globals; pool = s .state .pool }
+
+    go : (b c : Bool) → Tracked {A = Unit {0}} true (NamedAs l) (beside (s .records) (pick b (refuse Number.nesting p (s .state)) (pick c (refuse Number.tooMany p (s .state)) (Res.on tt inside))))
+        (pick b (refuse Number.nesting p (namesOf s)) (pick c (refuse Number.tooMany p (namesOf s)) (Res.on tt (names (s .state .words) (withParams xs (named x) ∷ s .state .tables) (s .state .globals) (s .records)))))
+    go true c = Tracked.stop _
+    go false true = Tracked.stop _
+    go false false = Tracked.on tt NamedAs.namedAs
 
 leave-named : {l l′ : List ℕ} {s s′ : Logged} {t t′ : Names} → NamedAs l s t → NamedAs l′ s′ t′ → (p k : ℕ) → Tracked true (NamedAs l′) (logging .leave p k s s′) (naming .leave p k t t′)
 unfolding leave

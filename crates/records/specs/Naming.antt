@@ -2,7 +2,10 @@
 -- compile call accepts a tree, this walk over it gives the call's records.
 use Prim.Native.Nat.{ℕ}
 use mathlib.Core.List.{List, [], _∷_, reverse}
-use Rattle.definition.specs.Basic.{Bytes}
+use lib.ListN.{length}
+use lib.Dec.{leb, ltb}
+use Rattle.definition.specs.Basic.{Bytes, pick}
+use Rattle.definition.specs.Limit.{argumentsLimit, nestingLimit}
 use Rattle.definition.specs.Number
 use Rattle.definition.specs.Syntax.{Stmts}
 use Rattle.definition.specs.Opcode.{Instr}
@@ -42,6 +45,12 @@ placedName p s (Defined.noRoom k) = refuse k p s
 unfoldable pub defineName : ℕ → Bytes → Names → Res Names Instr
 defineName p n s = placedName p s (place n (s .globals) (s .tables))
 
+-- within the limits of open functions and of parameters
+unfoldable pub enterName : ℕ → Bytes → List Bytes → Go Names
+enterName p n ps s =
+    pick (leb nestingLimit (length (s .tables))) (refuse Number.nesting p s)
+    (pick (ltb argumentsLimit (length ps)) (refuse Number.tooMany p s) (on tt (names (s .words) (withParams ps (named n) ∷ s .tables) (s .globals) (s .records))))
+
 -- without the innermost table (an open function always has one)
 abbrev pub closed : Names → Names → List Table → Names
 closed outer inner [] = names (outer .words) (outer .tables) (outer .globals) (inner .records)
@@ -59,7 +68,7 @@ naming =
       jump = λ p o s. on 0 s;
       patch = λ j s. s;
       dropPop = λ p s. on tt s;
-      enter = λ p n ps s. on tt (names (s .words) (withParams ps (named n) ∷ s .tables) (s .globals) (s .records));
+      enter = enterName;
       leave = λ p k outer s. on tt (closed outer s (s .tables));
     }
 

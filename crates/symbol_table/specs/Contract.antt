@@ -9,7 +9,8 @@ use Rattle.definition.specs.Number
 use Rattle.definition.specs.Opcode.{instr, opSetGlobal, opSetLocal}
 use Rattle.definition.specs.SymbolTable.{Symbol, Table, findGlobal, findBuiltin, Resolved, cross, resolve, crossed, Defined, place, named, withParams}
 use Rattle.definition.specs.Session.{Words}
-use Rattle.definition.specs.Decode.{decoded, readWords, readNames}
+use Rattle.definition.specs.Limit.{globalsLimit}
+use Rattle.definition.specs.Decode.{decoded, items, readNameField, readWords, readNames}
 use Rattle.field.specs.Layout.{after, content}
 use Rattle.symbol_table.specs.Name.{Stands, fields, hashOf}
 use Rattle.symbol_table.specs.Layout.{globalsSize, partSize, base, part, symbolOf, tableOf, tablesOf, globalsOf, globalsIn, GoodTable, GoodGlobals, Good}
@@ -143,10 +144,24 @@ pub record HasNames (session : Bytes) (start : ℕ) : Type 0 where
   pub end : ℕ
   pub reads : readNames (byteAt session) start (length session) ≡ decoded names end
 
+-- name fields that fill a session from an offset up to an end
+pub record HasItems (session : Bytes) (from end : ℕ) : Type 0 where
+  pub names : List Bytes
+  pub stop : ℕ
+  pub reads : items (readNameField (byteAt session)) globalsLimit [] from end ≡ decoded names stop
+  pub order : from ≤ end
+  pub within : end ≤ length session
+
 -- the names of a session become the globals; from then on the session's bytes before `end` are enough
-pub record StartsGlobals (session : Bytes) (start end : ℕ) (g′ : List ℕ) : Type 0 where
-  pub globals : (tree : Bytes) (h : HasNames session start) → globalsOf tree (take end session) g′ ≡ h .names
+pub record StartsGlobals (session : Bytes) (from end : ℕ) (g′ : List ℕ) : Type 0 where
+  pub globals : (tree : Bytes) (h : HasItems session from end) → globalsOf tree (take end session) g′ ≡ h .names
   pub good : (tree : Bytes) → GoodGlobals tree (take end session) g′
+
+-- the table area as a walk starts: the names from an offset up to an end, and no open function
+pub record StartsFrom (session : Bytes) (from end : ℕ) (a a′ : List ℕ) : Type 0 where
+  pub globals : (tree : Bytes) (h : HasItems session from end) → globalsIn tree (take end session) a′ ≡ h .names
+  pub good : (tree : Bytes) → Good tree (take end session) 0 a′
+  pub above : drop globalsSize a′ ≡ drop globalsSize a
 
 -- the table area as a compile starts: the session's names, and no open function
 pub record Starts (session : Bytes) (start end : ℕ) (a a′ : List ℕ) : Type 0 where
