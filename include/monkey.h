@@ -9,8 +9,8 @@
  *   A call takes up to 100,000 bytes of stack (measured on trees of 64 levels).
  *
  * Answers
- *   Each function answers one 64-bit number. Where the high half is 0, the low half is a length, of what was written. Otherwise the
- *   call was refused: the high half is the number of the refusal, 1 to 17, 19 or 22 to 26, the low half its place, an offset.
+ *   Each function answers one 64-bit number. Where the high half is 0, the low half is a length, of what was written, or two numbers, where its comment says so. Otherwise the
+ *   call was refused: the high half is the number of the refusal, 1 to 19 or 22 to 26, the low half its place, an offset.
  *   monkey_number and monkey_value take the halves. Every call ends with an answer, whatever bytes the buffers hold.
  */
 #ifndef MONKEY_H
@@ -32,7 +32,8 @@ enum {
     MONKEY_IMAGE_LIMIT = 61446,  /* bytes of the longest image: 6, and 32,768 of main code, and 28,672 of pool */
     MONKEY_LISTING_LIMIT = 6144100, /* no listing has more bytes; most have far fewer */
     MONKEY_LOAD_LIMIT = 2048,    /* bytes of the longest tree of a seed */
-    MONKEY_WORDS_LIMIT = 24      /* words of a session */
+    MONKEY_WORDS_LIMIT = 24,     /* words of a session */
+    MONKEY_NAMES_LIMIT = 8189    /* no tree has more Identifiers */
 };
 
 /* The numbers of refusals. The place is an offset in the tree, 0 where none is named here. */
@@ -54,6 +55,7 @@ enum monkey_refusal {
     MONKEY_OUTPUT_SHORT = 15,    /* the result is longer than the output */
     MONKEY_BAD_INSTRUCTION = 16, /* an unknown byte or missing operands; none of these functions answers it */
     MONKEY_BAD_IMAGE = 17,       /* place: the offset in the image of its first wrong field or instruction */
+    MONKEY_FEW_RECORDS = 18,     /* the tree has more Identifiers than records were lent */
     MONKEY_BAD_WORDS = 19,       /* words that are no list of name fields, have a name of a wrong length, a repeated one or a 25th */
     MONKEY_NO_VALUE = 22,        /* a branch that yields no value: it is empty or ends in a let; place: the If */
     MONKEY_FRAME_SIZE = 23,      /* a frame's size is below 16 or above 1,024 */
@@ -98,6 +100,46 @@ uint64_t monkey_compile(uint8_t *session, size_t session_length,
                         uint8_t *output, size_t output_length,
                         uint8_t *code, size_t code_length,
                         uint32_t *table, size_t table_length);
+
+/*
+ * How a name was resolved. Four 32-bit numbers in a row and nothing between them, so that an array of n such structs is 4 n numbers: monkey_compile_names
+ * takes it as a pointer to the first.
+ */
+struct monkey_name {
+    uint32_t offset;  /* of the Identifier's tag in the tree */
+    uint32_t kind;    /* enum monkey_kind: what is loaded there */
+    uint32_t index;   /* its index: of the definition, the local, the word, the capture; 0 for a function's own name */
+    uint32_t crossed; /* functions left behind on the way out until a table held the name; one that has captured it already holds it */
+};
+
+enum monkey_kind {
+    MONKEY_GLOBAL = 0,   /* a definition of the session or of the main program */
+    MONKEY_LOCAL = 1,    /* a definition or parameter of the function in which the name stands */
+    MONKEY_BUILTIN = 2,  /* a word of the session */
+    MONKEY_FREE = 3,     /* a local, or the name, of a function further out, captured: the index is the capture's */
+    MONKEY_FUNCTION = 4  /* the name of the function in which it stands */
+};
+
+/*
+ * Compiles a tree as monkey_compile does, with the same rules for its buffers, and writes how each Identifier was resolved, in walk order: that of the tree,
+ * but the right side of < comes before its left. `names_length` counts numbers, four to a record: sizeof names / sizeof(uint32_t) for an array, passed as
+ *     (uint32_t *)names    or    &names[0].offset.
+ * There is room for a fourth as many records, rounded down; MONKEY_NAMES_LIMIT are enough for every tree.
+ *   Accepted: monkey_names_count is the number of records written, which is that of the tree's Identifiers, and monkey_names_length the image's length. Numbers
+ *     behind the records stay as they were; session, output and work areas are as monkey_compile leaves them.
+ *   Refused, 1 to 15, 18 or 22: as there, and no number is written. 18 at 0, where the tree has more Identifiers than there is room for, comes after all that is
+ *     refused while the tree is walked, and before 15.
+ */
+uint64_t monkey_compile_names(uint8_t *session, size_t session_length,
+                              const uint8_t *tree, size_t tree_length,
+                              uint8_t *output, size_t output_length,
+                              uint8_t *code, size_t code_length,
+                              uint32_t *table, size_t table_length,
+                              uint32_t *names, size_t names_length);
+
+static inline uint32_t monkey_names_count(uint64_t answer) { return monkey_value(answer) >> 16; }
+
+static inline uint32_t monkey_names_length(uint64_t answer) { return monkey_value(answer) & 0xffff; }
 
 /*
  * Checks an image and lists it as text: the answer is the listing's length, and the text stands at the front of the output, each line ended by 0A

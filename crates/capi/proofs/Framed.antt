@@ -42,7 +42,7 @@ refusal-fits b a size k = go (findFrame b size k) (place-small b a size k)
     go _ (SmallPlace.refused s) = small-fits s
 
 -- the two numbers of a pair
-pairs : {a b v : ℕ} → b < 65536 → v ≡ paired a b → Pairs a b v
+pub pairs : {a b v : ℕ} → b < 65536 → v ≡ paired a b → Pairs a b v
 pairs h e = record { first = omega arith; second = omega arith }
 
 pub count-pairs : (b : Bytes) → AreBytes b → (size : ℕ) {v : ℕ} → Packs (countAnswer (countFrames b size)) v → (whole rest : ℕ) → countFrames b size ≡ Counted whole rest → Pairs whole rest (v % halfBound)

@@ -2,3 +2,4 @@ pub mod Fits
 pub mod Sound
 pub mod Framed
 pub mod Conditions
+pub mod Named

@@ -1,3 +1,4 @@
 pub mod Packed
 pub mod Framed
 pub mod Turned
+pub mod Named

@@ -37,5 +37,6 @@ named-call {tree} {l} {xs} {xs′} {t} {e} {o} {c} {t′} {c′} h f g =
       answer = h .answer rs size;
       count = h .count rs size;
       lent = λ i. lentOf (h .session rs size i) (h .output rs size i) ((g ∙ h .code rs size) i) (h .table rs size i);
+      few = h .few;
       rows = f ∙ filled-rows c (t .count) xs (rows-room xs h) ∙ (λ i. rowsOf (sym front i) ++ drop (4 * t .count) xs) ∙ (λ i. rowsOf (take (h .count rs size i) (callRecords tree l rs .records)) ++ drop (4 * h .count rs size i) xs);
     }

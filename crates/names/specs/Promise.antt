@@ -1,9 +1,10 @@
 -- A compile call with records whose caller lends numbers, four for each record; and what the function that does it promises.
-use Prim.Native.Nat.{ℕ, _*_, _/_}
+use Prim.Native.Nat.{ℕ, _*_, _/_, _≤_}
 use mathlib.Core.Path.{_≡_}
 use mathlib.Core.List.{List, _++_}
 use lib.ListN.{length, take, drop, replicate}
 use Rattle.definition.specs.Basic.{Bytes}
+use Rattle.definition.specs.Limit.{codeSize}
 use Rattle.definition.specs.Call.{Lent, Called}
 use Rattle.records.specs.Call.{Recorded, callRecords}
 use Rattle.records.specs.declared.Kind.the-variants.{Global}
@@ -29,9 +30,10 @@ named xs c = record { called = c .called; count = c .count; rows = rowsOf (take 
 unfoldable pub callNames : Bytes → Lent → List ℕ → Named
 callNames tree l xs = named xs (callRecords tree l (blanks (length xs / 4)))
 
--- answer, count, numbers and all lent memory are the definition's
+-- answer, count, numbers and all lent memory are the definition's; the count is small
 pub record Names (tree : Bytes) (l : Lent) (xs : List ℕ) (r : CallTrace) (l′ : Lent) (xs′ : List ℕ) : Type 0 where
   pub answer : r .answer ≡ callNames tree l xs .called .answer
   pub count : r .count ≡ callNames tree l xs .count
   pub lent : l′ ≡ callNames tree l xs .called .lent
   pub rows : xs′ ≡ callNames tree l xs .rows
+  pub few : 4 * r .count ≤ codeSize

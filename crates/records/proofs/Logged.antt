@@ -8,7 +8,7 @@ use lib.ListN.{length, take, length-map, length-reverse}
 use lib.Dec.{leb}
 use borrow.Author.Tests.{leb-true, leb-false}
 use Rattle.definition.specs.Basic.{Bytes, pick}
-use Rattle.definition.specs.Limit.{sessionSize, imageLimit}
+use Rattle.definition.specs.Limit.{sessionSize, imageLimit, treeLimit}
 use Rattle.definition.specs.Number
 use Rattle.definition.specs.Number.{refusal, callNumbers}
 use Rattle.definition.specs.Syntax.{Stmts}
@@ -29,7 +29,7 @@ use Rattle.definition.specs.declared.Answer.{Answer}
 use Rattle.definition.specs.declared.Answer.the-variants.{Length, Refused}
 use Rattle.records.specs.declared.Record.{Record}
 use Rattle.definition.proofs.Numbers.{among}
-use Rattle.definition.proofs.Places.{Within, nowhere, call-within-tree}
+use Rattle.definition.proofs.Places.{Within, nowhere, call-within-tree, call-within-limit}
 use Rattle.records.proofs.Track.{Tracked, Jumped, Tracking, track-stmts}
 
 -- the tree offsets of records
@@ -196,15 +196,22 @@ wider : {lengths places : ℕ} {a : Answer} → Within lengths callNumbers place
 wider (Within.wrote h) = Within.wrote h
 wider (Within.refused {r = r} b) = Within.refused {r = r} (record { number = among callNumbers recordsNumbers tt (r .number) (b .number); place = b .place })
 
--- an answer within the plain call's bounds, and a count within the records lent
-pub records-within : (tree : Bytes) (l : Lent) (rs : List Record) → AreBytes (take sessionSize (l .session)) → Within imageLimit recordsNumbers (length tree) (callRecords tree l rs .called .answer)
-records-within tree l rs a = go (call-agrees tree l rs) (call-within-tree tree l a)
+-- an answer within the plain call's bounds
+answer-within : {places : ℕ} (tree : Bytes) (l : Lent) (rs : List Record) → Within imageLimit callNumbers places (call tree l .answer) → Within imageLimit recordsNumbers places (callRecords tree l rs .called .answer)
+answer-within {places} tree l rs = go (call-agrees tree l rs)
   where
-    go : {x : Recorded} {y : Called} → CallAgrees tree l rs x y → Within imageLimit callNumbers (length tree) (y .answer) → Within imageLimit recordsNumbers (length tree) (x .called .answer)
+    go : {x : Recorded} {y : Called} → CallAgrees tree l rs x y → Within imageLimit callNumbers places (y .answer) → Within imageLimit recordsNumbers places (x .called .answer)
     go (CallAgrees.refused r _) h = wider h
     go (CallAgrees.accepted _ _ _ _) h = wider h
     go (CallAgrees.few _) h = nowhere tt
 
+pub records-within : (tree : Bytes) (l : Lent) (rs : List Record) → AreBytes (take sessionSize (l .session)) → Within imageLimit recordsNumbers (length tree) (callRecords tree l rs .called .answer)
+records-within tree l rs a = answer-within tree l rs (call-within-tree tree l a)
+
+pub records-within-limit : (tree : Bytes) (l : Lent) (rs : List Record) → AreBytes (take sessionSize (l .session)) → Within imageLimit recordsNumbers treeLimit (callRecords tree l rs .called .answer)
+records-within-limit tree l rs a = answer-within tree l rs (call-within-limit tree l a)
+
+-- a count within the records lent
 pub count-within : (tree : Bytes) (l : Lent) (rs : List Record) → callRecords tree l rs .count ≤ length rs
 count-within tree l rs = go (call-agrees tree l rs)
   where

@@ -69,3 +69,4 @@ pub record Traces (tree : Bytes) (l : Lent) (room : ℕ) (r : CallTrace) (l′ :
   pub within : r .count ≤ room
   pub long : LogFits (r .answer) (l′ .code)
   pub fits : 4 * r .count ≤ length (l′ .code)
+  pub few : 4 * r .count ≤ codeSize
