@@ -20,7 +20,7 @@ uint64_t monkey_compile(uint8_t *session, size_t session_length, const uint8_t *
     case 1: /* the last byte of an image with a function */
         if (accepted && low > 60 && output[5] == 0x1b) output[low - 1] ^= 1;
         break;
-    case 2: /* a byte of the session's first name */
+    case 2: /* a byte of the session's first word */
         if (accepted && tree_length > 40 && session[2]) session[6] ^= 1;
         break;
     case 3: /* the place of 22 */

@@ -10,7 +10,7 @@ const HEADER: &str = "\
 # Series over one session, made by `compare cases` (oracle/README.md). Images, sessions and whether a tree is refused are the
 # Rust's; the place of a refusal is not in the Rust: it is the proved compiler's. No limit of the port's own decides here, and of its
 # rules 22 alone: the Rust accepts a branch without a value.
-# Lines: case NAME; for each call tree BYTES, then ok IMAGE or refused NUMBER PLACE; session BYTES (zeros follow); end.
+# Lines: case NAME; for each call tree BYTES, then ok IMAGE or refused NUMBER PLACE; state BYTES (cases/README.md); end.
 # Bytes are hexadecimal, - is none, {2900}12. is 2900 twelve times over.
 ";
 
@@ -64,7 +64,7 @@ fn case(both: &mut Both, name: &str, trees: &[Vec<u8>]) -> Result<Option<Case>, 
     let mut out = format!("\ncase {name}\n");
     let mut numbers = Vec::new();
     let mut bytes = 0;
-    both.begin()?;
+    both.begin(&None)?;
     for tree in trees {
         let answer = both.call(&Call::full(tree.clone()))?;
         let outcome = match answer {
@@ -81,7 +81,7 @@ fn case(both: &mut Both, name: &str, trees: &[Vec<u8>]) -> Result<Option<Case>, 
         bytes += tree.len();
         out += &format!("tree {}\n{outcome}\n", text(tree));
     }
-    out += &format!("session {}\nend\n", text(&both.reference_session()));
+    out += &format!("state {}\nend\n", text(&both.reference_state()));
     Ok(Some(Case { text: out, bytes, numbers }))
 }
 
@@ -90,8 +90,8 @@ fn choices(seed: u64) -> impl Iterator<Item = (String, Vec<Vec<u8>>, usize)> {
     let edges = edges::all().into_iter().filter(|e| e.sharp);
     let edges = edges.map(|e| (e.name.replace(' ', "-").replace('\'', ""), e.trees, LONGEST_EDGE));
     edges.chain((0u64..).map(move |n| {
-        let calls = draw::series(&mut draw::numbered(seed, n));
-        (format!("series-{seed}-{n}"), calls.into_iter().map(|c| c.tree).collect(), LONGEST_SERIES)
+        let series = draw::series(&mut draw::numbered(seed, n), &None);
+        (format!("series-{seed}-{n}"), series.calls.into_iter().map(|c| c.tree).collect(), LONGEST_SERIES)
     }))
 }
 

@@ -1,11 +1,12 @@
 //! The comparison of one series: the Rust and the proved compiler, call by call.
 use crate::image;
 use crate::listing;
+use crate::names;
 use crate::port::{self, Answer};
 use crate::random::Random;
 use crate::read::{self, Reading};
-use crate::reference::{self, Accepted, Outcome, State};
-use crate::series::{padded, Call, Lent};
+use crate::reference::{self, Accepted, Outcome, State, Words};
+use crate::series::{padded, Call, Lent, Series};
 use crate::walk;
 
 /// How often each outcome was compared.
@@ -21,6 +22,10 @@ pub struct Counts {
     pub images: u64,
     /// Damaged sessions.
     pub sessions: u64,
+    /// Damaged lists of words.
+    pub lists: u64,
+    /// Calls with records.
+    pub records: u64,
 }
 
 /// Both sides in the middle of a series.
@@ -85,24 +90,49 @@ fn place_fits(tree: &[u8], number: usize, place: usize, message: &str) -> bool {
 
 impl Default for Both {
     fn default() -> Self {
-        let (lent, state) = (Lent::default(), State::fresh());
+        let (lent, state) = (Lent::default(), State::begun(&None));
         let (session, latest) = (Vec::new(), Vec::new());
         Both { lent, state, session, latest, counts: Counts::default(), damage: Random::new(17) }
     }
 }
 
 impl Both {
-    /// Both sides afresh.
-    pub fn begin(&mut self) -> Compared {
-        self.state = State::fresh();
+    /// Both sides afresh, with these words.
+    pub fn begin(&mut self, words: &Words) -> Compared {
+        if let Some(list) = words {
+            self.damaged_list(list)?;
+        }
+        self.state = State::begun(words);
         self.session = padded(&self.state.session());
-        self.lent.make()
+        self.lent.make(words)
+    }
+
+    /// A damaged copy of a list that is handed over: 19 exactly where it is none.
+    fn damaged_list(&mut self, list: &[Vec<u8>]) -> Compared {
+        let mut names = reference::name_fields(list);
+        match (self.damage.below(5), names.len()) {
+            (0, _) => names.extend_from_slice(&[0x30, 0, 1, 0x61]),
+            (1, 0) | (2, _) => names.push(self.damage.next() as u8),
+            (1, n) => names.truncate(self.damage.below(n)),
+            (_, 0) => {}
+            (_, n) => {
+                let at = self.damage.below(n);
+                names[at] = names[at].wrapping_add(*self.damage.pick(&[1, 255, 3, 253]));
+            }
+        }
+        self.counts.lists += 1;
+        let answer = self.lent.hand(&names)?;
+        let due = match image::handed(&names) {
+            Some(_) => Answer::Length(port::SESSION_SIZE),
+            None => Answer::Refused(19, 0),
+        };
+        self.expect(answer, due).map_err(|text| format!("of the words {}: {text}", crate::hex::hex(&names)))
     }
 
     /// A whole series; at a difference the number of the call and what differs.
-    pub fn series(&mut self, calls: &[Call]) -> Result<(), (usize, String)> {
-        self.begin().map_err(|text| (0, text))?;
-        for (i, call) in calls.iter().enumerate() {
+    pub fn series(&mut self, series: &Series) -> Result<(), (usize, String)> {
+        self.begin(&series.words).map_err(|text| (0, text))?;
+        for (i, call) in series.calls.iter().enumerate() {
             self.call(call).map_err(|text| (i, text))?;
         }
         Ok(())
@@ -113,9 +143,9 @@ impl Both {
         &self.latest
     }
 
-    /// The session that the Rust's state makes.
-    pub fn reference_session(&self) -> Vec<u8> {
-        self.state.session()
+    /// Names and pool of the session that the Rust's state makes.
+    pub fn reference_state(&self) -> Vec<u8> {
+        self.state.names_and_pool()
     }
 
     /// One call on both sides; the answer that both give.
@@ -257,10 +287,16 @@ impl Both {
             return Err(format!("the images differ; the Rust's is {}", crate::hex::hex(&image)));
         }
         self.names(&accepted)?;
+        let before = std::mem::take(&mut self.session);
+        let records = walk::walked(&self.state, &call.tree).map_err(|due| format!("accepted, but {due:?} is due"))?;
         self.state = accepted.state;
         self.session = padded(&self.state.session());
         if self.lent.session_bytes() != self.session {
             return Err(format!("the sessions differ; the Rust's is {}", crate::hex::hex(&self.state.session())));
+        }
+        if self.counts.accepted % 8 == 0 {
+            names::compare(&before, &call.tree, &image, &self.session, &records)?;
+            self.counts.records += 1;
         }
         self.counts.accepted += 1;
         self.latest.clone_from(&image);
@@ -285,9 +321,10 @@ impl Both {
         session
     }
 
-    /// The empty tree on these session bytes: 2 where the layout is broken, else an image with their pool.
+    /// The empty tree on these session bytes: 2 where the layout is broken, else an image with their pool, and three fields.
     fn on_session(&mut self, session: &[u8]) -> Compared {
         let (answer, after) = self.lent.call_on(session, &[0x10, 0, 0])?;
+        let mut due = session.to_vec();
         match image::session(session) {
             None => self.limit(answer, 2, 0)?,
             Some((pool, _)) => {
@@ -296,13 +333,17 @@ impl Both {
                 if self.lent.output[..image.len()] != image {
                     return Err("the empty tree's image has another pool than the session".into());
                 }
+                if session[0] == 0x40 {
+                    due.splice(0..0, State::begun(&Some(reference::six())).session().into_iter().take(45));
+                    due.truncate(port::SESSION_SIZE);
+                }
             }
         }
         self.counts.sessions += 1;
-        if after == session {
+        if after == due {
             Ok(())
         } else {
-            Err("the empty tree or number 2 changed the session".into())
+            Err("the empty tree or number 2 changed the session otherwise than by its three fields".into())
         }
     }
 

@@ -1,11 +1,12 @@
 //! Random series: how many trees, which of them damaged, what is lent.
 use crate::damage;
 use crate::edges;
-use crate::generate::{Grammar, Style};
+use crate::generate::{name, Grammar, Style};
 use crate::node::{Body, Node};
 use crate::port::{CODE_SIZE, SESSION_SIZE, TABLE_SIZE};
 use crate::random::Random;
-use crate::series::{Call, Lending};
+use crate::reference::{listed, six, Words};
+use crate::series::{Call, Lending, Series};
 
 /// The random numbers of the series with this number.
 pub fn numbered(seed: u64, number: u64) -> Random {
@@ -41,8 +42,27 @@ fn insert_edge(tree: &mut Node, random: &mut Random) {
     }
 }
 
-/// A series of sound and damaged trees over one session.
-pub fn series(random: &mut Random) -> Vec<Call> {
+/// The words of a session: document 01's, in two fields or in three; or up to 24 that trees use as names, or of any bytes.
+pub fn words(random: &mut Random) -> Words {
+    match random.below(10) {
+        0..=4 => return None,
+        5 => return Some(six()),
+        _ => {}
+    }
+    let count = *random.pick(&[0, 1, 2, 3, 6, 12, 24]);
+    let mut list = Vec::new();
+    while list.len() < count {
+        let length = *random.pick(&[1, 2, 31, 32]);
+        let word = if random.often(150) { random.bytes(length) } else { name(random.below(40)) };
+        if !list.contains(&word) {
+            list.push(word);
+        }
+    }
+    Some(list)
+}
+
+/// A series of sound and damaged trees over one session of these words.
+pub fn series(random: &mut Random, words: &Words) -> Series {
     let count = if random.often(20) { random.between(10, 60) } else { random.between(1, 6) };
     let damaged = *random.pick(&[0, 0, 150, 400]);
     let mut globals = Vec::new();
@@ -52,7 +72,7 @@ pub fn series(random: &mut Random) -> Vec<Call> {
         let repeated = last.take().filter(|_| random.often(damaged));
         let tree = repeated.unwrap_or_else(|| {
             let style = Style::random(random);
-            let (mut tree, names) = Grammar::new(random, style, std::mem::take(&mut globals)).program();
+            let (mut tree, names) = Grammar::new(random, style, std::mem::take(&mut globals), listed(words)).program();
             globals = names;
             if random.often(20) {
                 insert_edge(&mut tree, random);
@@ -63,5 +83,5 @@ pub fn series(random: &mut Random) -> Vec<Call> {
         calls.push(Call { tree: bytes, lending: lending(random) });
         last = Some(tree);
     }
-    calls
+    Series { words: words.clone(), calls }
 }

@@ -66,6 +66,8 @@ pub struct Grammar<'a> {
     style: Style,
     left: usize,
     scopes: Vec<Vec<Vec<u8>>>,
+    /// The session's words.
+    words: Vec<Vec<u8>>,
 }
 
 /// The name with this number: a letter, then letters and digits.
@@ -75,9 +77,9 @@ pub fn name(number: usize) -> Vec<u8> {
 }
 
 impl<'a> Grammar<'a> {
-    /// Begins with these globals.
-    pub fn new(random: &'a mut Random, style: Style, globals: Vec<Vec<u8>>) -> Self {
-        Grammar { random, left: style.budget, style, scopes: vec![globals] }
+    /// Begins with these globals and these words.
+    pub fn new(random: &'a mut Random, style: Style, globals: Vec<Vec<u8>>, words: Vec<Vec<u8>>) -> Self {
+        Grammar { random, left: style.budget, style, scopes: vec![globals], words }
     }
 
     /// A whole tree, and the globals that there are after it.
@@ -94,6 +96,9 @@ impl<'a> Grammar<'a> {
             let length = *self.random.pick(&[1, 1, 2, 5, 31, 32, 32]);
             return self.random.bytes(length);
         }
+        if !self.words.is_empty() && self.random.often(30) {
+            return self.random.pick(&self.words).clone();
+        }
         name(self.random.below(self.style.names))
     }
 
@@ -104,7 +109,9 @@ impl<'a> Grammar<'a> {
         let scope = self.random.below(self.scopes.len());
         let names = &self.scopes[scope];
         match names.len() {
-            0 => name(*self.random.pick(&[2, 4, 6, 7])),
+            0 if self.words.is_empty() => name(*self.random.pick(&[2, 4, 6, 7])),
+            0 => self.random.pick(&self.words).clone(),
+            _ if !self.words.is_empty() && self.random.often(60) => self.random.pick(&self.words).clone(),
             n => names[self.random.below(n)].clone(),
         }
     }

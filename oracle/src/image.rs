@@ -7,6 +7,7 @@ const MAX_CODE: usize = 32_768;
 const MAX_POOL: usize = 28_672;
 const MAX_CONSTANTS: usize = 4_096;
 const MAX_NAMES: usize = 1_024;
+const MAX_WORDS: usize = 24;
 
 /// The offset of the first wrong field or instruction.
 pub struct Wrong(pub usize);
@@ -41,6 +42,27 @@ impl Reader<'_> {
             at += 1 + opcode.readsize();
         }
         Ok(())
+    }
+
+    /// Name fields up to an end, at most so many.
+    fn names(&mut self, end: usize, most: usize) -> Option<Vec<&[u8]>> {
+        let mut list = Vec::new();
+        while self.at < end {
+            let stop = self.head(&[0x30], end, 32).ok()?;
+            list.push(&self.bytes[self.at + 3..stop]);
+            if stop == self.at + 3 || list.len() > most {
+                return None;
+            }
+            self.at = stop;
+        }
+        Some(list)
+    }
+
+    /// Words up to an end: names of which none stands twice.
+    fn words(&mut self, end: usize) -> Option<()> {
+        let list = self.names(end, MAX_WORDS)?;
+        let repeated = (0..list.len()).any(|k| list[..k].contains(&list[k]));
+        (!repeated).then_some(())
     }
 
     fn pool(&mut self) -> Result<(), Wrong> {
@@ -84,20 +106,22 @@ pub fn check(image: &[u8]) -> Result<Vec<usize>, Wrong> {
     }
 }
 
+/// Reads bytes that are handed over as words: nothing where they are none.
+pub fn handed(bytes: &[u8]) -> Option<()> {
+    Reader { bytes, at: 0, literals: Vec::new() }.words(bytes.len())
+}
+
 /// Reads a session's 65,536 bytes: the pool's field, and the offsets of the literal bytes; or nothing where the layout is broken.
 pub fn session(bytes: &[u8]) -> Option<(Range<usize>, Vec<usize>)> {
     let mut reader = Reader { bytes, at: 0, literals: Vec::new() };
-    let end = reader.head(&[0x40], bytes.len(), usize::MAX).ok()?;
-    reader.at = 3;
-    let mut names = 0;
-    while reader.at < end {
-        let stop = reader.head(&[0x30], end, 32).ok()?;
-        names += 1;
-        if stop == reader.at + 3 || names > MAX_NAMES {
-            return None;
-        }
-        reader.at = stop;
+    if bytes.first() == Some(&0x42) {
+        let end = reader.head(&[0x42], bytes.len(), usize::MAX).ok()?;
+        reader.at = 3;
+        reader.words(end)?;
     }
+    let end = reader.head(&[0x40], bytes.len(), usize::MAX).ok()?;
+    reader.at += 3;
+    reader.names(end, MAX_NAMES)?;
     reader.pool().ok()?;
     let zeros = bytes[reader.at..].iter().all(|b| *b == 0);
     zeros.then_some((end..reader.at, reader.literals))

@@ -1,5 +1,6 @@
 //! The benchmark's inputs: a tree, and the trees that filled its session before.
 use crate::node::{self, Body, Node};
+use crate::reference::Words;
 use crate::tree::to_string;
 
 /// The input whose identifiers are all globals, looked up from main.
@@ -7,12 +8,13 @@ pub const GLOBALS: &str = "1,024 globals, 2,100 identifiers";
 
 pub struct Input {
     pub name: String,
+    pub words: Words,
     pub before: Vec<Vec<u8>>,
     pub tree: Vec<u8>,
 }
 
 fn input(name: String, before: Vec<Vec<u8>>, statements: Vec<Node>) -> Input {
-    Input { name, before, tree: node::program(statements).bytes() }
+    Input { name, words: None, before, tree: node::program(statements).bytes() }
 }
 
 fn id(name: &str) -> Node {
@@ -143,6 +145,15 @@ fn lookups() -> Vec<Input> {
     ]
 }
 
+/// Lookups of the most and longest words, which differ in their last byte, beside 1,024 globals.
+fn word_lookups() -> Input {
+    let words: Vec<_> = (0..24u8).map(|n| [vec![b'w'; 31], vec![b'a' + n]].concat()).collect();
+    let uses = (0..900).map(|n| node::identifier(&words[n * 7 % 24])).collect();
+    let before = vec![defining(&global_names(1024))];
+    let name = "24 words of 32 bytes and 1,024 globals, 900 identifiers of words".into();
+    Input { words: Some(words), ..input(name, before, vec![node::expr_stmt(node::array(uses))]) }
+}
+
 /// The names of a tree's identifiers, in the order of the bytes.
 pub fn identifiers(tree: &[u8]) -> Vec<String> {
     fn add(node: &Node, names: &mut Vec<String>) {
@@ -178,5 +189,6 @@ pub fn all() -> Vec<Input> {
     }
     list.extend(full_session());
     list.extend(lookups());
+    list.push(word_lookups());
     list
 }

@@ -6,6 +6,7 @@ pub const TABLE_SIZE: usize = 16_384;
 
 extern "C" {
     fn monkey_make_session(session: *mut u8, session_length: usize) -> u64;
+    fn monkey_make_session_words(session: *mut u8, session_length: usize, names: *const u8, names_length: usize) -> u64;
     fn monkey_compile(
         session: *mut u8,
         session_length: usize,
@@ -17,6 +18,20 @@ extern "C" {
         code_length: usize,
         table: *mut u32,
         table_length: usize,
+    ) -> u64;
+    fn monkey_compile_names(
+        session: *mut u8,
+        session_length: usize,
+        tree: *const u8,
+        tree_length: usize,
+        output: *mut u8,
+        output_length: usize,
+        code: *mut u8,
+        code_length: usize,
+        table: *mut u32,
+        table_length: usize,
+        names: *mut u32,
+        names_length: usize,
     ) -> u64;
     fn monkey_list_image(image: *const u8, image_length: usize, output: *mut u8, output_length: usize) -> u64;
     fn monkey_load_tree(seed: u32, output: *mut u8, output_length: usize) -> u64;
@@ -42,6 +57,11 @@ pub fn make_session(session: &mut [u8]) -> Answer {
     unpack(unsafe { monkey_make_session(session.as_mut_ptr(), session.len()) })
 }
 
+/// A session with words, their name fields one behind the other.
+pub fn make_session_words(session: &mut [u8], names: &[u8]) -> Answer {
+    unpack(unsafe { monkey_make_session_words(session.as_mut_ptr(), session.len(), names.as_ptr(), names.len()) })
+}
+
 pub fn compile(session: &mut [u8], tree: &[u8], output: &mut [u8], code: &mut [u8], table: &mut [u32]) -> Answer {
     unpack(unsafe {
         monkey_compile(
@@ -57,6 +77,37 @@ pub fn compile(session: &mut [u8], tree: &[u8], output: &mut [u8], code: &mut [u
             table.len(),
         )
     })
+}
+
+/// A call with records: the answer, and the count.
+pub fn compile_names(
+    session: &mut [u8],
+    tree: &[u8],
+    output: &mut [u8],
+    code: &mut [u8],
+    table: &mut [u32],
+    names: &mut [u32],
+) -> (Answer, usize) {
+    let answer = unpack(unsafe {
+        monkey_compile_names(
+            session.as_mut_ptr(),
+            session.len(),
+            tree.as_ptr(),
+            tree.len(),
+            output.as_mut_ptr(),
+            output.len(),
+            code.as_mut_ptr(),
+            code.len(),
+            table.as_mut_ptr(),
+            table.len(),
+            names.as_mut_ptr(),
+            names.len(),
+        )
+    });
+    match answer {
+        Answer::Length(both) => (Answer::Length(both & 0xffff), both >> 16),
+        refused => (refused, 0),
+    }
 }
 
 /// What a sound image answers to the check alone.

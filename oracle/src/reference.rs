@@ -9,11 +9,25 @@ use crate::parser::ast;
 use crate::tree;
 use crate::vm::bytecode::Bytecode;
 
-/// Symbol table and constants between two trees, and the names defined so far by global index.
+/// The words of a session: document 01's six where it has two fields, or a list in a first field of its own.
+pub type Words = Option<Vec<Vec<u8>>>;
+
+/// Document 01's words.
+pub fn six() -> Vec<Vec<u8>> {
+    ["len", "puts", "first", "last", "rest", "push"].iter().map(|w| w.as_bytes().to_vec()).collect()
+}
+
+/// The list of words.
+pub fn listed(words: &Words) -> Vec<Vec<u8>> {
+    words.clone().unwrap_or_else(six)
+}
+
+/// Symbol table and constants between two trees, the names defined so far by global index, and the words as the session has them.
 pub struct State {
     pub table: SymbolTable,
     pub constants: Vec<Object>,
     pub names: Vec<Vec<u8>>,
+    pub words: Words,
 }
 
 /// What the Rust made of an accepted tree.
@@ -53,22 +67,28 @@ pub fn last_panic() -> String {
 }
 
 impl State {
-    /// Document 01's builtins, nothing else.
-    pub fn fresh() -> Self {
+    /// These words, nothing else.
+    pub fn begun(words: &Words) -> Self {
         let mut table = SymbolTable::new();
-        for (i, name) in ["len", "puts", "first", "last", "rest", "push"].iter().enumerate() {
-            table.define_builtin(i as u8, name.to_string());
+        for (i, name) in listed(words).iter().enumerate() {
+            table.define_builtin(i as u8, tree::to_string(name));
         }
-        State { table, constants: Vec::new(), names: Vec::new() }
+        State { table, constants: Vec::new(), names: Vec::new(), words: words.clone() }
     }
 
-    /// The session that holds these names and constants, without the zeros behind.
-    pub fn session(&self) -> Vec<u8> {
-        let mut names = Vec::new();
-        self.names.iter().for_each(|n| field(&mut names, 0x30, n));
+    /// Names and constants as a session's fields 40 and 51.
+    pub fn names_and_pool(&self) -> Vec<u8> {
         let mut out = Vec::new();
-        field(&mut out, 0x40, &names);
+        field(&mut out, 0x40, &name_fields(&self.names));
         field(&mut out, 0x51, &constants(&self.constants));
+        out
+    }
+
+    /// The session that holds words, names and constants, without the zeros behind.
+    pub fn session(&self) -> Vec<u8> {
+        let mut out = Vec::new();
+        self.words.iter().for_each(|list| field(&mut out, 0x42, &name_fields(list)));
+        out.extend(self.names_and_pool());
         out
     }
 }
@@ -81,6 +101,13 @@ impl Accepted {
         field(&mut out, 0x51, &constants(&self.state.constants));
         out
     }
+}
+
+/// Names as fields, one behind the other.
+pub fn name_fields(names: &[Vec<u8>]) -> Vec<u8> {
+    let mut out = Vec::new();
+    names.iter().for_each(|n| field(&mut out, 0x30, n));
+    out
 }
 
 /// Adds a field; of a content above 65,535 bytes, which passes every limit, only the tag and FFFF.
@@ -179,7 +206,8 @@ pub fn compile(state: &State, bytes: &[u8]) -> Outcome {
     let message = match compiled {
         Ok(Ok(bytecode)) => {
             let names = state.names.iter().cloned().chain(new_names).collect();
-            let state = State { table: table.borrow().clone(), constants: bytecode.constants, names };
+            let words = Some(listed(&state.words));
+            let state = State { table: table.borrow().clone(), constants: bytecode.constants, names, words };
             return Outcome::Accepted(Accepted { code: bytecode.instructions.0, state });
         }
         Ok(Err(error)) => format!("err {error}"),

@@ -1,5 +1,6 @@
 //! A series of compile calls over one session, and the memory that is lent to them.
 use crate::port::{self, Answer, CODE_SIZE, SESSION_SIZE, TABLE_SIZE};
+use crate::reference::{name_fields, State, Words};
 
 /// Bytes and numbers behind what is lent at most; they must stay.
 const GUARD: usize = 64;
@@ -42,6 +43,20 @@ impl Call {
     }
 }
 
+/// A series: the words of its session, and its calls.
+#[derive(Clone)]
+pub struct Series {
+    pub words: Words,
+    pub calls: Vec<Call>,
+}
+
+impl Series {
+    /// From document 01's fresh session.
+    pub fn fresh(calls: Vec<Call>) -> Series {
+        Series { words: None, calls }
+    }
+}
+
 /// Session, output and work areas, each with a guard behind.
 pub struct Lent {
     pub session: Vec<u8>,
@@ -75,20 +90,33 @@ fn all<T: PartialEq + Copy>(part: &[T], value: T) -> bool {
 
 impl Lent {
     /// Makes a session in 65,536 bytes; says what is wrong with it.
-    pub fn make(&mut self) -> Result<(), String> {
+    pub fn make(&mut self, words: &Words) -> Result<(), String> {
         self.session.fill(0x5C);
-        let answer = port::make_session(&mut self.session[..SESSION_SIZE]);
-        let fresh = [0x40, 0, 0, 0x51, 0, 0];
+        let part = &mut self.session[..SESSION_SIZE];
+        let answer = match words {
+            None => port::make_session(part),
+            Some(list) => port::make_session_words(part, &name_fields(list)),
+        };
         if answer != Answer::Length(SESSION_SIZE) {
             return Err(format!("making a session answers {answer:?}"));
         }
-        if self.session[..6] != fresh || !all(&self.session[6..SESSION_SIZE], 0) {
-            return Err("a fresh session is not as document 01 says".into());
+        if self.session_bytes() != padded(&State::begun(words).session()) {
+            return Err("a session that was made is not as the documents say".into());
         }
         if !all(&self.session[SESSION_SIZE..], 0x5C) {
             return Err("making a session wrote past 65,536".into());
         }
         Ok(())
+    }
+
+    /// Hands these bytes over as words; the answer, and whether a refusal wrote anything.
+    pub fn hand(&mut self, names: &[u8]) -> Result<Answer, String> {
+        self.session.fill(0x5C);
+        let answer = port::make_session_words(&mut self.session[..SESSION_SIZE], names);
+        match answer {
+            Answer::Refused(..) if !all(&self.session, 0x5C) => Err("words that are refused changed the session".into()),
+            _ => Ok(answer),
+        }
     }
 
     /// One call; says what it wrote where nothing may be written, or left in the work areas.

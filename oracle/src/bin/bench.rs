@@ -67,7 +67,7 @@ unsafe fn scan(session: &[u8]) -> u64 {
 
 impl Subject {
     fn new(input: &Input) -> Subject {
-        let mut state = State::fresh();
+        let mut state = State::begun(&input.words);
         for tree in &input.before {
             let Outcome::Accepted(accepted) = reference::compile(&state, tree) else { panic!("{}", input.name) };
             state = accepted.state;
@@ -94,7 +94,8 @@ impl Subject {
     }
 
     fn copy(&self) -> State {
-        State { table: self.state.table.clone(), constants: self.state.constants.clone(), names: Vec::new() }
+        let (table, constants) = (self.state.table.clone(), self.state.constants.clone());
+        State { table, constants, names: Vec::new(), words: None }
     }
 
     /// The proved compiler: the whole call.

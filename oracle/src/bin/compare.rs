@@ -6,7 +6,8 @@ use std::time::{Duration, Instant};
 use oracle::check::Both;
 use oracle::hex::hex;
 use oracle::pairs::{twin, Pair};
-use oracle::series::Call;
+use oracle::reference::listed;
+use oracle::series::{Call, Series};
 use oracle::{cases, draw, edges, enumerate, port, reduce, reference};
 
 /// Differences after which a run ends.
@@ -33,19 +34,25 @@ impl Run {
         self.differ >= ENOUGH || Instant::now() >= self.until
     }
 
-    fn report(&mut self, what: &str, text: &str, calls: &[Call]) {
+    fn report(&mut self, what: &str, text: &str, series: &Series) {
         self.differ += 1;
         println!("differ: {what}: {text}");
-        for call in calls {
+        if series.words.is_some() {
+            println!("  words {}", hex(&reference::name_fields(&listed(&series.words))));
+        }
+        for call in &series.calls {
             println!("  {} {:?}", hex(&call.tree), call.lending);
         }
     }
 
     /// One series on both sides.
-    fn series(&mut self, what: &str, calls: &[Call]) {
-        let Err((at, text)) = self.both.series(calls) else { return };
+    fn series(&mut self, what: &str, series: &Series) {
+        let Err((at, text)) = self.both.series(series) else { return };
         let mut both = Both::default();
-        let small = reduce::reduce(&calls[..=at], &mut |calls| both.series(calls).is_err());
+        let words = &series.words;
+        let with = |calls: &[Call]| Series { words: words.clone(), calls: calls.to_vec() };
+        let first = &series.calls[..series.calls.len().min(at + 1)];
+        let small = with(&reduce::reduce(first, &mut |calls| both.series(&with(calls)).is_err()));
         self.report(what, &text, &small);
         if let Err((_, text)) = both.series(&small) {
             println!("  {text}");
@@ -57,16 +64,16 @@ impl Run {
             if self.over() {
                 return;
             }
-            let calls: Vec<_> = edge.trees.into_iter().map(Call::full).collect();
+            let series = Series::fresh(edge.trees.into_iter().map(Call::full).collect());
             let before = self.both.counts.clone();
-            self.series(&edge.name, &calls);
+            self.series(&edge.name, &series);
             let after = &self.both.counts;
             let kept = match edge.number {
                 None => after.accepted > before.accepted,
                 Some(n) => after.refused[n] + after.limits[n] > before.refused[n] + before.limits[n],
             };
             if !kept {
-                self.report(&edge.name, &format!("due is {:?}", edge.number), &calls);
+                self.report(&edge.name, &format!("due is {:?}", edge.number), &series);
             }
         }
     }
@@ -80,14 +87,14 @@ impl Run {
                 if group.is_empty() || self.over() {
                     break;
                 }
-                self.series("short strings", &group);
+                self.series("short strings", &Series::fresh(group));
             }
         }
         for tree in enumerate::trees(fields) {
             if self.over() {
                 return;
             }
-            self.series("few fields", &[Call::full(tree)]);
+            self.series("few fields", &Series::fresh(vec![Call::full(tree)]));
         }
     }
 
@@ -97,7 +104,7 @@ impl Run {
             if self.over() {
                 return;
             }
-            self.series(&format!("load, seed {seed}"), &[Call::full(port::load_tree(seed))]);
+            self.series(&format!("load, seed {seed}"), &Series::fresh(vec![Call::full(port::load_tree(seed))]));
         }
     }
 
@@ -106,8 +113,10 @@ impl Run {
         let mut number = 0;
         let end = self.both.counts.trees + trees;
         while self.both.counts.trees < end && !self.over() {
-            let calls = draw::series(&mut draw::numbered(seed, number));
-            self.series(&format!("seed {seed}, series {number}"), &calls);
+            let mut random = draw::numbered(seed, number);
+            let words = draw::words(&mut random);
+            let series = draw::series(&mut random, &words);
+            self.series(&format!("seed {seed}, series {number}"), &series);
             number += 1;
         }
     }
@@ -117,15 +126,17 @@ impl Run {
         let mut number = 0;
         while self.pairs < pairs && !self.over() {
             let mut random = draw::numbered(!seed, number);
-            let first = draw::series(&mut random);
+            let words = draw::words(&mut random);
+            let first = draw::series(&mut random, &words);
             let second = twin(&first, &mut random);
             let what = format!("seed {seed}, pair {number}");
             if let Err((at, text)) = self.pair.series(&first, &second) {
-                self.report(&what, &text, &first[..=at]);
-                self.report(&what, "its twin", &second[..=at]);
+                let upto = |s: &Series| Series { words: s.words.clone(), calls: s.calls[..s.calls.len().min(at + 1)].to_vec() };
+                self.report(&what, &text, &upto(&first));
+                self.report(&what, "its twin", &upto(&second));
             }
             self.series(&what, &second);
-            self.pairs += first.len() as u64;
+            self.pairs += first.calls.len() as u64;
             number += 1;
         }
     }
@@ -137,7 +148,7 @@ impl Run {
             some.map(|(number, n)| format!("{number} {n}")).collect::<Vec<_>>().join(", ")
         };
         println!(
-            "compared {} trees, {} more refused 22 without the Rust: accepted {}, refused {}; own limits {}; images listed {}; damaged sessions {}; pairs {}; differ {}",
+            "compared {} trees, {} more refused 22 without the Rust: accepted {}, refused {}; own limits {}; images listed {}; damaged sessions {}, lists of words {}; calls with records {}; pairs {}; differ {}",
             counts.trees - counts.limits[22],
             counts.limits[22],
             counts.accepted,
@@ -145,6 +156,8 @@ impl Run {
             listed(&counts.limits),
             counts.images,
             counts.sessions,
+            counts.lists,
+            counts.records,
             self.pairs,
             self.differ
         );

@@ -21,7 +21,7 @@ fn answer(state: &State, word: &str) -> (String, Option<State>) {
 }
 
 fn compile(line: &str, out: &mut impl Write) -> std::io::Result<()> {
-    let mut state = State::fresh();
+    let mut state = State::begun(&None);
     for word in line.split_ascii_whitespace() {
         let (text, next) = answer(&state, word);
         writeln!(out, "{text}")?;
