@@ -4,7 +4,8 @@ use native.Mathlib.Omega.{arith}
 use mathlib.Core.Bool.{Bool, true, false}
 use mathlib.Core.List.{List, [], _∷_, _++_, reverse, reverse-cons, append-assoc}
 use mathlib.Core.Path.{_≡_, refl, sym, ap, subst, _∙_}
-use lib.ListN.{length, set, drop, length-append, length-drop, length-reverse}
+use native.Mathlib.Nat.{not-suc-le-zero}
+use lib.ListN.{length, set, drop, length-append, length-drop, length-reverse, length-set}
 use lib.Dec.{ltb}
 use lib.Seq.{sets, length-sets, drop-drop}
 use Rattle.definition.specs.Basic.{Bytes, pick, byteAt}
@@ -13,9 +14,10 @@ use Rattle.definition.specs.SymbolTable.{Symbol}
 use Rattle.symbol_table.specs.Layout.{symbolOf}
 use Rattle.refinement.proofs.Stores.{sets-behind}
 use Rattle.records.specs.Records.{indexOf}
+use Rattle.records.specs.Call.{overRecords}
 use Rattle.records.specs.declared.Record.{Record}
 use Rattle.trace.specs.Log.{recordAt, logOf}
-use Rattle.names.specs.Rows.{rowOf, rowsOf, filled, Small}
+use Rattle.names.specs.Rows.{rowOf, rowsOf, filled, filledRecords, Small}
 
 -- four stores in a row
 pub row-stored : (l : List ℕ) (i a b c d : ℕ) → set (set (set (set l i a) (i + 1) b) (i + 2) c) (i + 3) d ≡ sets l i (a ∷ b ∷ c ∷ d ∷ [])
@@ -127,3 +129,34 @@ turn-small {l = l} {k = k} t e = subst Small (sym e) (record-small l k (t .bytes
 
 pub turn-long : {xs₀ : List ℕ} {l : Bytes} {n : ℕ} {xs : List ℕ} {k : ℕ} → Turn xs₀ l n xs k → length xs ≡ length xs₀
 turn-long t = t .long
+
+-- one more record to fill, whose place is its number
+pub filled-more : (l : Bytes) (m : ℕ) (r : Record) (rs : List Record) → r ≡ recordAt l m → filledRecords l m (set rs m r) ≡ filledRecords l (suc m) rs
+unfolding filledRecords
+filled-more l m r rs e = ap (λ y. filledRecords l m (set rs m y)) e
+
+pub filled-none : (l : Bytes) (rs : List Record) → rs ≡ filledRecords l 0 rs
+unfolding filledRecords
+filled-none l rs = refl
+
+-- what is behind a place that was set
+drop-set-here : (n : ℕ) (rs : List Record) (r : Record) → n < length rs → drop n (set rs n r) ≡ r ∷ drop (suc n) rs
+drop-set-here n [] r h = absurd (not-suc-le-zero h)
+drop-set-here zero (x ∷ rs) r h = refl
+drop-set-here (suc n) (x ∷ rs) r h = drop-set-here n rs r (omega arith)
+
+-- what is filled so: the log's records in walk order, and the rest
+pub filled-records : (l : Bytes) (n : ℕ) (rs : List Record) → n ≤ length rs → filledRecords l n rs ≡ overRecords (reverse (logOf l n)) rs
+unfolding filledRecords logOf
+filled-records l zero rs h = refl
+filled-records l (suc n) rs h =
+    let r : Record = recordAt l n in
+    let front : List Record = reverse (logOf l n) in
+    let size : length (reverse (logOf l n)) ≡ n = length-reverse (logOf l n) ∙ length-log l n in
+    let one : length (reverse (logOf l n) ++ (r ∷ [])) ≡ suc n = length-append front (r ∷ []) ∙ omega arith in
+    let all : length (reverse (r ∷ logOf l n)) ≡ suc n = ap length (reverse-cons r (logOf l n)) ∙ one in
+    filled-records l n (set rs n r) (omega (arith, length-set rs n r))
+    ∙ ap (λ k. front ++ drop k (set rs n r)) size
+    ∙ ap (λ ys. front ++ ys) (drop-set-here n rs r (omega arith))
+    ∙ sym (append-assoc front (r ∷ []) (drop (suc n) rs))
+    ∙ (λ i. sym (reverse-cons r (logOf l n)) i ++ drop (sym all i) rs)

@@ -1,6 +1,7 @@
 -- Records as rows of four numbers, for a caller that lends numbers.
 use Prim.Native.Nat.{ℕ, zero, suc, _*_, _<_}
 use mathlib.Core.List.{List, [], _∷_, _++_}
+use lib.ListN.{set}
 use lib.Seq.{sets}
 use Rattle.definition.specs.Basic.{Bytes}
 use Rattle.records.specs.declared.Kind.{Kind}
@@ -29,6 +30,11 @@ rowsOf (r ∷ rs) = rowOf r ++ rowsOf rs
 unfoldable pub filled : Bytes → ℕ → List ℕ → List ℕ
 filled l zero xs = xs
 filled l (suc n) xs = sets (filled l n xs) (4 * n) (rowOf (recordAt l n))
+
+-- the first so many records of a log, each over its place, the last first
+unfoldable pub filledRecords : Bytes → ℕ → List Record → List Record
+filledRecords l zero rs = rs
+filledRecords l (suc k) rs = filledRecords l k (set rs k (recordAt l k))
 
 -- its numbers have 32 bits
 pub record Small (r : Record) : Type 0 where

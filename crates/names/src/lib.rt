@@ -10,7 +10,7 @@ ghost use Prim.Native.Nat.{_+_, _*_, _≤_};
 ghost use lib.ListN.{length};
 ghost use lib.Seq.{sets};
 ghost use Rattle.compiler.specs.Stage.{lentOf};
-ghost use Rattle.names.specs.Rows.{kindNumber, rowOf, filled, Small};
+ghost use Rattle.names.specs.Rows.{kindNumber, rowOf, filled, filledRecords, Small};
 ghost use Rattle.names.specs.Promise.{Names};
 
 // The number of a kind, in document 02's order.
@@ -50,6 +50,20 @@ fn fill_rows(rows: &mut [u32], log: &[u8], n: usize)
         let r = record_at(log, k);
         put_row(rows, 4 * k, r);
         k += 1;
+    }
+}
+
+// Writes the first n records of a log over the caller's records, the last first.
+pub fn fill_records(records: &mut [Record], log: &[u8], n: usize)
+    requires { ⌜ n ≤ length (now records) ⌝ }
+    requires { ⌜ 4 * n ≤ length (now log) ⌝ }
+    ensures { λ _. ⌜ now (records .exit) ≡ filledRecords (now (log .entry)) n (now (records .entry)) ⌝ }
+{
+    if n != 0 {
+        let k = n - 1;
+        let r = record_at(log, k);
+        records[k] = r;
+        fill_records(records, log, k);
     }
 }
 
