@@ -2,7 +2,7 @@
 use Prim.Native.Nat.{ℕ, _*_, _/_, _≤_}
 use native.Mathlib.Omega.{arith}
 use mathlib.Core.List.{List, _++_, reverse}
-use mathlib.Core.Path.{_≡_, sym, ap, _∙_}
+use mathlib.Core.Path.{_≡_, refl, sym, ap, _∙_}
 use lib.ListN.{length, take, drop, length-reverse, length-replicate}
 use lib.Seq.{take-at}
 use Rattle.definition.specs.Basic.{Bytes}
@@ -13,9 +13,9 @@ use Rattle.compiler.specs.Stage.{lentOf}
 use Rattle.trace.specs.Log.{logOf}
 use Rattle.trace.specs.Promise.{Traces, withoutLog}
 use Rattle.trace.specs.declared.CallTrace.{CallTrace}
-use Rattle.names.specs.Rows.{rowsOf, filled}
-use Rattle.names.specs.Promise.{blanks, callNames, Names}
-use Rattle.names.proofs.Rows.{length-log, filled-rows}
+use Rattle.names.specs.Rows.{rowsOf, filled, filledRecords}
+use Rattle.names.specs.Promise.{blanks, callNames, Names, Records}
+use Rattle.names.proofs.Rows.{length-log, filled-rows, filled-records}
 
 -- the numbers and the log have room for the records
 rows-room : {tree : Bytes} {l : Lent} (xs : List ℕ) {t : CallTrace} {l′ : Lent} → Traces tree l (length xs / 4) t l′ → 4 * t .count ≤ length xs
@@ -39,4 +39,15 @@ named-call {tree} {l} {xs} {xs′} {t} {e} {o} {c} {t′} {c′} h f g =
       lent = λ i. lentOf (h .session rs size i) (h .output rs size i) ((g ∙ h .code rs size) i) (h .table rs size i);
       few = h .few;
       rows = f ∙ filled-rows c (t .count) xs (rows-room xs h) ∙ (λ i. rowsOf (sym front i) ++ drop (4 * t .count) xs) ∙ (λ i. rowsOf (take (h .count rs size i) (callRecords tree l rs .records)) ++ drop (4 * h .count rs size i) xs);
+    }
+
+-- the call, the filled records and the cleared log are the definition's call: what a caller of `compile_log`, `fill_records` and `clear_log` has
+pub recorded-call : {tree : Bytes} {l : Lent} {rs rs′ : List Record} {t : CallTrace} {e o c t′ : List ℕ} {c′ : Bytes} → Traces tree l (length rs) t (lentOf e o c t′) → rs′ ≡ filledRecords c (t .count) rs → c′ ≡ withoutLog (t .answer) c
+    → Records tree l rs t (lentOf e o c′ t′) rs′
+recorded-call {rs = rs} {t = t} {c = c} h f g =
+    record {
+      answer = h .answer rs refl;
+      count = h .count rs refl;
+      lent = λ i. lentOf (h .session rs refl i) (h .output rs refl i) ((g ∙ h .code rs refl) i) (h .table rs refl i);
+      records = f ∙ filled-records c (t .count) rs (h .within) ∙ h .records rs refl;
     }

@@ -37,3 +37,10 @@ pub record Names (tree : Bytes) (l : Lent) (xs : List ℕ) (r : CallTrace) (l′
   pub lent : l′ ≡ callNames tree l xs .called .lent
   pub rows : xs′ ≡ callNames tree l xs .rows
   pub few : 4 * r .count ≤ codeSize
+
+-- the same of a caller's records, over which `fill_records` has written
+pub record Records (tree : Bytes) (l : Lent) (rs : List Record) (r : CallTrace) (l′ : Lent) (rs′ : List Record) : Type 0 where
+  pub answer : r .answer ≡ callRecords tree l rs .called .answer
+  pub count : r .count ≡ callRecords tree l rs .count
+  pub lent : l′ ≡ callRecords tree l rs .called .lent
+  pub records : rs′ ≡ callRecords tree l rs .records

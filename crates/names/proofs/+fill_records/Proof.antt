@@ -237,7 +237,7 @@ module _ {M : Type 1} (𝓤 : URA M) (H : Heap 𝓤) (A : Atoms 𝓤) (W : Given
         -- [the tokens; the last list; …; log; n; _11; …]
         land-last ! (from ! (stop !)) (init ! 9 refl (fits-unit v (ap only is-unit))) $ exec ! C Λ _ body.t-3 (atRet _ (Post ys (suc m))) $
         assigns ! (of-opd ! (unit-lit !)) (from ! (stop !)) (init ! 27 refl (tt, tt)) $
-        returns ! (look ! 27 refl) $ forget ! 5 refl $ forget ! 7 refl $ forget ! 9 refl $ forget ! 11 refl $ forget ! 13 refl $ forget ! 15 refl $ forget ! 17 refl $ forget ! 19 refl $ forget ! 21 refl $ forget ! 23 refl $ forget ! 25 refl $ forget ! 27 refl $ 
+        returns ! (look ! 27 refl) $ forget ! 5 refl $ forget ! 7 refl $ forget ! 9 refl $ forget ! 11 refl $ forget ! 13 refl $ forget ! 15 refl $ forget ! 17 refl $ forget ! 19 refl $ forget ! 21 refl $ forget ! 23 refl $ forget ! 25 refl $ forget ! 27 refl $
         move ! (27 ∷ 28 ∷ []) $ free1 ! $ move ! (25 ∷ 26 ∷ []) $ free1 ! $ move ! (23 ∷ 24 ∷ []) $ free1 ! $ move ! (21 ∷ 22 ∷ []) $ free1 ! $ move ! (19 ∷ 20 ∷ []) $ free1 ! $ move ! (17 ∷ 18 ∷ []) $ free1 ! $ move ! (15 ∷ 16 ∷ []) $ free1 ! $ move ! (13 ∷ 14 ∷ []) $ free1 ! $ move ! (11 ∷ 12 ∷ []) $ free1 ! $ move ! (9 ∷ 10 ∷ []) $ free1 ! $ move ! (7 ∷ 8 ∷ []) $ free1 ! $ move ! (5 ∷ 6 ∷ []) $ free1 ! $ free0 ! $
         move ! (4 ∷ []) $ fsplit ! $ keep ! (2 ∷ 3 ∷ 5 ∷ 0 ∷ []) $ by ! (exits ys (ws .0) (suc m) (done-so ∙ filled-more ls m r ys e) (l ∙ length-set ys m r))))))))))))))
         (λ z. absurd z)))))))))))))
