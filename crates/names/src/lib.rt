@@ -11,7 +11,7 @@ ghost use lib.ListN.{length};
 ghost use lib.Seq.{sets};
 ghost use Rattle.compiler.specs.Stage.{lentOf};
 ghost use Rattle.names.specs.Rows.{kindNumber, rowOf, filled, filledRecords, Small};
-ghost use Rattle.names.specs.Promise.{Names};
+ghost use Rattle.names.specs.Promise.{Names, Records};
 
 // The number of a kind, in document 02's order.
 fn kind_number(kind: Kind) -> u32
@@ -84,5 +84,22 @@ pub fn compile_names(
     let answer = t.answer;
     fill_rows(rows, code, t.count);
     clear_log(code, answer);
+    t
+}
+
+// Compiles a tree in a session as `compile` does, and writes the records of its Identifiers in walk order over the caller's; 18 where those are too few.
+pub fn compile_with_records(
+    session: &mut [u8],
+    tree: &[u8],
+    output: &mut [u8],
+    code: &mut [u8],
+    table: &mut [u32],
+    records: &mut [Record],
+) -> CallTrace
+    ensures { λ r. ⌜ Records (now (tree .entry)) (lentOf (now (session .entry)) (now (output .entry)) (now (code .entry)) (now (table .entry))) (now (records .entry)) r (lentOf (now (session .exit)) (now (output .exit)) (now (code .exit)) (now (table .exit))) (now (records .exit)) ⌝ }
+{
+    let t = compile_log(session, tree, output, code, table, records.len());
+    fill_records(records, code, t.count);
+    clear_log(code, t.answer);
     t
 }
