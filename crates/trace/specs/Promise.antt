@@ -47,7 +47,7 @@ Counts (stop r s) n = Unit {0}
 
 -- where session and tree read: how many records the names' walk gives, and the length of the session's names
 pub record LooksAhead (tree e : Bytes) (r : Outlook) : Type 0 where
-  pub names : (z : Session) (m : ℕ) (b : Stmts) (k : ℕ) → readSession e ≡ decoded z m → readTree tree ≡ Parsed.parsed b k → r .names ≡ length (namesBytes (z .globals))
+  pub older : (z : Session) (m : ℕ) (b : Stmts) (k : ℕ) → readSession e ≡ decoded z m → readTree tree ≡ Parsed.parsed b k → r .names ≡ length (namesBytes (z .globals))
   pub count : (z : Session) (m : ℕ) (b : Stmts) (k : ℕ) → readSession e ≡ decoded z m → readTree tree ≡ Parsed.parsed b k → Counts (walkStmts naming b (names (wordList (z .words)) [] (z .globals) [])) (r .count)
 
 -- the names of an earlier session, so many bytes of them, lie in front of a session's names
