@@ -6,3 +6,7 @@ pub mod Nodes
 pub mod Passing
 pub mod Function
 pub mod Tree
+pub mod Ahead
+pub mod Grown
+pub mod Older
+pub mod Calls
