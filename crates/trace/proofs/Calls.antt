@@ -27,7 +27,7 @@ use Rattle.definition.proofs.WalkPlaces.{Refuses, refuses-stmts, machine-local}
 use Rattle.compiler.proofs.Whole.{call-enough, compile-is}
 use Rattle.records.specs.Records.{Logged, logged, logging, mentions, Traced, untraced, finishRecords, translateRecords, compileRecords}
 use Rattle.records.specs.Naming.{Names, names, namesOf, naming}
-use Rattle.records.specs.Call.{Recorded, unrecorded, recorded, inSessionRecords, callRecords}
+use Rattle.records.specs.Call.{Recorded, unrecorded, recorded, overRecords, inSessionRecords, callRecords}
 use Rattle.records.specs.declared.Record.{Record}
 use Rattle.records.proofs.Track.{Tracked}
 use Rattle.records.proofs.Logged.{Erased, walk-erased}
@@ -154,3 +154,14 @@ module _ (tree : Bytes) (l : Lent) (c₁ : Bytes) (t₁ : List ℕ) (lc : length
       go : (d : Decoded Session) → inSession used tree d ≡ inSession l tree d
       go (decoded z n) = ap (λ c. answered used (compile z c .session) (compile z c .outcome)) same-request ∙ step-same (compile z (request l tree))
       go (malformed p) = step-same (turnedDown (record { words = six; globals = []; pool = [] }) (refusal Number.noSession 0))
+
+  recorded-same : (rs : List Record) (x : Traced) → recorded used rs x ≡ recorded l rs x
+  recorded-same rs x = λ i. record { called = step-same (x .step) i; count = length (x .records); records = overRecords (x .records) rs }
+
+  pub used-records : enough (request l tree) ≡ true → (rs : List Record) → callRecords tree used rs ≡ callRecords tree l rs
+  used-records big rs =
+      records-enough tree used (subst (λ c. enough c ≡ true) (sym same-request) big) rs ∙ go (readSession (take sessionSize (l .session))) ∙ sym (records-enough tree l big rs)
+    where
+      go : (d : Decoded Session) → inSessionRecords used rs tree d ≡ inSessionRecords l rs tree d
+      go (decoded z n) = ap (λ c. recorded used rs (compileRecords (length rs) z c)) same-request ∙ recorded-same rs (compileRecords (length rs) z (request l tree))
+      go (malformed p) = ap (unrecorded rs) (step-same (turnedDown (record { words = six; globals = []; pool = [] }) (refusal Number.noSession 0)))

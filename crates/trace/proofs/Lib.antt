@@ -10,3 +10,5 @@ pub mod Ahead
 pub mod Grown
 pub mod Older
 pub mod Calls
+pub mod Accepts
+pub mod Tracing

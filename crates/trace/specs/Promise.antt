@@ -56,6 +56,11 @@ pub record HasOlder (e : Bytes) (n : ℕ) : Type 0 where
   pub items : HasItems e (after e 0 + 3) (after e 0 + 3 + n)
   pub words : HasWords (take (after e 0 + 3 + n) e)
 
+-- a work area that was used: its first so many are to be cleared
+pub record Used (n : ℕ) (a a′ : List ℕ) : Type 0 where
+  pub size : length a′ ≡ length a
+  pub clears : cleared n a′ ≡ cleared n a
+
 -- A call with so many records, in which only the records and the code area are left to do: the log has the records to be written, and is still to be
 -- cleared.
 pub record Traces (tree : Bytes) (l : Lent) (room : ℕ) (r : CallTrace) (l′ : Lent) : Type 0 where
