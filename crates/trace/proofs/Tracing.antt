@@ -2,11 +2,11 @@
 use Prim.Native.Nat.{ℕ, _+_, _*_, _≤_, _<_}
 use native.Mathlib.Omega.{arith}
 use mathlib.Core.Bool.{Bool, true, false}
-use mathlib.Core.List.{List, [], _∷_, _++_, reverse, reverseAux}
+use mathlib.Core.List.{List, [], _∷_, _++_, reverse}
 use mathlib.Core.Path.{_≡_, refl, sym, ap, subst, _∙_}
-use lib.ListN.{length, take, drop, replicate, length-append, length-replicate}
+use lib.ListN.{length, take, drop, replicate, length-append, length-replicate, length-reverse, List·getD-append}
 use lib.Dec.{leb, eqb}
-use lib.Seq.{length-front, getD-append-left}
+use lib.Seq.{length-front}
 use borrow.Author.Tests.{le-leb}
 use Rattle.definition.specs.Basic.{Bytes, byteAt, pick, both}
 use Rattle.definition.specs.Limit.{sessionSize, codeSize, tableSize, treeLimit}
@@ -14,7 +14,8 @@ use Rattle.definition.specs.Number
 use Rattle.definition.specs.Number.{refusal}
 use Rattle.definition.specs.Syntax.{Stmts}
 use Rattle.definition.specs.Tree.{Parsed, readTree}
-use Rattle.definition.specs.Walk.{Res}
+use Rattle.definition.specs.Walk.{Res, walkStmts}
+use Rattle.definition.specs.Decode.{wordsIn}
 use Rattle.definition.specs.Compile.{enough}
 use Rattle.definition.specs.Call.{Lent, Called, cleared, request, call}
 use Rattle.definition.specs.Valid.{AreBytes}
@@ -29,7 +30,7 @@ use Rattle.walk.proofs.Tree.{tree-short}
 use Rattle.compiler.specs.Promise.{Compiles}
 use Rattle.compiler.specs.Stage.{lentOf, Long, Lengths}
 use Rattle.compiler.proofs.Lent.{front-length, cleared-again}
-use Rattle.records.specs.Naming.{Names}
+use Rattle.records.specs.Naming.{Names, names, naming}
 use Rattle.records.specs.Call.{Recorded, unrecorded, overRecords, inSessionRecords, callRecords}
 use Rattle.records.specs.declared.Record.{Record}
 use Rattle.trace.specs.Log.{logOf}
@@ -53,28 +54,21 @@ used-front n a x h k = record { size = length-front a x n k; clears = cleared-ag
 
 -- the log in the whole code area
 pub passes-longer : {tree e : Bytes} {from end : ℕ} (l rest : Bytes) {n : ℕ} → verdict (readTree tree) ≡ Good → length l ≡ codeSize → PassesTree tree e from end l n → PassesTree tree e from end (l ++ rest) n
-passes-longer {tree} l rest {n} g k p =
-    record { logs = λ b m t h. longer _ (p .logs b m t h); fits = p .fits }
+passes-longer {tree} {e} {end = end} l rest {n} g k p =
+    record { logs = λ b m t h. longer (walkStmts naming b (names (wordsIn (take end e)) [] (h .names) [])) (p .logs b m t h); fits = p .fits }
   where
     short : length tree ≤ treeLimit
     short = let r = good-reads tree g in tree-short (r .body, record { end = r .end; reads = r .reads })
 
     longer : (y : Res Names (Unit {0})) → Logs y l n → Logs y (l ++ rest) n
-    longer (Res.on a s) e = logs-same l (l ++ rest) n (λ i b. getD-append-left l rest i 0 (omega (arith, short, p .fits))) ∙ e
+    longer (Res.on a s) e = logs-same l (l ++ rest) n (λ i b. List·getD-append l rest 0 i (omega (arith, short, p .fits))) ∙ e
     longer (Res.stop r s) e = tt
 
-pub long-big : {e o c : Bytes} {t : List ℕ} {tree : Bytes} → Long e c t → enough (request (lentOf e o c t) tree) ≡ true
-long-big {e} {o} {c} {t} h = both-intro (le-leb codeSize (length c) (h .code)) (both-intro (le-leb tableSize (length t) (h .table)) (le-leb sessionSize (length e) (h .session)))
+pub long-big : (tree o : Bytes) {e c : Bytes} {t : List ℕ} → Long e c t → enough (request (lentOf e o c t) tree) ≡ true
+long-big tree o {e} {c} {t} h = both-intro (le-leb codeSize (length c) (h .code)) (both-intro (le-leb tableSize (length t) (h .table)) (le-leb sessionSize (length e) (h .session)))
 
 cleared-length : (n : ℕ) (a : List ℕ) → n ≤ length (cleared n a)
-cleared-length n a = omega (arith, length-append (replicate n 0) (drop n a), length-replicate n 0)
-
-length-reversed : (xs : List Record) → length (reverse xs) ≡ length xs
-length-reversed xs = omega (arith, go xs [])
-  where
-    go : (xs ys : List Record) → length (reverseAux xs ys) ≡ length xs + length ys
-    go [] ys = omega arith
-    go (x ∷ xs) ys = omega (arith, go xs (x ∷ ys))
+cleared-length n a = omega (arith, length-append (replicate n 0) (drop n a), length-replicate {A = ℕ} n 0)
 
 -- Few records
 
@@ -97,7 +91,7 @@ few-traces {tree} {e} {o} {c} {t} {e′} {o₀} {c′} {t′} {a} {r} long x z d
     let q = few-refuses a in
     let s : r ≡ Refused (q .0) = d ∙ q .1 in
     rw (s, no-bytes o₀ o z)
-    (untraced-call (λ rs j. few-call tree l look (seen tree l (long-big long)) room h rs j ∙ (λ i. unrecorded rs (record { answer = (ap fewOf (sym (x .answer)) ∙ q .1) i; lent = withOutput o (sym (x .lent) i) }))))
+    (untraced-call (λ rs j. few-call tree l look (seen tree l (long-big tree o long)) room h rs j ∙ (λ i. unrecorded rs (record { answer = (ap fewOf (sym (x .answer)) ∙ q .1) i; lent = withOutput o (sym (x .lent) i) }))))
 
 -- Enough records
 
@@ -108,11 +102,11 @@ module _ {tree e o c : Bytes} {t : List ℕ} {e₁ o₁ c₁ : Bytes} {t₁ : Li
   pub refused-traces : {q : Refusal} → a ≡ Refused q → (k : Outlook) → LooksAhead tree (take sessionSize e) k → (room : ℕ) → k .count ≤ room → Traces tree l room (record { answer = a; count = 0 }) (lentOf e₁ o₁ c₁ t₁)
   refused-traces {q} f k look room h =
       rw f
-      (untraced-call (λ rs j. enough-refused tree l look room h (seen tree l (long-big long)) q (sym (x .answer) ∙ f) rs j ∙ (λ i. unrecorded rs (record { answer = (sym (x .answer) ∙ f) i; lent = sym (x .lent) i }))))
+      (untraced-call (λ rs j. enough-refused tree l look room h (seen tree l (long-big tree o long)) q (sym (x .answer) ∙ f) rs j ∙ (λ i. unrecorded rs (record { answer = (sym (x .answer) ∙ f) i; lent = sym (x .lent) i }))))
 
   module _ {n : ℕ} (f : a ≡ Length n) (bytes : AreBytes (take sessionSize e)) where
     accepted : AcceptedBy tree l
-    accepted = accepted-by tree l (long-big long) (seen tree l (long-big long)) n (sym (x .answer) ∙ f)
+    accepted = accepted-by tree l (long-big tree o long) (seen tree l (long-big tree o long)) n (sym (x .answer) ∙ f)
 
     front : length (take sessionSize e) ≡ sessionSize
     front = sym (front-length sessionSize e (long .session))
@@ -139,7 +133,7 @@ module _ {tree e o c : Bytes} {t : List ℕ} {e₁ o₁ c₁ : Bytes} {t₁ : Li
         let cleared-table : t₃ ≡ call tree l .lent .table = et ∙ ut .clears ∙ ap (λ (z : Lent). cleared tableSize (z .table)) (x .lent) ∙ ap (λ (z : Called). cleared tableSize (z .lent .table)) (y .called) ∙ cleared-twice tableSize t ∙ sym (ap (λ (z : Called). z .lent .table) (y .called)) in
         record {
           answer = λ rs j. x .answer ∙ sym (ap (λ (z : Recorded). z .called .answer) (is rs j));
-          count = λ rs j. many ∙ sym (length-reversed (y .state .records)) ∙ sym (ap (λ (z : Recorded). z .count) (is rs j));
+          count = λ rs j. many ∙ sym (length-reverse (y .state .records)) ∙ sym (ap (λ (z : Recorded). z .count) (is rs j));
           session = λ rs j. session-is ∙ sym (ap (λ (z : Recorded). z .called .lent .session) (is rs j));
           output = λ rs j. ap (λ (z : Lent). z .output) (x .lent) ∙ sym (ap (λ (z : Recorded). z .called .lent .output) (is rs j));
           code = λ rs j. rw f (cleared-code ∙ sym (ap (λ (z : Recorded). z .called .lent .code) (is rs j)));
@@ -160,7 +154,7 @@ module _ {tree e o c : Bytes} {t : List ℕ} {e₁ o₁ c₁ : Bytes} {t₁ : Li
 
 pub used-traces : {tree e o c c₁ : Bytes} {t t₁ : List ℕ} {room : ℕ} {r : CallTrace} {l′ : Lent} → Long e c t → Used codeSize c c₁ → Used tableSize t t₁ → Traces tree (lentOf e o c₁ t₁) room r l′ → Traces tree (lentOf e o c t) room r l′
 used-traces {tree} {e} {o} {c} {c₁} {t} {t₁} long uc ut x =
-    let s : (rs : List Record) → callRecords tree (lentOf e o c₁ t₁) rs ≡ callRecords tree (lentOf e o c t) rs = used-records tree (lentOf e o c t) c₁ t₁ (uc .size) (ut .size) (uc .clears) (ut .clears) (long-big long) in
+    let s : (rs : List Record) → callRecords tree (lentOf e o c₁ t₁) rs ≡ callRecords tree (lentOf e o c t) rs = used-records tree (lentOf e o c t) c₁ t₁ (uc .size) (ut .size) (uc .clears) (ut .clears) (long-big tree o long) in
     record {
       answer = λ rs j. x .answer rs j ∙ ap (λ (z : Recorded). z .called .answer) (s rs);
       count = λ rs j. x .count rs j ∙ ap (λ (z : Recorded). z .count) (s rs);

@@ -118,13 +118,7 @@ fn look_lent(session: &[u8], tree: &[u8], code: &mut [u8], table: &mut [u32]) ->
 }
 
 // The pass after a tree was accepted, in buffers that are large enough: the log is left in the code area.
-fn log_lent(
-    session: &[u8],
-    tree: &[u8],
-    code: &mut [u8],
-    table: &mut [u32],
-    names: usize,
-) -> usize
+fn log_lent(session: &[u8], tree: &[u8], code: &mut [u8], table: &mut [u32], names: usize) -> usize
     requires { ⌜ Long (now session) (now code) (now table) ⌝ }
     requires { ⌜ HasOlder (take sessionSize (now session)) names ⌝ }
     requires { ⌜ verdict (readTree (now tree)) ≡ Good ⌝ }
