@@ -1,18 +1,21 @@
 -- The pass over a tree's names: what the memory stands for, what stands at an offset, and what the functions promise.
 use Prim.Native.Nat.{ℕ, _+_, _*_, _≤_}
+use mathlib.Core.Bool.{Bool}
 use mathlib.Core.Logic.{_⊎_}
 use mathlib.Core.Path.{_≡_}
 use mathlib.Core.List.{List, [], _∷_}
 use lib.ListN.{length, take}
+use lib.Dec.{eqb}
 use Rattle.definition.specs.Basic.{Bytes}
 use Rattle.definition.specs.Limit.{tableSize, nestingLimit, treeLimit}
-use Rattle.definition.specs.Tag.{tagName, tagOperator}
+use Rattle.definition.specs.Tag.{tagExprStmt, tagBlock, tagReturn, tagPrefix, tagIf, tagCall, tagArray, tagIndex, tagHash, tagName, tagOperator}
 use Rattle.definition.specs.Syntax.{Stmt, Stmts, Expr}
 use Rattle.definition.specs.Tree.{readTree, Parsed}
 use Rattle.definition.specs.Walk.{Res, on, stop, bind, Go, walkStmt, walkStmts, walkExpr}
 use Rattle.definition.specs.Decode.{wordsIn}
 use Rattle.field.specs.Layout.{tag, Whole}
 use Rattle.tree.specs.At.{Row}
+use Rattle.tree.specs.Grammar.{either}
 use Rattle.tree.specs.Reads.{ReadsStmt, ReadsExpr, ReadsBlock}
 use Rattle.symbol_table.specs.Layout.{tablesOf, globalsIn, Good}
 use Rattle.symbol_table.specs.Contract.{HasWords, HasItems}
@@ -51,6 +54,11 @@ abbrev pub walkNodes : List Node → Go Names
 walkNodes [] s = on tt s
 walkNodes (x ∷ xs) s = bind (walkNode x s) (λ _. walkNodes xs)
 
+-- the tags whose names are those of their children, in order
+abbrev pub isParent : ℕ → Bool
+isParent t =
+    either (either (either (either (either (either (either (either (eqb t tagExprStmt) (eqb t tagBlock)) (eqb t tagReturn)) (eqb t tagPrefix)) (eqb t tagIf)) (eqb t tagCall)) (eqb t tagArray)) (eqb t tagIndex)) (eqb t tagHash)
+
 -- a whole field of one of two tags
 pub record QuietAt (tree : Bytes) (at : ℕ) : Type 0 where
   pub whole : Whole tree at
@@ -74,7 +82,7 @@ pub record ReadsNodes (tree : Bytes) (at end : ℕ) (xs : List Node) : Type 0 wh
 pub record Standing (tree before : Bytes) (level : ℕ) (t : List ℕ) (l : Bytes) (n size : ℕ) : Type 0 where
   pub words : HasWords before
   pub symbols : Good tree before level t
-  pub level : level ≤ nestingLimit
+  pub depth : level ≤ nestingLimit
   pub area : tableSize ≤ length t
   pub short : length tree ≤ treeLimit
   pub room : 4 * n + size ≤ length l

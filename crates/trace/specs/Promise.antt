@@ -47,7 +47,7 @@ Counts (stop r s) n = Unit {0}
 
 -- where session and tree read: how many records the names' walk gives, and the length of the session's names
 pub record LooksAhead (tree e : Bytes) (r : Outlook) : Type 0 where
-  pub names : (z : Session) (m : ℕ) (b : Stmts) (k : ℕ) → readSession e ≡ decoded z m → readTree tree ≡ Parsed.parsed b k → r .names ≡ length (namesBytes (z .globals))
+  pub older : (z : Session) (m : ℕ) (b : Stmts) (k : ℕ) → readSession e ≡ decoded z m → readTree tree ≡ Parsed.parsed b k → r .names ≡ length (namesBytes (z .globals))
   pub count : (z : Session) (m : ℕ) (b : Stmts) (k : ℕ) → readSession e ≡ decoded z m → readTree tree ≡ Parsed.parsed b k → Counts (walkStmts naming b (names (wordList (z .words)) [] (z .globals) [])) (r .count)
 
 -- the names of an earlier session, so many bytes of them, lie in front of a session's names
@@ -55,6 +55,11 @@ pub record HasOlder (e : Bytes) (n : ℕ) : Type 0 where
   pub whole : Whole e 0
   pub items : HasItems e (after e 0 + 3) (after e 0 + 3 + n)
   pub words : HasWords (take (after e 0 + 3 + n) e)
+
+-- a work area that was used: its first so many are to be cleared
+pub record Used (n : ℕ) (a a′ : List ℕ) : Type 0 where
+  pub size : length a′ ≡ length a
+  pub clears : cleared n a′ ≡ cleared n a
 
 -- A call with so many records, in which only the records and the code area are left to do: the log has the records to be written, and is still to be
 -- cleared.

@@ -18,15 +18,16 @@ use field::after_at;
 use pass::name_tree;
 use tree::Checked;
 ghost use mathlib.Core.Path.{_≡_};
-ghost use Prim.Native.Nat.{_+_};
-ghost use lib.ListN.{length};
+ghost use Prim.Native.Nat.{ℕ, _+_, _<_, _≤_};
+ghost use lib.ListN.{take};
+ghost use Rattle.definition.specs.Limit.{sessionSize, codeSize, tableSize};
 ghost use Rattle.field.specs.Layout.{after};
 ghost use Rattle.definition.specs.Tree.{readTree};
 ghost use Rattle.tree.specs.Check.{verdict};
 ghost use Rattle.tree.specs.declared.Checked.the-variants.{Good};
 ghost use Rattle.compiler.specs.Stage.{lentOf, Long, Lengths};
 ghost use Rattle.trace.specs.Pass.{PassesTree};
-ghost use Rattle.trace.specs.Promise.{withoutLog, LogFits, fewOf, LooksAhead, HasOlder, Traces};
+ghost use Rattle.trace.specs.Promise.{withoutLog, LogFits, fewOf, LooksAhead, HasOlder, Used, Traces};
 
 // What a call with records gives: the answer, and how many records are in the log.
 pub struct CallTrace {
@@ -101,8 +102,89 @@ fn few(answer: Answer) -> Answer
     }
 }
 
+// The pass before a tree is compiled, in buffers that are large enough: it uses the work areas.
+fn look_lent(session: &[u8], tree: &[u8], code: &mut [u8], table: &mut [u32]) -> Outlook
+    requires { ⌜ Long (now session) (now code) (now table) ⌝ }
+    ensures ahead { λ r. ⌜ LooksAhead (now (tree .entry)) (take sessionSize (now (session .entry))) r ⌝ }
+    ensures code { λ _. ⌜ Used codeSize (now (code .entry)) (now (code .exit)) ⌝ }
+    ensures table { λ _. ⌜ Used tableSize (now (table .entry)) (now (table .exit)) ⌝ }
+{
+    look_ahead(
+        &session[..SESSION_SIZE],
+        tree,
+        &mut code[..CODE_SIZE],
+        &mut table[..TABLE_SIZE],
+    )
+}
+
+// The pass after a tree was accepted, in buffers that are large enough: the log is left in the code area.
+fn log_lent(session: &[u8], tree: &[u8], code: &mut [u8], table: &mut [u32], names: usize) -> usize
+    requires { ⌜ Long (now session) (now code) (now table) ⌝ }
+    requires { ⌜ HasOlder (take sessionSize (now session)) names ⌝ }
+    requires { ⌜ verdict (readTree (now tree)) ≡ Good ⌝ }
+    ensures passes { λ r. ⌜ PassesTree (now (tree .entry)) (take sessionSize (now (session .entry))) (after (take sessionSize (now (session .entry))) 0 + 3) (after (take sessionSize (now (session .entry))) 0 + 3 + names) (now (code .exit)) r ⌝ }
+    ensures code { λ _. ⌜ Used codeSize (now (code .entry)) (now (code .exit)) ⌝ }
+    ensures table { λ _. ⌜ Used tableSize (now (table .entry)) (now (table .exit)) ⌝ }
+{
+    log_names(
+        &session[..SESSION_SIZE],
+        tree,
+        &mut code[..CODE_SIZE],
+        &mut table[..TABLE_SIZE],
+        names,
+    )
+}
+
+// A call with fewer records than Identifiers: without an output, so that no tree is accepted.
+fn trace_few(
+    session: &mut [u8],
+    tree: &[u8],
+    output: &mut [u8],
+    code: &mut [u8],
+    table: &mut [u32],
+) -> CallTrace
+    requires { ⌜ Long (now session) (now code) (now table) ⌝ }
+    ensures { λ r. ⌜ ((o : Outlook) → LooksAhead (now (tree .entry)) (take sessionSize (now (session .entry))) o → (room : ℕ) → room < o .count → Traces (now (tree .entry)) (lentOf (now (session .entry)) (now (output .entry)) (now (code .entry)) (now (table .entry))) room r (lentOf (now (session .exit)) (now (output .exit)) (now (code .exit)) (now (table .exit)))) ⌝ }
+{
+    let answer = compile(session, tree, &mut output[..0], code, table);
+    CallTrace {
+        answer: few(answer),
+        count: 0,
+    }
+}
+
+// A call with enough records: where the tree is accepted they are logged.
+fn trace_enough(
+    session: &mut [u8],
+    tree: &[u8],
+    output: &mut [u8],
+    code: &mut [u8],
+    table: &mut [u32],
+    names: usize,
+) -> CallTrace
+    requires { ⌜ Long (now session) (now code) (now table) ⌝ }
+    requires { ⌜ ((o : Outlook) × LooksAhead (now tree) (take sessionSize (now session)) o × (o .names ≡ names)) ⌝ }
+    ensures { λ r. ⌜ ((o : Outlook) → LooksAhead (now (tree .entry)) (take sessionSize (now (session .entry))) o → (room : ℕ) → o .count ≤ room → Traces (now (tree .entry)) (lentOf (now (session .entry)) (now (output .entry)) (now (code .entry)) (now (table .entry))) room r (lentOf (now (session .exit)) (now (output .exit)) (now (code .exit)) (now (table .exit)))) ⌝ }
+{
+    let answer = compile(session, tree, output, code, table);
+    match answer {
+        Answer::Refused(_) => CallTrace {
+            answer: answer,
+            count: 0,
+        },
+        Answer::Length(_) => {
+            let count = log_lent(session, tree, code, table, names);
+            clear_table(table);
+            CallTrace {
+                answer: answer,
+                count: count,
+            }
+        }
+    }
+}
+
 // Compiles a tree, and logs the records of one that is accepted, in buffers that are large enough.
-fn log_lent(
+fn trace_lent(
     session: &mut [u8],
     tree: &[u8],
     output: &mut [u8],
@@ -113,40 +195,11 @@ fn log_lent(
     requires { ⌜ Long (now session) (now code) (now table) ⌝ }
     ensures { λ r. ⌜ Traces (now (tree .entry)) (lentOf (now (session .entry)) (now (output .entry)) (now (code .entry)) (now (table .entry))) room r (lentOf (now (session .exit)) (now (output .exit)) (now (code .exit)) (now (table .exit))) ⌝ }
 {
-    let ahead = look_ahead(
-        &session[..SESSION_SIZE],
-        tree,
-        &mut code[..CODE_SIZE],
-        &mut table[..TABLE_SIZE],
-    );
+    let ahead = look_lent(session, tree, code, table);
     if room < ahead.count {
-        let answer = compile(session, tree, &mut output[..0], code, table);
-        return CallTrace {
-            answer: few(answer),
-            count: 0,
-        };
+        return trace_few(session, tree, output, code, table);
     }
-    let answer = compile(session, tree, output, code, table);
-    match answer {
-        Answer::Refused(_) => CallTrace {
-            answer: answer,
-            count: 0,
-        },
-        Answer::Length(_) => {
-            let count = log_names(
-                &session[..SESSION_SIZE],
-                tree,
-                &mut code[..CODE_SIZE],
-                &mut table[..TABLE_SIZE],
-                ahead.names,
-            );
-            clear_table(table);
-            CallTrace {
-                answer: answer,
-                count: count,
-            }
-        }
-    }
+    trace_enough(session, tree, output, code, table, ahead.names)
 }
 
 // Compiles a tree in a session with so many records, and leaves all as such a call does but for two things: the records to be written are in a log at
@@ -162,7 +215,7 @@ pub fn compile_log(
     ensures { λ r. ⌜ Traces (now (tree .entry)) (lentOf (now (session .entry)) (now (output .entry)) (now (code .entry)) (now (table .entry))) room r (lentOf (now (session .exit)) (now (output .exit)) (now (code .exit)) (now (table .exit))) ⌝ }
 {
     if long_enough(session, code, table) {
-        return log_lent(session, tree, output, code, table, room);
+        return trace_lent(session, tree, output, code, table, room);
     }
     CallTrace {
         answer: Answer::Refused(Refusal {

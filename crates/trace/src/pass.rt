@@ -4,6 +4,7 @@ use definition::limit::ARGUMENTS_LIMIT;
 use definition::limit::NESTING_LIMIT;
 use definition::tag;
 use field::after_at;
+use field::wide;
 use symbol_table::Lookup;
 use symbol_table::define;
 use symbol_table::enter;
@@ -11,42 +12,36 @@ use symbol_table::resolve_name;
 use symbol_table::start_from;
 use tree::count_fields;
 ghost use mathlib.Core.Path.{_≡_};
-ghost use mathlib.Core.List.{[], _∷_};
 ghost use Prim.Native.Nat.{_+_, _-_, _≤_};
 ghost use lib.ListN.{length, take};
 ghost use Rattle.definition.specs.Limit.{sessionSize, codeSize, tableSize};
-ghost use Rattle.definition.specs.Tag.{tagExprStmt, tagBlock, tagReturn, tagPrefix, tagIf, tagCall, tagArray, tagIndex, tagHash};
 ghost use Rattle.definition.specs.Walk.{walkStmt, walkExpr};
 ghost use Rattle.field.specs.Layout.{Whole, len, content};
 ghost use Rattle.tree.specs.At.{LetAt, InfixAt, FunctionAt};
-ghost use Rattle.tree.specs.Grammar.{oneOf};
 ghost use Rattle.tree.specs.Check.{verdict};
 ghost use Rattle.tree.specs.declared.Checked.the-variants.{Good};
 ghost use Rattle.definition.specs.Tree.{readTree};
 ghost use Rattle.tree.specs.Reads.{Some, ReadsExpr, ReadsBlock};
 ghost use Rattle.symbol_table.specs.Contract.{HasWords, HasItems};
 ghost use Rattle.records.specs.Naming.{naming, lookUp};
-ghost use Rattle.trace.specs.Pass.{walkNode, walkNodes, ReadsNode, ReadsNodes, Standing, Passes, PassesTree, Anything};
+ghost use Rattle.trace.specs.Pass.{isParent, walkNode, walkNodes, ReadsNode, ReadsNodes, Standing, Passes, PassesTree, Anything};
 
 // The operator whose right side is walked first.
 const LESS_THAN: u8 = 8;
 
 // Whether the names of a field of a tag are those of its children, in order.
 fn has_children(t: usize) -> bool
-    ensures { λ r. ⌜ r ≡ oneOf (tagExprStmt ∷ tagBlock ∷ tagReturn ∷ tagPrefix ∷ tagIf ∷ tagCall ∷ tagArray ∷ tagIndex ∷ tagHash ∷ []) t ⌝ }
+    ensures { λ r. ⌜ r ≡ isParent t ⌝ }
 {
-    match t {
-        tag::EXPR_STMT
-        | tag::BLOCK
-        | tag::RETURN
-        | tag::PREFIX
-        | tag::IF
-        | tag::CALL
-        | tag::ARRAY
-        | tag::INDEX
-        | tag::HASH => true,
-        _ => false,
-    }
+    (t == tag::EXPR_STMT)
+        | (t == tag::BLOCK)
+        | (t == tag::RETURN)
+        | (t == tag::PREFIX)
+        | (t == tag::IF)
+        | (t == tag::CALL)
+        | (t == tag::ARRAY)
+        | (t == tag::INDEX)
+        | (t == tag::HASH)
 }
 
 // Looks an Identifier up, and logs its record. How many there are then.
@@ -87,7 +82,7 @@ fn name_field(
     requires { ⌜ Standing (now tree) (now names) level (now table) (now log) n (3 + len (now tree) at) ⌝ }
     ensures { λ r. ⌜ Passes (now (tree .entry)) (now (names .entry)) level (ReadsNode (now (tree .entry)) at) walkNode (3 + len (now (tree .entry)) at) (now (table .entry)) (now (table .exit)) (now (log .entry)) (now (log .exit)) n r ⌝ }
 {
-    let t = tree[at] as usize;
+    let t = wide(tree[at]);
     if t == tag::IDENTIFIER {
         return log_identifier(tree, names, table, log, level, at, n);
     }
