@@ -11,8 +11,8 @@
  *   number for each offset of the longest image), the trial run, which goes over main twice, up to 540,000 (measured: 529,712).
  *
  * Answers
- *   Each function answers one 64-bit number. Where the high half is 0, the low half is a length, of what was written, in elements. Otherwise the
- *   call was refused: the high half is the number of the refusal, 1 to 17, 19 to 29, the low half its place, an offset or a chunk.
+ *   Each function answers one 64-bit number. Where the high half is 0, the low half is a length, of what was written, in elements, or two numbers, where its comment
+ *   says so. Otherwise the call was refused: the high half is the number of the refusal, 1 to 29, the low half its place, an offset or a chunk.
  *   monkey_number and monkey_value take the halves. Every call ends with an answer, whatever bytes the buffers hold.
  */
 #ifndef MONKEY_H
@@ -38,7 +38,8 @@ enum {
     MONKEY_HEIGHTS_LIMIT = 61440, /* no image has more instructions: 32,768 bytes of main code and 28,672 of pool */
     MONKEY_CHUNKS_LIMIT = 4097,  /* no image has more chunks: main and 4,096 functions */
     MONKEY_WORK_SIZE = 4096,     /* 64-bit numbers of the work area of a trial run */
-    MONKEY_GLOBALS_LIMIT = 9216  /* no trial run writes more bytes: nine for each of 1,024 globals */
+    MONKEY_GLOBALS_LIMIT = 9216, /* no trial run writes more bytes: nine for each of 1,024 globals */
+    MONKEY_NAMES_LIMIT = 8189    /* no tree has more Identifiers */
 };
 
 /* The numbers of refusals. The place is an offset in the tree, 0 where none is named here. */
@@ -60,6 +61,7 @@ enum monkey_refusal {
     MONKEY_OUTPUT_SHORT = 15,    /* the result is longer than the output */
     MONKEY_BAD_INSTRUCTION = 16, /* an unknown byte or missing operands; none of these functions answers it */
     MONKEY_BAD_IMAGE = 17,       /* place: the offset in the image of its first wrong field or instruction */
+    MONKEY_FEW_RECORDS = 18,     /* the tree has more Identifiers than records were lent */
     MONKEY_BAD_WORDS = 19,       /* words that are no list of name fields, have a name of a wrong length, a repeated one or a 25th */
     MONKEY_BAD_SCRIPT = 20,      /* the text is no script; place: the first token that cannot stand there, or where it ends too early */
     MONKEY_LARGE_INTEGER = 21,   /* an integer above 9,223,372,036,854,775,807; place: its offset in the text */
@@ -110,6 +112,46 @@ uint64_t monkey_compile(uint8_t *session, size_t session_length,
                         uint8_t *output, size_t output_length,
                         uint8_t *code, size_t code_length,
                         uint32_t *table, size_t table_length);
+
+/*
+ * How a name was resolved. Four 32-bit numbers in a row and nothing between them, so that an array of n such structs is 4 n numbers: monkey_compile_names
+ * takes it as a pointer to the first.
+ */
+struct monkey_name {
+    uint32_t offset;  /* of the Identifier's tag in the tree */
+    uint32_t kind;    /* enum monkey_kind: what is loaded there */
+    uint32_t index;   /* its index: of the definition, the local, the word, the capture; 0 for a function's own name */
+    uint32_t crossed; /* functions left behind on the way out until a table held the name; one that has captured it already holds it */
+};
+
+enum monkey_kind {
+    MONKEY_GLOBAL = 0,   /* a definition of the session or of the main program */
+    MONKEY_LOCAL = 1,    /* a definition or parameter of the function in which the name stands */
+    MONKEY_BUILTIN = 2,  /* a word of the session */
+    MONKEY_FREE = 3,     /* a local, or the name, of a function further out, captured: the index is the capture's */
+    MONKEY_FUNCTION = 4  /* the name of the function in which it stands */
+};
+
+/*
+ * Compiles a tree as monkey_compile does, with the same rules for its buffers, and writes how each Identifier was resolved, in walk order: that of the tree,
+ * but the right side of < comes before its left. `names_length` counts numbers, four to a record: sizeof names / sizeof(uint32_t) for an array, passed as
+ *     (uint32_t *)names    or    &names[0].offset.
+ * There is room for a fourth as many records, rounded down; MONKEY_NAMES_LIMIT are enough for every tree.
+ *   Accepted: monkey_names_count is the number of records written, which is that of the tree's Identifiers, and monkey_names_length the image's length. Numbers
+ *     behind the records stay as they were; session, output and work areas are as monkey_compile leaves them.
+ *   Refused, 1 to 15, 18 or 22: as there, and no number is written. 18 at 0, where the tree has more Identifiers than there is room for, comes after all that is
+ *     refused while the tree is walked, and before 15.
+ */
+uint64_t monkey_compile_names(uint8_t *session, size_t session_length,
+                              const uint8_t *tree, size_t tree_length,
+                              uint8_t *output, size_t output_length,
+                              uint8_t *code, size_t code_length,
+                              uint32_t *table, size_t table_length,
+                              uint32_t *names, size_t names_length);
+
+static inline uint32_t monkey_names_count(uint64_t answer) { return monkey_value(answer) >> 16; }
+
+static inline uint32_t monkey_names_length(uint64_t answer) { return monkey_value(answer) & 0xffff; }
 
 /*
  * Checks an image and lists it as text: the answer is the listing's length, and the text stands at the front of the output, each line ended by 0A

@@ -2,6 +2,7 @@
 use crate::heights;
 use crate::image;
 use crate::listing;
+use crate::names;
 use crate::port::{self, Answer};
 use crate::random::Random;
 use crate::read::{self, Reading};
@@ -27,6 +28,8 @@ pub struct Counts {
     pub sessions: u64,
     /// Damaged lists of words.
     pub lists: u64,
+    /// Calls with records.
+    pub records: u64,
 }
 
 /// Both sides in the middle of a series.
@@ -288,10 +291,16 @@ impl Both {
             return Err(format!("the images differ; the Rust's is {}", crate::hex::hex(&image)));
         }
         self.names(&accepted)?;
+        let before = std::mem::take(&mut self.session);
+        let records = walk::walked(&self.state, &call.tree).map_err(|due| format!("accepted, but {due:?} is due"))?;
         self.state = accepted.state;
         self.session = padded(&self.state.session());
         if self.lent.session_bytes() != self.session {
             return Err(format!("the sessions differ; the Rust's is {}", crate::hex::hex(&self.state.session())));
+        }
+        if self.counts.accepted % 8 == 0 {
+            names::compare(&before, &call.tree, &image, &self.session, &records)?;
+            self.counts.records += 1;
         }
         self.counts.accepted += 1;
         self.latest.clone_from(&image);

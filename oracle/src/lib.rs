@@ -13,6 +13,7 @@ pub mod hex;
 pub mod image;
 pub mod inputs;
 pub mod listing;
+pub mod names;
 pub mod node;
 pub mod pairs;
 pub mod port;

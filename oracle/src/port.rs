@@ -19,6 +19,20 @@ extern "C" {
         table: *mut u32,
         table_length: usize,
     ) -> u64;
+    fn monkey_compile_names(
+        session: *mut u8,
+        session_length: usize,
+        tree: *const u8,
+        tree_length: usize,
+        output: *mut u8,
+        output_length: usize,
+        code: *mut u8,
+        code_length: usize,
+        table: *mut u32,
+        table_length: usize,
+        names: *mut u32,
+        names_length: usize,
+    ) -> u64;
     fn monkey_list_image(image: *const u8, image_length: usize, output: *mut u8, output_length: usize) -> u64;
     fn monkey_check_heights(
         image: *const u8,
@@ -72,6 +86,37 @@ pub fn compile(session: &mut [u8], tree: &[u8], output: &mut [u8], code: &mut [u
             table.len(),
         )
     })
+}
+
+/// A call with records: the answer, and the count.
+pub fn compile_names(
+    session: &mut [u8],
+    tree: &[u8],
+    output: &mut [u8],
+    code: &mut [u8],
+    table: &mut [u32],
+    names: &mut [u32],
+) -> (Answer, usize) {
+    let answer = unpack(unsafe {
+        monkey_compile_names(
+            session.as_mut_ptr(),
+            session.len(),
+            tree.as_ptr(),
+            tree.len(),
+            output.as_mut_ptr(),
+            output.len(),
+            code.as_mut_ptr(),
+            code.len(),
+            table.as_mut_ptr(),
+            table.len(),
+            names.as_mut_ptr(),
+            names.len(),
+        )
+    });
+    match answer {
+        Answer::Length(both) => (Answer::Length(both & 0xffff), both >> 16),
+        refused => (refused, 0),
+    }
 }
 
 /// What a sound image answers to the check alone.

@@ -1,5 +1,5 @@
 //! Numbers 5 to 14 and 22 with their places: documents 01 and 02 read once more, over the Rust's own symbol table. No code is
-//! made here, only counted.
+//! made here, only counted; and how each Identifier is resolved there.
 use std::cell::RefCell;
 use std::panic::{catch_unwind, AssertUnwindSafe};
 use std::rc::Rc;
@@ -32,6 +32,28 @@ struct Walk<'a> {
     chunks: Vec<Chunk>,
     constants: usize,
     pool: usize,
+    records: Vec<Record>,
+}
+
+/// How an Identifier was resolved: tree offset, kind, index, functions crossed.
+pub type Record = [u32; 4];
+
+/// Kind and index of a symbol; its type has no public name.
+fn kind_and_index(symbol: &impl std::fmt::Debug) -> (u32, u32) {
+    let text = format!("{symbol:?}");
+    let kinds = ["Global", "Local", "Builtin", "Free", "Function"];
+    let kind = kinds.iter().position(|k| text.split(' ').next() == Some(k)).expect("a symbol");
+    let index = text.rsplit("index: ").next().and_then(|end| end.split(' ').next()?.parse().ok());
+    (kind as u32, index.expect("a symbol's index"))
+}
+
+/// How many tables a lookup leaves behind until one holds the name.
+fn crossed(table: &Rc<RefCell<SymbolTable>>, name: &str) -> u32 {
+    let mut alone = table.borrow().clone();
+    match alone.outer.take() {
+        Some(outer) if alone.resolve(name).is_none() => 1 + crossed(&outer, name),
+        _ => 0,
+    }
 }
 
 /// How many bytes the load of a symbol has; its type has no public name.
@@ -124,8 +146,11 @@ impl Walk<'_> {
     fn identifier(&mut self, at: usize) -> Walked {
         let name = self.name(at);
         let table = Rc::clone(&self.table);
+        let crossed = crossed(&table, &name);
         let found = catch_unwind(AssertUnwindSafe(|| table.borrow_mut().resolve(&name)));
         let symbol = found.map_err(|_| (10, at))?.ok_or((5, at))?;
+        let (kind, index) = kind_and_index(&*symbol.borrow());
+        self.records.push([at as u32, kind, index, crossed]);
         let bytes = load_bytes(&*symbol.borrow());
         self.emit(bytes, Last::Other, at)
     }
@@ -238,14 +263,21 @@ impl Walk<'_> {
     }
 }
 
-/// The walk's first refusal of a tree that reads well, if there is one.
-pub fn refusal(state: &State, tree: &[u8]) -> Option<Refused> {
+/// The walk's first refusal of a tree that reads well, or the records of its Identifiers in walk order.
+pub fn walked(state: &State, tree: &[u8]) -> Result<Vec<Record>, Refused> {
     let mut walk = Walk {
         tree,
         table: Rc::new(RefCell::new(state.table.clone())),
         chunks: vec![Chunk { length: 0, last: Last::Other }],
         constants: state.constants.len(),
         pool: reference::constants(&state.constants).len(),
+        records: Vec::new(),
     };
-    walk.field(0).err()
+    walk.field(0)?;
+    Ok(walk.records)
+}
+
+/// The refusal alone.
+pub fn refusal(state: &State, tree: &[u8]) -> Option<Refused> {
+    walked(state, tree).err()
 }

@@ -3,3 +3,4 @@ pub mod Sound
 pub mod Framed
 pub mod Conditions
 pub mod Trial
+pub mod Named

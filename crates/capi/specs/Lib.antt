@@ -3,3 +3,4 @@ pub mod Framed
 pub mod Turned
 pub mod Heights
 pub mod Trial
+pub mod Named

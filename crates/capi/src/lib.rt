@@ -8,6 +8,7 @@ ghost use Prim.Native.Nat.{_<_};
 ghost use Rattle.compiler.specs.Stage.{lentOf};
 ghost use Rattle.capi.specs.Packed.{Fits, Packs, MakesPacked, WordsPacked, CompilesPacked, ListsPacked, LoadsPacked, ReadsPacked, halfBound};
 ghost use Rattle.chin.specs.Chin.{toChin, fromChin};
+ghost use Rattle.capi.specs.Named.{namesAnswer, NamesPacked};
 ghost use Rattle.capi.specs.Turned.{TurnsPacked};
 ghost use Rattle.capi.specs.Heights.{ChecksPacked, ProposesPacked};
 ghost use Rattle.capi.specs.Framed.{paired, countAnswer, placeAnswer, CountsPacked, PlacesPacked, RefusesPacked};
@@ -60,6 +61,36 @@ pub extern "C" fn monkey_compile(
     ensures { λ r. ⌜ CompilesPacked (now (tree .entry)) (lentOf (now (session .entry)) (now (output .entry)) (now (code .entry)) (now (table .entry))) r (lentOf (now (session .exit)) (now (output .exit)) (now (code .exit)) (now (table .exit))) ⌝ }
 {
     let answer = compiler::compile(session, tree, output, code, table);
+    pack(answer)
+}
+
+// What a call with records answers.
+fn names_answer(answer: Answer, count: usize) -> Answer
+    requires { ⌜ Fits (namesAnswer answer count) ⌝ }
+    ensures { λ r. ⌜ r ≡ namesAnswer answer count ⌝ }
+{
+    match answer {
+        Answer::Length(n) => pair(count, n),
+        Answer::Refused(r) => Answer::Refused(r),
+    }
+}
+
+// Compiles a tree as `monkey_compile` does, and writes how each of its names was resolved, four numbers for each Identifier in walk order: count × 65,536
+// + the image's length; or a refusal, 18 among them, and the numbers stay.
+#[no_mangle]
+pub extern "C" fn monkey_compile_names(
+    session: &mut [u8],
+    tree: &[u8],
+    output: &mut [u8],
+    code: &mut [u8],
+    table: &mut [u32],
+    names: &mut [u32],
+) -> u64
+    ensures { λ r. ⌜ NamesPacked (now (tree .entry)) (lentOf (now (session .entry)) (now (output .entry)) (now (code .entry)) (now (table .entry))) (now (names .entry)) r (lentOf (now (session .exit)) (now (output .exit)) (now (code .exit)) (now (table .exit))) (now (names .exit)) ⌝ }
+{
+    let t = names::compile_names(session, tree, output, code, table, names);
+    let found = t.answer;
+    let answer = names_answer(found, t.count);
     pack(answer)
 }
 

@@ -53,7 +53,7 @@ pub fn make_session_words(session: &mut [u8], names: &[u8]) -> Answer
 }
 
 // Whether all that is lent is as long as number 1 asks.
-fn long_enough(session: &[u8], code: &[u8], table: &[u32]) -> bool
+pub fn long_enough(session: &[u8], code: &[u8], table: &[u32]) -> bool
     ensures { λ r. ⌜ r ≡ both (leb codeSize (length (now (code .entry)))) (both (leb tableSize (length (now (table .entry)))) (leb sessionSize (length (now (session .entry))))) ⌝ }
 {
     if code.len() < CODE_SIZE {
@@ -66,7 +66,7 @@ fn long_enough(session: &[u8], code: &[u8], table: &[u32]) -> bool
 }
 
 // Zeroes the code area.
-fn clear_code(code: &mut [u8])
+pub fn clear_code(code: &mut [u8])
     requires { ⌜ codeSize ≤ length (now code) ⌝ }
     ensures { λ _. ⌜ now (code .exit) ≡ cleared codeSize (now (code .entry)) ⌝ }
 {
@@ -74,7 +74,7 @@ fn clear_code(code: &mut [u8])
 }
 
 // Zeroes the table area.
-fn clear_table(table: &mut [u32])
+pub fn clear_table(table: &mut [u32])
     requires { ⌜ tableSize ≤ length (now table) ⌝ }
     ensures { λ _. ⌜ now (table .exit) ≡ cleared tableSize (now (table .entry)) ⌝ }
 {

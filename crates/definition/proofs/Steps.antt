@@ -56,7 +56,7 @@ read-number tree = judged-number (readProgram (byteAt tree) (length tree))
 -- what a tree that was read gives
 module _ {A : Type 0} (P : Parsed Stmts → A → Type 0) (f : Parsed Stmts → A) where
   -- a statement about each outcome of reading
-  by-reading : ((b : Stmts) (n : ℕ) → WfStmts b → P (Parsed.parsed b n) (f (Parsed.parsed b n))) → ((r : Refusal) → T (treeNumber (r .number)) → P (Parsed.refused r) (f (Parsed.refused r)))
+  pub by-reading : ((b : Stmts) (n : ℕ) → WfStmts b → P (Parsed.parsed b n) (f (Parsed.parsed b n))) → ((r : Refusal) → T (treeNumber (r .number)) → P (Parsed.refused r) (f (Parsed.refused r)))
       → (tree : Bytes) → P (readTree tree) (f (readTree tree))
   by-reading h k tree = go (readTree tree) (read-number tree) (λ b n e. read-well-formed tree b n e)
     where
@@ -107,7 +107,7 @@ pub record ValidStep (N : ℕ → Type 0) (z : Session) (x : Step) : Type 0 wher
 accepted-not-refused : (m : Image) (r : Refusal) → Outcome.accepted m ≡ Outcome.refused r → ⊥
 accepted-not-refused m r e = let z : _≡_ {A = ℕ} 0 1 = cc in omega arith
 
-turnedDown-valid : {N : ℕ → Type 0} (z : Session) → ValidSession z → (r : Refusal) → N (r .number) → ValidStep N z (turnedDown z r)
+pub turnedDown-valid : {N : ℕ → Type 0} (z : Session) → ValidSession z → (r : Refusal) → N (r .number) → ValidStep N z (turnedDown z r)
 turnedDown-valid {N} z v r n = record { session = v; image = λ m e. absurd (accepted-not-refused m r (sym e)); kept = λ _ _. refl; number = λ q e. subst N (number q e) n }
   where
     number : (q : Refusal) → Outcome.refused r ≡ Outcome.refused q → r .number ≡ q .number
@@ -182,10 +182,10 @@ ended : {compared : Type 0} {s t : State} → Alike erase s t → SessionLike co
 ended r = record { starts = record { erased = λ k. start (sessionOf (r .erased k)) }; bytes = λ _. record { erased = λ k. sessionOf (r .erased k) } }
 
 module _ {compared : Type 0} {z w : Session} (e : SessionLike compared z w) where
-  turnedDown-like : (r : Refusal) → StepLike compared (turnedDown z r) (turnedDown w r)
+  pub turnedDown-like : (r : Refusal) → StepLike compared (turnedDown z r) (turnedDown w r)
   turnedDown-like r = record { outcome = OutcomeLike.refused r; session = e }
 
-  finish-like : (n : ℕ) {x y : Res State (Unit {0})} → Same x y → StepLike compared (finish n z x) (finish n w y)
+  pub finish-like : (n : ℕ) {x y : Res State (Unit {0})} → Same x y → StepLike compared (finish n z x) (finish n w y)
   finish-like n (Both.on a r) =
       picked (StepLike compared) (λ k. leb (image-length (images r) k) n)
       (record { outcome = OutcomeLike.accepted (images r); session = ended r }) (turnedDown-like _)

@@ -114,7 +114,7 @@ outside-all : {ts : List Table} → Grown [] ts → ts ≡ []
 outside-all Grown.end = refl
 
 -- what fits is kept by every program
-fitting : Invariant FitSession FitImage
+pub fitting : Invariant FitSession FitImage
 fitting = record { walked = λ b z f c w x. whole refl (keeps-stmts b x (record { sound = Sound.end; pool = f .pool })) }
   where
     whole : {c : Code} {v w : Known} → v .tables ≡ [] → Kept (Inner 0 c) 0 v c w → Holds FitSession FitImage (sessionOf (stateOf c 0 w)) (imageOf (stateOf c 0 w))
@@ -124,13 +124,13 @@ fitting = record { walked = λ b z f c w x. whole refl (keeps-stmts b x (record 
         record { session = record { pool = k .good .pool }; image = record { main = subst (λ s. AllAt (Fits (Inner 0 c) s) 0 c) same (k .code); pool = k .good .pool } }
 
 -- a session that was begun
-begun-fits : (w : Words) → FitSession (begun w)
+pub begun-fits : (w : Words) → FitSession (begun w)
 begun-fits w = record { pool = All.none }
 
 -- Series of calls
 
 -- one call in a session
-trusted-step : (z : Session) → ValidSession z → FitSession z → (c : Request) → TrustedStep (compile z c)
+pub trusted-step : (z : Session) → ValidSession z → FitSession z → (c : Request) → TrustedStep (compile z c)
 trusted-step z v f c = record { image = λ m e. image-trusted (compile-valid z v c .image m e) (keeps-compile fitting z f c .image m e) }
 
 -- each call of a series
@@ -143,7 +143,7 @@ pub trusted-steps : (w : Words) → ValidWords w → (cs : List Request) → All
 trusted-steps w v cs = trusted-from (begun w) (begun-valid w v) (begun-fits w) cs
 
 -- the image that a call wrote
-wrote : {o : Outcome} {x : Called} {s : Bytes} {k : ℕ} {z : Session} → CallIs x s k o z → ((m : Image) → o ≡ Outcome.accepted m → Trusted m z) → TrustedCall x
+pub wrote : {o : Outcome} {x : Called} {s : Bytes} {k : ℕ} {z : Session} → CallIs x s k o z → ((m : Image) → o ≡ Outcome.accepted m → Trusted m z) → TrustedCall x
 wrote {x = x} {z = z} d f = record { wrote = λ n e. go (d .gave) f n e }
   where
     go : {o : Outcome} → Gave o x → ((m : Image) → o ≡ Outcome.accepted m → Trusted m z) → (n : ℕ) → x .answer ≡ Length n → TrustedOutput x n

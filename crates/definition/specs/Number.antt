@@ -77,6 +77,10 @@ badInstruction = 16
 abbrev pub badImage : ℕ
 badImage = 17
 
+-- more Identifiers than records
+abbrev pub fewRecords : ℕ
+fewRecords = 18
+
 -- bytes that are no words: no name fields, a name of wrong length, a repeated name or a 25th; when making a session
 abbrev pub badWords : ℕ
 badWords = 19

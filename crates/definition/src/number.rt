@@ -51,6 +51,9 @@ pub const BAD_INSTRUCTION: usize = 16;
 // A wrong field or instruction of an image.
 pub const BAD_IMAGE: usize = 17;
 
+// More Identifiers than records.
+pub const FEW_RECORDS: usize = 18;
+
 // Bytes that are no words: no name fields, a name of wrong length, a repeated name or a 25th; when making a session.
 pub const BAD_WORDS: usize = 19;
 

@@ -33,12 +33,12 @@ sound-on q h = rw q at h
 -- Parameters in a row
 
 module _ (tree : Bytes) where
-  row-fields : (at end : ℕ) (ps : List Bytes) → Row tree (NamedAt tree 1) at end ps → Name.fields tree (length ps) at ≡ ps
+  pub row-fields : (at end : ℕ) (ps : List Bytes) → Row tree (NamedAt tree 1) at end ps → Name.fields tree (length ps) at ≡ ps
   unfolding Name.fields
   row-fields at end [] h = refl
   row-fields at end (x ∷ xs) h = λ i. sym (h .1 .is) i ∷ row-fields (after tree at) end xs (h .2) i
 
-  row-stands : (at end : ℕ) (ps : List Bytes) → Row tree (NamedAt tree 1) at end ps → Name.Row tree (length ps) at
+  pub row-stands : (at end : ℕ) (ps : List Bytes) → Row tree (NamedAt tree 1) at end ps → Name.Row tree (length ps) at
   unfolding Name.Row
   row-stands at end [] h = tt
   row-stands at end (x ∷ xs) h = (h .1 .named .whole .fits, row-stands (after tree at) end xs (h .2))

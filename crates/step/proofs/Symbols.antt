@@ -132,7 +132,7 @@ module _ (p : ℕ) (tree e : Bytes) (t t′ : List ℕ) (s : State) {a : Lookup}
   answer-view = ap (λ g. view c e (record { globals = globalsOf tree (namesOf e s) g; tables = tablesOf tree (s .level) t′ }) s) (x .globals)
 
 module _ (p : ℕ) {tree e : Bytes} {t t′ : List ℕ} {w : Walked} {s : State} (q : w ≡ On s) where
-  pub load-found : {c c′ : Bytes} {b : Lookup} {k o i : ℕ} {r : Walked} → length t′ ≡ length t → Fine tree (rest e t) w → Resolves (wordsIn (namesOf e s)) tree (namesOf e s) (s .level) p b t t′ → b ≡ Found k → instr o i 0 ≡ loadOf (symbolOf k)
+  pub load-found : {c c′ : Bytes} {b : Lookup} {k u o i : ℕ} {r : Walked} → length t′ ≡ length t → Fine tree (rest e t) w → Resolves (wordsIn (namesOf e s)) tree (namesOf e s) (s .level) p b t t′ → b ≡ Found k u → instr o i 0 ≡ loadOf (symbolOf k)
       → Done c c′ (On s) r (emit p (instr o i 0)) → Steps tree (load p (content tree p)) c c′ (rest e t) (rest e t′) w r
   load-found {c} n f z g j d =
       let x = rw g at z in

@@ -85,7 +85,7 @@ pub fn load(
         Walked::On(s) => {
             let end = s.names_end as usize;
             match resolve_name(tree, &session[..end], table, s.level as usize, at) {
-                Lookup::Found(symbol) => {
+                Lookup::Found(symbol, _) => {
                     let l = load_of(symbol);
                     emit_operand(code, w, at, l.op, l.operands, l.operand as usize)
                 }

@@ -45,21 +45,22 @@ originals tree r = length-back symbolOf r originalsAt (getD r 2 0)
 
 module _ (r : List ℕ) (name hash : ℕ) where
   pub crosses-undefined : Crosses name hash Undefined Undefined r r
-  crosses-undefined = record { resolved = λ tree ts. refl; good = λ tree n g. g }
+  crosses-undefined = record { resolved = λ tree ts. refl; further = tt; good = λ tree n g. g }
 
   pub crosses-full : Crosses name hash Full Full r r
-  crosses-full = record { resolved = λ tree ts. refl; good = λ tree n g. g }
+  crosses-full = record { resolved = λ tree ts. refl; further = tt; good = λ tree n g. g }
 
-  pub crosses-far : (c : ℕ) → 768 ≤ c → Crosses name hash (Found c) (Found c) r r
-  crosses-far c h = record { resolved = λ tree ts. sym (far-crosses (content tree name) (tableOf tree r) ts c h); good = λ tree n g. g }
+  pub crosses-far : (c k : ℕ) → 768 ≤ c → Crosses name hash (Found c k) (Found c (k + 1)) r r
+  crosses-far c k h = record { further = refl; resolved = λ tree ts. sym (far-crosses (content tree name) (tableOf tree r) ts c h); good = λ tree n g. g }
 
-  pub crosses-none : (c : ℕ) → c < 768 → freeLimit ≤ getD r 2 0 → Crosses name hash (Found c) Full r r
-  crosses-none c k full =
-      record { resolved = λ tree ts. sym (near-crosses (content tree name) (tableOf tree r) ts c k ∙ rw (originals tree r, le-leb freeLimit (getD r 2 0) full)); good = λ tree n g. g }
+  pub crosses-none : (c j : ℕ) → c < 768 → freeLimit ≤ getD r 2 0 → Crosses name hash (Found c j) Full r r
+  crosses-none c j k full =
+      record { further = tt; resolved = λ tree ts. sym (near-crosses (content tree name) (tableOf tree r) ts c k ∙ rw (originals tree r, le-leb freeLimit (getD r 2 0) full)); good = λ tree n g. g }
 
-  pub crosses-free : (c : ℕ) → c < 768 → getD r 2 0 < freeLimit → Sized r → name < 32768 → Crosses name hash (Found c) (Found (512 + getD r 2 0)) r (freeIn r name hash c)
-  crosses-free c k room s below =
+  pub crosses-free : (c j : ℕ) → c < 768 → getD r 2 0 < freeLimit → Sized r → name < 32768 → Crosses name hash (Found c j) (Found (512 + getD r 2 0) (j + 1)) r (freeIn r name hash c)
+  crosses-free c j k room s below =
       record {
+        further = refl;
         resolved = λ tree ts.
             rw (
               free-table r name hash c s room below tree,

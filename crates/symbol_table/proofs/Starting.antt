@@ -17,7 +17,7 @@ use Rattle.field.proofs.Reading.{items-none, Next, items-next, IsRead, name-rea
 use Rattle.symbol_table.specs.Name.{Stands, buckets, hashOf}
 use Rattle.symbol_table.specs.Layout.{globalsSize, headsAt, back, GlobalStands, GoodGlobals, globalName, globalsOf, Good}
 use Rattle.symbol_table.specs.Store.{globalIn}
-use Rattle.symbol_table.specs.Contract.{HasNames, StartsGlobals, Starts}
+use Rattle.symbol_table.specs.Contract.{HasNames, HasItems, StartsGlobals, StartsFrom, Starts}
 use Rattle.symbol_table.proofs.Back.{last-or-before}
 use Rattle.symbol_table.proofs.Names.{len-take, content-take}
 use Rattle.symbol_table.proofs.Pushing.{global-count, globals-more, globals-good}
@@ -26,21 +26,20 @@ use Rattle.symbol_table.proofs.Pushing.{global-count, globals-more, glo
 pub record Begun (session : Bytes) (start end : ℕ) (g : List ℕ) (at : ℕ) : Type 0 where
   pub before : at ≤ end
   pub within : end ≤ length session
-  pub left : (tree : Bytes) (h : HasNames session start) → items (readNameField (byteAt session)) (globalsLimit - getD g 0 0) (globalsOf tree (take end session) g) at end ≡ decoded (h .names) (h .end)
+  pub left : (tree : Bytes) (h : HasItems session start end) → items (readNameField (byteAt session)) (globalsLimit - getD g 0 0) (globalsOf tree (take end session) g) at end ≡ decoded (h .names) (h .stop)
   pub good : (tree : Bytes) → GoodGlobals tree (take end session) g
 
 module _ (session : Bytes) (start : ℕ) where
   -- no global yet
-  pub begun-start : (g : List ℕ) → length g ≡ globalsSize → ((h : ℕ) → h < buckets → getD g (headsAt + h) 0 ≡ 0) → HasNames session start → Begun session start (after session start) (set g 0 0) (start + 3)
+  pub begun-start : (g : List ℕ) → length g ≡ globalsSize → ((h : ℕ) → h < buckets → getD g (headsAt + h) 0 ≡ 0) → (end : ℕ) → HasItems session start end → Begun session start end (set g 0 0) start
   unfolding globalsOf back
-  begun-start g size clear has =
+  begun-start g size clear end has =
       let inside : 0 < length g = omega arith in
       let none : getD (set g 0 0) 0 0 ≡ 0 = getD-set-same g 0 0 0 inside in
-      let r : NamesRead session globalsLimit start (has .names) (has .end) = names-read session tagNames globalsLimit start (has .names) (has .end) (has .reads) in
       record {
-        before = omega arith;
-        within = r .fits;
-        left = λ tree h. rw none (names-read session tagNames globalsLimit start (h .names) (h .end) (h .reads) .items);
+        before = has .order;
+        within = has .within;
+        left = λ tree h. rw none (h .reads);
         good = λ tree. record {
           size = length-set g 0 0 ∙ size;
           count = omega arith;
@@ -58,15 +57,15 @@ module _ (session : Bytes) (start : ℕ) where
     pub record Here : Type 0 where
       pub fits : after session at ≤ end
       pub room : getD g 0 0 < globalsLimit
-      pub rest : (tree : Bytes) (h : HasNames session start) → items (readNameField (byteAt session)) (globalsLimit - getD g 0 0 - 1) (content session at ∷ globalsOf tree (take end session) g) (after session at) end ≡ decoded (h .names) (h .end)
+      pub rest : (tree : Bytes) (h : HasItems session start end) → items (readNameField (byteAt session)) (globalsLimit - getD g 0 0 - 1) (content session at ∷ globalsOf tree (take end session) g) (after session at) end ≡ decoded (h .names) (h .stop)
 
-    pub begun-here : HasNames session start → at < end → Here
+    pub begun-here : HasItems session start end → at < end → Here
     begun-here has l = record { fits = read [] has .fits; room = omega (arith, next [] has .some); rest = λ tree h. rw (← read tree h .name, ← read tree h .next) (next tree h .rest) }
       where
-        next : (tree : Bytes) (h : HasNames session start) → Next (readNameField (byteAt session)) (globalsLimit - getD g 0 0) (globalsOf tree (take end session) g) at end (h .names) (h .end)
-        next tree h = items-next (readNameField (byteAt session)) (globalsLimit - getD g 0 0) (globalsOf tree (take end session) g) at end (h .names) (h .end) (λ e. omega arith) (x .left tree h)
+        next : (tree : Bytes) (h : HasItems session start end) → Next (readNameField (byteAt session)) (globalsLimit - getD g 0 0) (globalsOf tree (take end session) g) at end (h .names) (h .stop)
+        next tree h = items-next (readNameField (byteAt session)) (globalsLimit - getD g 0 0) (globalsOf tree (take end session) g) at end (h .names) (h .stop) (λ e. omega arith) (x .left tree h)
 
-        read : (tree : Bytes) (h : HasNames session start) → IsRead session at end (next tree h .first) (next tree h .at₁)
+        read : (tree : Bytes) (h : HasItems session start end) → IsRead session at end (next tree h .first) (next tree h .at₁)
         read tree h = name-read session at end (next tree h .first) (next tree h .at₁) (x .within) (next tree h .here)
 
     pub begun-step : (hash : ℕ) → length session ≤ sessionSize → Here → hash ≡ hashOf (content session at) → hash < buckets → Begun session start end (globalIn g at hash) (after session at)
@@ -86,8 +85,8 @@ module _ (session : Bytes) (start : ℕ) where
               globals-good g at hash size (here .room) below tree (take end session) (rw (name tree) is) (record { old = λ l. stands; new = λ l. absurd (omega arith) }) (x .good tree);
         }
 
-    pub begun-none : HasNames session start → end ≤ at → StartsGlobals session start end g
-    begun-none has l = record { globals = λ tree h. all tree (h .names) (h .end) (x .left tree h); good = x .good }
+    pub begun-none : HasItems session start end → end ≤ at → StartsGlobals session start end g
+    begun-none has l = record { globals = λ tree h. all tree (h .names) (h .stop) (x .left tree h); good = x .good }
       where
         all : (tree : Bytes) (ns : List Bytes) (e : ℕ) → items (readNameField (byteAt session)) (globalsLimit - getD g 0 0) (globalsOf tree (take end session) g) at end ≡ decoded ns e → globalsOf tree (take end session) g ≡ ns
         all tree ns e h = cc (items-none (readNameField (byteAt session)) (globalsLimit - getD g 0 0) (globalsOf tree (take end session) g) at end (omega arith))
@@ -99,8 +98,20 @@ cleared-more g i size below old h l =
     (λ lt. getD-set-other g (headsAt + i) (headsAt + h) 0 0 (omega arith) ∙ old h lt)
 
 -- in the whole area
-pub started : (session : Bytes) (start end : ℕ) (a g′ : List ℕ) → length g′ ≡ globalsSize → StartsGlobals session start end g′ → Starts session start end a (g′ ++ drop globalsSize a)
+pub started : (session : Bytes) (from end : ℕ) (a g′ : List ℕ) → length g′ ≡ globalsSize → StartsGlobals session from end g′ → StartsFrom session from end a (g′ ++ drop globalsSize a)
 unfolding Good
-started session start end a g′ size x =
+started session from end a g′ size x =
     let whole : take globalsSize (g′ ++ drop globalsSize a) ≡ g′ = take-at g′ (drop globalsSize a) globalsSize size in
     record { globals = λ tree h. rw whole (x .globals tree h); good = λ tree. rw whole (x .good tree); above = drop-at g′ (drop globalsSize a) globalsSize size }
+
+module _ {session : Bytes} {start : ℕ} where
+  -- the fields of a session's names
+  pub has-items : HasNames session start → {end : ℕ} → end ≡ after session start → HasItems session (start + 3) end
+  has-items h e =
+      let r : NamesRead session globalsLimit start (h .names) (h .end) = names-read session tagNames globalsLimit start (h .names) (h .end) (h .reads) in
+      record { names = h .names; stop = h .end; reads = rw e (r .items); order = omega arith; within = omega (arith, r .fits) }
+
+  -- from the start of all of them
+  pub starts : {end : ℕ} {a a′ : List ℕ} → end ≡ after session start → StartsFrom session (start + 3) end a a′ → Starts session start end a a′
+  unfolding has-items
+  starts e x = record { globals = λ tree h. x .globals tree (has-items h e); good = x .good; above = x .above }

@@ -1,5 +1,5 @@
 -- What the functions promise: equations with the definition's tables, and what stays as it was.
-use Prim.Native.Nat.{ℕ, suc, _+_, _≤_, _<_}
+use Prim.Native.Nat.{ℕ, suc, _+_, _^_, _≤_, _<_}
 use mathlib.Core.Path.{_≡_}
 use mathlib.Core.List.{List, [], _∷_}
 use mathlib.Core.Option.{Option, none, some}
@@ -7,9 +7,10 @@ use lib.ListN.{length, getD, take, drop}
 use Rattle.definition.specs.Basic.{Bytes, byteAt}
 use Rattle.definition.specs.Number
 use Rattle.definition.specs.Opcode.{instr, opSetGlobal, opSetLocal}
-use Rattle.definition.specs.SymbolTable.{Symbol, Table, findGlobal, findBuiltin, Resolved, cross, resolve, Defined, place, named, withParams}
+use Rattle.definition.specs.SymbolTable.{Symbol, Table, findGlobal, findBuiltin, Resolved, cross, resolve, crossed, Defined, place, named, withParams}
 use Rattle.definition.specs.Session.{Words}
-use Rattle.definition.specs.Decode.{decoded, readWords, readNames}
+use Rattle.definition.specs.Limit.{globalsLimit}
+use Rattle.definition.specs.Decode.{decoded, items, readNameField, readWords, readNames}
 use Rattle.field.specs.Layout.{after, content}
 use Rattle.symbol_table.specs.Name.{Stands, fields, hashOf}
 use Rattle.symbol_table.specs.Layout.{globalsSize, partSize, entriesAt, tagIn, base, part, symbolOf, tableOf, tablesOf, globalsOf, globalsIn, GoodTable, GoodGlobals, Good}
@@ -32,9 +33,29 @@ asSymbol f none = none
 
 -- a lookup's answer, with the tables after it
 abbrev pub resolvedOf : Lookup → List Table → Resolved
-resolvedOf (Found c) ts = Resolved.found (symbolOf c) ts
+resolvedOf (Found c k) ts = Resolved.found (symbolOf c) ts
 resolvedOf Undefined ts = Resolved.undefined
 resolvedOf Full ts = Resolved.full
+
+-- the functions crossed by a lookup that found its name
+abbrev pub Crossed : ℕ → Lookup → Type 0
+Crossed n (Found c k) = k ≡ n
+Crossed n Undefined = Unit {0}
+Crossed n Full = Unit {0}
+
+-- one more fits
+abbrev pub Few : Lookup → Type 0
+Few (Found c k) = k + 1 < 2 ^ 64
+Few Undefined = Unit {0}
+Few Full = Unit {0}
+
+-- one more is crossed
+abbrev pub Further : Lookup → Lookup → Type 0
+Further (Found c k) (Found d j) = j ≡ k + 1
+Further Undefined (Found d j) = ⊥
+Further Full (Found d j) = ⊥
+Further outer Undefined = Unit {0}
+Further outer Full = Unit {0}
 
 -- the first of two symbols that is there
 abbrev pub firstOf : Option Symbol → Option Symbol → Resolved
@@ -72,6 +93,7 @@ pub record Inside (P : List ℕ → List ℕ → Type 0) (l : ℕ) (a a′ : Lis
 -- a lookup comes back through a function's part
 pub record Crosses (name hash : ℕ) (outer answer : Lookup) (r r′ : List ℕ) : Type 0 where
   pub resolved : (tree : Bytes) (ts : List Table) → resolvedOf answer (tableOf tree r′ ∷ ts) ≡ cross (content tree name) (tableOf tree r) (resolvedOf outer ts)
+  pub further : Further outer answer
   pub good : (tree : Bytes) → IsName tree name hash → GoodTable tree r → GoodTable tree r′
 
 -- the bytes before a session's pool begin with words, or have document 01's
@@ -83,6 +105,7 @@ pub record HasWords (names : Bytes) : Type 0 where
 -- a lookup from inside so many open functions, with the builtins' names
 pub record Resolves (builtins : List Bytes) (tree names : Bytes) (level name : ℕ) (answer : Lookup) (a a′ : List ℕ) : Type 0 where
   pub resolved : resolvedOf answer (tablesOf tree level a′) ≡ resolve builtins (globalsIn tree names a) (content tree name) (tablesOf tree level a)
+  pub crossed : Crossed (crossed (content tree name) (tablesOf tree level a)) answer
   pub good : Good tree names level a′
   pub globals : take globalsSize a′ ≡ take globalsSize a
   pub above : drop (base level) a′ ≡ drop (base level) a
@@ -126,10 +149,24 @@ pub record HasNames (session : Bytes) (start : ℕ) : Type 0 where
   pub end : ℕ
   pub reads : readNames (byteAt session) start (length session) ≡ decoded names end
 
+-- name fields that fill a session from an offset up to an end
+pub record HasItems (session : Bytes) (from end : ℕ) : Type 0 where
+  pub names : List Bytes
+  pub stop : ℕ
+  pub reads : items (readNameField (byteAt session)) globalsLimit [] from end ≡ decoded names stop
+  pub order : from ≤ end
+  pub within : end ≤ length session
+
 -- the names of a session become the globals; from then on the session's bytes before `end` are enough
-pub record StartsGlobals (session : Bytes) (start end : ℕ) (g′ : List ℕ) : Type 0 where
-  pub globals : (tree : Bytes) (h : HasNames session start) → globalsOf tree (take end session) g′ ≡ h .names
+pub record StartsGlobals (session : Bytes) (from end : ℕ) (g′ : List ℕ) : Type 0 where
+  pub globals : (tree : Bytes) (h : HasItems session from end) → globalsOf tree (take end session) g′ ≡ h .names
   pub good : (tree : Bytes) → GoodGlobals tree (take end session) g′
+
+-- the table area as a walk starts: the names from an offset up to an end, and no open function
+pub record StartsFrom (session : Bytes) (from end : ℕ) (a a′ : List ℕ) : Type 0 where
+  pub globals : (tree : Bytes) (h : HasItems session from end) → globalsIn tree (take end session) a′ ≡ h .names
+  pub good : (tree : Bytes) → Good tree (take end session) 0 a′
+  pub above : drop globalsSize a′ ≡ drop globalsSize a
 
 -- the table area as a compile starts: the session's names, and no open function
 pub record Starts (session : Bytes) (start end : ℕ) (a a′ : List ℕ) : Type 0 where

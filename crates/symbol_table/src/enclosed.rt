@@ -26,7 +26,7 @@ ghost use Rattle.field.specs.Layout.{len, content};
 ghost use Rattle.symbol_table.specs.Name.{Stands, Row, hashOf};
 ghost use Rattle.symbol_table.specs.Layout.{partSize, entriesAt, packed, entries, tableOf, Sized, GoodTable};
 ghost use Rattle.symbol_table.specs.Store.{enteredIn, localIn, freeIn};
-ghost use Rattle.symbol_table.specs.Contract.{hitOf, PassedOver, Crosses, DefinesLocal, Params, Opens};
+ghost use Rattle.symbol_table.specs.Contract.{hitOf, PassedOver, Few, Crosses, DefinesLocal, Params, Opens};
 
 // How many entries a function's table has.
 fn count(part: &[u32]) -> usize
@@ -136,23 +136,24 @@ fn capture_in(part: &mut [u32], name: usize, hash: usize, code: u32) -> u32
     FREE + f
 }
 
-// A lookup comes back through a function: its own name, a local or a free symbol becomes a free symbol there.
+// A lookup comes back through a function, one more crossed: its own name, a local or a free symbol becomes a free symbol there.
 pub fn cross_in(part: &mut [u32], name: usize, hash: usize, outer: Lookup) -> Lookup
     requires { ⌜ Sized (now part) ⌝ }
     requires { ⌜ name < treeLimit ⌝ }
+    requires { ⌜ Few outer ⌝ }
     ensures { λ r. ⌜ Crosses name hash outer r (now (part .entry)) (now (part .exit)) ⌝ }
 {
     match outer {
-        Lookup::Found(code) => {
+        Lookup::Found(code, crossed) => {
             if BUILTIN <= code {
-                return Lookup::Found(code);
+                return Lookup::Found(code, crossed + 1);
             }
             let f = part[2];
             if CAPTURES <= f {
                 return Lookup::Full;
             }
             let free = capture_in(part, name, hash, code);
-            Lookup::Found(free)
+            Lookup::Found(free, crossed + 1)
         }
         Lookup::Undefined => Lookup::Undefined,
         Lookup::Full => Lookup::Full,

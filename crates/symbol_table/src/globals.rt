@@ -16,11 +16,10 @@ ghost use Prim.Native.Nat.{ℕ, _+_, _<_, _≤_};
 ghost use lib.ListN.{length, getD};
 ghost use Rattle.definition.specs.Limit.{sessionSize, treeLimit, globalsLimit};
 ghost use Rattle.definition.specs.SymbolTable.{Symbol, same, findGlobal};
-ghost use Rattle.field.specs.Layout.{after};
 ghost use Rattle.symbol_table.specs.Name.{buckets, hashOf};
 ghost use Rattle.symbol_table.specs.Layout.{globalsSize, headsAt, globalName, globalsOf, GlobalStands, GoodGlobals};
 ghost use Rattle.symbol_table.specs.Store.{globalIn};
-ghost use Rattle.symbol_table.specs.Contract.{hitOf, asSymbol, DefinesGlobal, HasNames, StartsGlobals};
+ghost use Rattle.symbol_table.specs.Contract.{hitOf, asSymbol, DefinesGlobal, HasItems, StartsGlobals};
 
 // Whether a name is that of a global.
 fn same_global(tree: &[u8], names: &[u8], v: u32, name: &[u8]) -> bool
@@ -96,17 +95,16 @@ fn clear_heads(globals: &mut [u32])
     }
 }
 
-// The names of a session, whose field is at `start`, become the globals: the fields up to `end`.
-pub fn start_in(session: &[u8], globals: &mut [u32], start: usize, end: usize)
+// The names of a session become the globals: the fields from an offset up to an end.
+pub fn start_in(session: &[u8], globals: &mut [u32], from: usize, end: usize)
     requires { ⌜ length (now session) ≤ sessionSize ⌝ }
-    requires { ⌜ HasNames (now session) start ⌝ }
+    requires { ⌜ HasItems (now session) from end ⌝ }
     requires { ⌜ length (now globals) ≡ globalsSize ⌝ }
-    requires { ⌜ end ≡ after (now session) start ⌝ }
-    ensures { λ _. ⌜ StartsGlobals (now (session .entry)) start end (now (globals .exit)) ⌝ }
+    ensures { λ _. ⌜ StartsGlobals (now (session .entry)) from end (now (globals .exit)) ⌝ }
 {
     clear_heads(globals);
     globals[0] = 0;
-    let mut at = start + 3;
+    let mut at = from;
     while at < end {
         let hash = hash_at(session, at);
         push_global(globals, at as u32, hash);

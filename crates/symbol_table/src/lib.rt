@@ -37,7 +37,7 @@ ghost use Rattle.definition.specs.Decode.{wordsIn};
 ghost use Rattle.field.specs.Layout.{after, content};
 ghost use Rattle.symbol_table.specs.Name.{Stands, Row, buckets};
 ghost use Rattle.symbol_table.specs.Layout.{globalsSize, partSize, originalsAt, base, part, symbolOf, tableOf, globalsIn, Sized, GoodTable, GoodGlobals, Good};
-ghost use Rattle.symbol_table.specs.Contract.{hitOf, resolvedOf, outermostOf, IsName, Inside, Crosses, Resolves, DefinesLocal, Defines, Enters, HasWords, HasNames, Starts};
+ghost use Rattle.symbol_table.specs.Contract.{hitOf, resolvedOf, outermostOf, IsName, Inside, Few, Crossed, Crosses, Resolves, DefinesLocal, Defines, Enters, HasWords, HasNames, HasItems, StartsFrom, Starts};
 
 // The code of a symbol that a table has for a name.
 pub enum Hit {
@@ -45,9 +45,9 @@ pub enum Hit {
     Nothing,
 }
 
-// What a lookup gives: the code of the symbol, an undefined name, or a table with no room for a free symbol.
+// What a lookup gives: the code of the symbol and the functions crossed, an undefined name, or a table with no room for a free symbol.
 pub enum Lookup {
-    Found(u32),
+    Found(u32, usize),
     Undefined,
     Full,
 }
@@ -84,6 +84,7 @@ fn cross_at(table: &mut [u32], level: usize, name: usize, hash: usize, outer: Lo
     requires { ⌜ base level + partSize ≤ length (now table) ⌝ }
     requires { ⌜ Sized (part level (now table)) ⌝ }
     requires { ⌜ name < treeLimit ⌝ }
+    requires { ⌜ Few outer ⌝ }
     ensures { λ r. ⌜ Inside (Crosses name hash outer r) level (now (table .entry)) (now (table .exit)) ⌝ }
 {
     let start = GLOBALS_SIZE + PART_SIZE * level;
@@ -99,13 +100,14 @@ fn find_outermost(tree: &[u8], names: &[u8], table: &[u32], name: usize, hash: u
     requires { ⌜ IsName (now tree) name hash ⌝ }
     requires { ⌜ hash < buckets ⌝ }
     ensures { λ r. ⌜ resolvedOf r [] ≡ outermostOf (wordsIn (now (names .entry))) (globalsIn (now (tree .entry)) (now (names .entry)) (now (table .entry))) (content (now (tree .entry)) name) ⌝ }
+    ensures { λ r. ⌜ Crossed 0 r ⌝ }
 {
     let it = name_at(tree, name);
     if let Hit::At(code) = find_global(tree, names, &table[..GLOBALS_SIZE], it, hash) {
-        return Lookup::Found(code);
+        return Lookup::Found(code, 0);
     }
     if let Hit::At(code) = find_builtin(names, it) {
-        return Lookup::Found(code);
+        return Lookup::Found(code, 0);
     }
     Lookup::Undefined
 }
@@ -132,7 +134,7 @@ fn resolve(
     }
     let l = level - 1;
     if let Hit::At(code) = find_at(tree, table, l, name, hash) {
-        return Lookup::Found(code);
+        return Lookup::Found(code, 0);
     }
     let outer = resolve(
         tree,
@@ -205,6 +207,16 @@ pub fn enter(tree: &[u8], table: &mut [u32], level: usize, name: usize, row: usi
     open_in(tree, &mut table[start..end], name, row, n);
 }
 
+// The table area as a walk starts: the names from an offset up to an end are the globals, and no function is open.
+pub fn start_from(session: &[u8], table: &mut [u32], from: usize, end: usize)
+    requires { ⌜ length (now session) ≤ sessionSize ⌝ }
+    requires { ⌜ HasItems (now session) from end ⌝ }
+    requires { ⌜ globalsSize ≤ length (now table) ⌝ }
+    ensures { λ _. ⌜ StartsFrom (now (session .entry)) from end (now (table .entry)) (now (table .exit)) ⌝ }
+{
+    start_in(session, &mut table[..GLOBALS_SIZE], from, end);
+}
+
 // The table area as a compile starts: the global names of the session, and no open function. `at` is where the names' field is; their end.
 pub fn start(session: &[u8], table: &mut [u32], at: usize) -> usize
     requires { ⌜ length (now session) ≤ sessionSize ⌝ }
@@ -213,8 +225,9 @@ pub fn start(session: &[u8], table: &mut [u32], at: usize) -> usize
     ensures { λ r. ⌜ r ≡ after (now (session .entry)) at ⌝ }
     ensures { λ r. ⌜ Starts (now (session .entry)) at r (now (table .entry)) (now (table .exit)) ⌝ }
 {
-    let end = at + 3 + field::length_at(session, at);
-    start_in(session, &mut table[..GLOBALS_SIZE], at, end);
+    let from = at + 3;
+    let end = from + field::length_at(session, at);
+    start_from(session, table, from, end);
     end
 }
 

@@ -161,7 +161,7 @@ impl Run {
             some.map(|(number, n)| format!("{number} {n}")).collect::<Vec<_>>().join(", ")
         };
         println!(
-            "compared {} trees, {} more refused 22 without the Rust: accepted {}, refused {}; own limits {}; images listed {}; heights of {} images, {} lists passed; damaged sessions {}, lists of words {}; pairs {}; differ {}",
+            "compared {} trees, {} more refused 22 without the Rust: accepted {}, refused {}; own limits {}; images listed {}; heights of {} images, {} lists passed; damaged sessions {}, lists of words {}; calls with records {}; pairs {}; differ {}",
             counts.trees - counts.limits[22],
             counts.limits[22],
             counts.accepted,
@@ -172,6 +172,7 @@ impl Run {
             counts.passed,
             counts.sessions,
             counts.lists,
+            counts.records,
             self.pairs,
             self.differ
         );

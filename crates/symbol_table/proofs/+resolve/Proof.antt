@@ -8,7 +8,7 @@ use borrow.Fn.Kinds.{In}
 use borrow.Fn.PlainCycle.{Measures, is, falls, and}
 use Rattle.symbol_table.specs.Layout.{base}
 use Rattle.symbol_table.specs.Contract.{hitOf}
-use Rattle.symbol_table.proofs.Resolving.{good-globals, good-here, good-around, part-after, resolved-outermost, resolved-here, resolved-around}
+use Rattle.symbol_table.proofs.Resolving.{good-globals, good-here, good-around, part-after, resolved-outermost, resolved-here, resolved-around, few-outer}
 use Rattle.symbol_table.proofs.resolve.Reads as resolve
 use Rattle.symbol_table.proofs.resolve.Kinds as resolve-kinds
 use Rattle.symbol_table.proofs.+resolve.Lts-resolve as resolve-lts
@@ -34,7 +34,7 @@ pub +resolve-spec : {M : Type 1} → statement M
     (λ c κs. let p = c .before .before .before .before .before .pre .1 in
     (p .0, (omega arith, (good-globals _ _ _ _ (p .1 .1 .0) (c .before .if1 .taken), (p .1 .1 .1 .0, p .1 .1 .1 .1 .1)))))
     (λ c. search needs)
-    (λ c. resolved-outermost _ _ _ _ _ _ (c .before .before .before .before .before .before .pre .1 .1 .1 .0) _ (c .before .before .if1 .taken) (c .find-outermost .ensures))
+    (λ c. resolved-outermost _ _ _ _ _ _ (c .before .before .before .before .before .before .pre .1 .1 .1 .0) _ (c .before .before .if1 .taken) (c .find-outermost .ensures .1) (c .find-outermost .ensures .0))
     (λ c. search needs)
     (λ c κs. let s = c .before .before .before .before .before in
     let p = s .pre .1 .1 .1 in
@@ -57,7 +57,7 @@ pub +resolve-spec : {M : Type 1} → statement M
     let l = s .args .level - 1 in
     let a = s .args .table .now in
     let kept = c .before .before .before .resolve .kept .1 .1 .0 in
-    (omega (arith, length-front a (c .before .before .before .resolve .last .1 .1 .0) (base l) kept), (rw (part-after a l _ (kept ∙ length-take-le (base l) a (omega arith))) (good-here _ _ _ _ (p .0) l (omega arith) .sized), p .1 .1 .0)))
+    (omega (arith, length-front a (c .before .before .before .resolve .last .1 .1 .0) (base l) kept), (rw (part-after a l _ (kept ∙ length-take-le (base l) a (omega arith))) (good-here _ _ _ _ (p .0) l (omega arith) .sized), (p .1 .1 .0, few-outer l _ (c .before .before .before .resolve .ensures) (omega arith)))))
     (λ c. search needs)
     (λ c. let s = c .before .before .before .before .before .before .before .before .before .before .before .before .before .before .before .before in
     let p = s .pre .1 .1 .1 in

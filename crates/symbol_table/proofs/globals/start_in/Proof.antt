@@ -1,33 +1,23 @@
 -- The loop's invariant: what is left of the names decides.
 use Prim.Native.Nat.{_-_}
-use mathlib.Core.Path.{sym}
 use mathlib.Core.List.{[]}
 use native.Mathlib.Omega.{arith}
-use Rattle.definition.specs.Limit.{globalsLimit}
-use Rattle.definition.specs.Tag.{tagNames}
-use Rattle.field.proofs.Reading.{names-read}
 use Rattle.symbol_table.proofs.Starting.{Begun, begun-start, begun-here, begun-step, begun-none}
 use borrow.Author.Needs.{needs}
 use Rattle.symbol_table.proofs.globals.start_in.Statement.{statement}
 use Rattle.symbol_table.proofs.globals.start_in.Tie as tie
 
 abbrev Inv-loop : tie.InvT-loop
-Inv-loop session globals₀ start end at₀ globals at = Begun session start end globals at
+Inv-loop session globals₀ from end at₀ globals at = Begun session from end globals at
 
 abbrev μ-loop : tie.MeasureT-loop
-μ-loop session globals₀ start end at₀ globals at = end - at
-
-add-at : tie.Need-add-at Inv-loop μ-loop
-add-at c =
-    let s = c .before .before .before .before .before .before in
-    let h = s .pre .1 .0 in
-    omega (arith, s .pre .0, names-read (s .args .session .now) tagNames globalsLimit (s .args .start) (h .names) (h .end) (h .reads) .fits)
+μ-loop session globals₀ from end at₀ globals at = end - at
 
 loop-holds : tie.Need-loop-holds Inv-loop μ-loop
 loop-holds c =
     let s = c .before .before .before .before .before .before in
     let e = c .before .before .clear-heads .ensures in
-    rw (s .pre .1 .1 .1) (begun-start (s .args .session .now) (s .args .start) (c .before .before .clear-heads .last .0) (e .0) (e .1) (s .pre .1 .0))
+    begun-start (s .args .session .now) (s .args .from) (c .before .before .clear-heads .last .0) (e .0) (e .1) (s .args .end) (s .pre .1 .0)
 
 hash-at-requires : tie.Need-hash-at-requires Inv-loop μ-loop
 hash-at-requires c κs = let x = c .before .loop .inv in omega (arith, x .within, begun-here _ _ _ _ _ x (c .before .before .before .before .before .before .before .before .pre .1 .0) (omega arith) .fits)
@@ -40,14 +30,14 @@ push-global-requires c κs =
     let x = c .before .before .before .loop .inv in
     (x .good [] .size, (begun-here _ _ _ _ _ x (c .before .before .before .before .before .before .before .before .before .before .pre .1 .0) (omega arith) .room, c .before .hash-at .ensures .1))
 
-add-at-2 : tie.Need-add-at-2 Inv-loop μ-loop
-add-at-2 c = let x = c .before .before .before .before .before .before .loop .inv in omega (arith, x .within, begun-here _ _ _ _ _ x (c .before .before .before .before .before .before .before .before .before .before .before .before .before .pre .1 .0) (omega arith) .fits)
+add-at : tie.Need-add-at Inv-loop μ-loop
+add-at c = let x = c .before .before .before .before .before .before .loop .inv in omega (arith, x .within, begun-here _ _ _ _ _ x (c .before .before .before .before .before .before .before .before .before .before .before .before .before .pre .1 .0) (omega arith) .fits)
 
 length-at-requires : tie.Need-length-at-requires Inv-loop μ-loop
 length-at-requires c κs = let x = c .before .before .before .before .before .before .loop .inv in omega (arith, x .within, begun-here _ _ _ _ _ x (c .before .before .before .before .before .before .before .before .before .before .before .before .before .pre .1 .0) (omega arith) .fits)
 
-add-at-3 : tie.Need-add-at-3 Inv-loop μ-loop
-add-at-3 c = let x = c .before .before .before .before .before .before .before .loop .inv in omega (arith, x .within, begun-here _ _ _ _ _ x (c .before .before .before .before .before .before .before .before .before .before .before .before .before .before .pre .1 .0) (omega arith) .fits)
+add-at-2 : tie.Need-add-at-2 Inv-loop μ-loop
+add-at-2 c = let x = c .before .before .before .before .before .before .before .loop .inv in omega (arith, x .within, begun-here _ _ _ _ _ x (c .before .before .before .before .before .before .before .before .before .before .before .before .before .before .pre .1 .0) (omega arith) .fits)
 
 loop-again : tie.Need-loop-again Inv-loop μ-loop
 loop-again c =
@@ -65,4 +55,4 @@ returns c = begun-none _ _ _ _ _ (c .before .loop .inv) (c .before .before .befo
 pub start-in-spec : {M : Type 1} → statement M
 start-in-spec =
     tie.close
-    (tie.spec Inv-loop μ-loop (λ c κs. search needs) (λ c. search needs) add-at loop-holds hash-at-requires cast-push-global push-global-requires add-at-2 length-at-requires add-at-3 (λ c. search needs) loop-again same-length returns)
+    (tie.spec Inv-loop μ-loop (λ c κs. search needs) (λ c. search needs) loop-holds hash-at-requires cast-push-global push-global-requires add-at length-at-requires add-at-2 (λ c. search needs) loop-again same-length returns)

@@ -1,0 +1,4 @@
+pub mod Rows
+pub mod Whole
+pub mod Again
+pub mod Facts

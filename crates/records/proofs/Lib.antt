@@ -1,0 +1,5 @@
+pub mod Track
+pub mod Logged
+pub mod Naming
+pub mod LoggedAlike
+pub mod Turns

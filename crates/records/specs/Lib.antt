@@ -1,0 +1,4 @@
+pub mod Records
+pub mod Naming
+pub mod Call
+pub mod Examples

@@ -1,0 +1,14 @@
+pub mod Temp
+pub mod Entries
+pub mod Small
+pub mod Sequence
+pub mod Nodes
+pub mod Passing
+pub mod Function
+pub mod Tree
+pub mod Ahead
+pub mod Grown
+pub mod Older
+pub mod Calls
+pub mod Accepts
+pub mod Tracing
