@@ -1,4 +1,4 @@
-pub mod Temp
+pub mod Front
 pub mod Entries
 pub mod Small
 pub mod Sequence

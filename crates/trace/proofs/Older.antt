@@ -21,7 +21,7 @@ use Rattle.session.proofs.Sessions.{written-append, front-length}
 use Rattle.field.specs.Layout.{after, Whole}
 use Rattle.symbol_table.specs.Contract.{HasWords, HasItems}
 use Rattle.trace.specs.Promise.{HasOlder}
-use Rattle.trace.proofs.Temp.{read-listed}
+use Rattle.trace.proofs.Front.{read-listed}
 
 -- these names and words
 pub record Older (e : Bytes) (ws old : List Bytes) : Type 0 where

@@ -26,7 +26,7 @@ use Rattle.symbol_table.specs.declared.Lookup.{Lookup}
 use Rattle.symbol_table.specs.declared.Lookup.the-variants.{Found, Undefined, Full}
 use Rattle.symbol_table.specs.declared.Definition.{Definition}
 use Rattle.symbol_table.specs.declared.Definition.the-variants.{Global, Local, GlobalsFull, LocalsFull}
-use Rattle.trace.proofs.Temp.{few-crossed}
+use Rattle.trace.proofs.Front.{few-crossed}
 use Rattle.records.specs.Records.{recordOf}
 use Rattle.records.specs.Naming.{Names, names, lookedUp, lookUp, placedName, defineName, naming}
 use Rattle.trace.specs.Log.{logOf}

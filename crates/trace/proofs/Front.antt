@@ -1,3 +1,4 @@
+-- A lookup crosses no more functions than are open; and words that stand in front are read, whatever stands behind them.
 use Prim.Native.Nat.{ℕ, zero, suc, _+_, _≤_, _<_}
 use mathlib.Core.List.{List, [], _∷_, reverse, reverseAux, reverse-reverse}
 use mathlib.Core.Path.{_≡_, refl, sym, ap, _∙_}
@@ -20,6 +21,7 @@ use Rattle.definition.specs.Basic.{Bytes}
 use Rattle.definition.specs.SymbolTable.{Symbol, find, orFurther, crossed}
 use Rattle.symbol_table.specs.Layout.{part, tableOf, tablesOf}
 
+-- as many functions as there are tables, at most
 pub few-crossed : (tree : Bytes) (n : Bytes) (a : List ℕ) (l : ℕ) → crossed n (tablesOf tree l a) ≤ l
 unfolding tablesOf crossed
 few-crossed tree n a zero = omega arith
@@ -29,10 +31,12 @@ few-crossed tree n a (suc l) = go (find n (tableOf tree (part l a) .entries)) (f
     go (some y) h = omega arith
     go none h = omega arith
 
+-- words in their other order
 all-reversed : {P : Bytes → Type 0} {ns ms : List Bytes} → All P ns → All P ms → All P (reverseAux ns ms)
 all-reversed All.none ms = ms
 all-reversed (All.more p ps) ms = all-reversed ps (All.more p ms)
 
+-- valid words, read the latest first
 as-words : {ws : List Bytes} → ValidList ws → (at : ℕ) → asWords (reverse ws) at ≡ decoded (listed ws) at
 as-words {ws} v at =
     (λ i. let x = reverse-reverse ws i in pick (distinct x) (decoded (listed x) at) (malformed at)) ∙ (λ i. pick (v .unrepeated i) (decoded (listed ws) at) (malformed at))
