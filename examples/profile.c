@@ -1,6 +1,6 @@
 /*
  * Compiles profiles in one session, checks and lists their images in one call, measures one's stack, sends it in frames and in the chin form, and shows refusals: two profiles, damaged
- * ones and the tree of a seed of its own, then a session with a chin unit's words; or the trees in the files that it is given. examples/run compares what it prints.
+ * ones and the tree of a seed of its own, a session with a chin unit's words, then scripts as text; or the trees in the files that it is given. examples/run compares what it prints.
  */
 #include <stdio.h>
 #include <string.h>
@@ -209,6 +209,31 @@ static void show_words(void) {
     show("own puff", own_puff, sizeof own_puff);
 }
 
+/* Reads a script and compiles its tree; a refusal has a line and a column, both counted from 1. */
+static void show_script(const char *script) {
+    static uint8_t tree[MONKEY_TREE_LIMIT];
+    uint64_t answer = monkey_read_text((const uint8_t *)script, strlen(script), tree, sizeof tree);
+    print_answer("script", answer);
+    if (monkey_number(answer) == 0) {
+        show("its image", tree, monkey_value(answer));
+    } else {
+        unsigned line = 1, column = 1;
+        for (size_t i = 0; i < monkey_value(answer); i++) {
+            column = script[i] == '\n' ? 1 : column + 1;
+            line += script[i] == '\n';
+        }
+        printf("line %u, column %u\n", line, column);
+    }
+}
+
+/* Scripts as text: one that is compiled, and two that are refused. */
+static void show_scripts(void) {
+    print_answer("session", monkey_make_session(session, sizeof session));
+    show_script("let deadband = 12;\nlet drive = fn(stick) { if (stick > deadband) { stick - deadband } else { 0 } };\ndrive(40)\n");
+    show_script("let deadband = 12;\nlet drive = fn(stick) { stick - };\n");
+    show_script("let deadband =\n  9223372036854775808;\n");
+}
+
 /* The profiles of this file, and what is refused. */
 static void show_own(void) {
     static uint8_t before[MONKEY_SESSION_SIZE];
@@ -238,6 +263,7 @@ static void show_own(void) {
 
     show_seed(619);
     show_words();
+    show_scripts();
 }
 
 /* The tree in a file. One byte more than the longest tree is enough to have a longer one refused. */
