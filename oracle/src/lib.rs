@@ -23,4 +23,6 @@ pub mod reduce;
 pub mod reference;
 pub mod series;
 pub mod tree;
+pub mod trial;
+pub mod trial_trees;
 pub mod walk;

@@ -3,6 +3,7 @@
 pub const SESSION_SIZE: usize = 65_536;
 pub const CODE_SIZE: usize = 32_768;
 pub const TABLE_SIZE: usize = 16_384;
+pub const WORK_SIZE: usize = 4_096;
 
 extern "C" {
     fn monkey_make_session(session: *mut u8, session_length: usize) -> u64;
@@ -148,4 +149,24 @@ pub fn load_tree(seed: u32) -> Vec<u8> {
         Answer::Refused(number, _) => panic!("the tree of seed {seed} was refused {number}"),
     }
     tree
+}
+
+extern "C" {
+    fn monkey_run(
+        image: *const u8,
+        image_length: usize,
+        heights: *const u32,
+        heights_length: usize,
+        work: *mut u64,
+        work_length: usize,
+        output: *mut u8,
+        output_length: usize,
+    ) -> u64;
+}
+
+/// A trial run: the low half has the globals written and the steps.
+pub fn run(image: &[u8], heights: &[u32], work: &mut [u64], output: &mut [u8]) -> Answer {
+    let (area, size) = (work.as_mut_ptr(), work.len());
+    let (out, room) = (output.as_mut_ptr(), output.len());
+    unpack(unsafe { monkey_run(image.as_ptr(), image.len(), heights.as_ptr(), heights.len(), area, size, out, room) })
 }

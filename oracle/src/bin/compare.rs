@@ -8,13 +8,15 @@ use oracle::hex::hex;
 use oracle::pairs::{twin, Pair};
 use oracle::reference::listed;
 use oracle::series::{Call, Series};
+use oracle::trial::Trial;
+use oracle::trial_trees::random_tree;
 use oracle::{cases, draw, edges, enumerate, port, reduce, reference};
 
 /// Differences after which a run ends.
 const ENOUGH: u64 = 10;
 
 const USAGE: &str =
-    "compare [cases] [seed=N] [trees=N] [pairs=N] [short=N] [fields=N] [load=N] [images=N] [seconds=N] [bytes=N]";
+    "compare [cases] [seed=N] [trees=N] [pairs=N] [short=N] [fields=N] [load=N] [images=N] [runs=N] [seconds=N] [bytes=N]";
 
 /// A run: what it has compared so far.
 struct Run {
@@ -121,6 +123,26 @@ impl Run {
         }
     }
 
+    /// Random trees, each run after it is compiled in a fresh session, against its evaluation.
+    fn runs(&mut self, seed: u64, runs: u64) {
+        let mut trial = Trial::default();
+        for number in 0..runs {
+            if self.over() {
+                break;
+            }
+            let mut random = draw::numbered(seed, number);
+            let tree = random_tree(&mut random);
+            if let Err(text) = trial.tree(&tree, &mut random) {
+                self.report(&format!("trial run, seed {seed}, tree {number}"), &text, &[Call::full(tree.bytes())]);
+            }
+        }
+        let n = &trial.counts;
+        println!(
+            "trial runs: {} trees, {} refused; {} ended, {} stopped 28, {} stopped 29",
+            n.trees, n.refused, n.ended, n.kinds, n.unset
+        );
+    }
+
     /// Random series until so many trees are compared.
     fn random(&mut self, seed: u64, trees: u64) {
         let mut number = 0;
@@ -188,6 +210,7 @@ fn run(words: &[String]) -> bool {
         ("fields", 3),
         ("load", 1_000),
         ("images", 100_000),
+        ("runs", 100_000),
         ("seconds", 600),
         ("bytes", 150_000),
     ]);
@@ -208,6 +231,7 @@ fn run(words: &[String]) -> bool {
     run.short(options["short"] as usize, options["fields"] as usize);
     run.load(options["load"] as u32);
     run.images(options["images"]);
+    run.runs(options["seed"], options["runs"]);
     run.random(options["seed"], options["trees"]);
     run.alike(options["seed"], options["pairs"]);
     run.summary();
