@@ -20,6 +20,8 @@ pub mod random;
 pub mod read;
 pub mod reduce;
 pub mod reference;
+pub mod script;
 pub mod series;
+pub mod text;
 pub mod tree;
 pub mod walk;

@@ -8,19 +8,22 @@ use oracle::hex::hex;
 use oracle::pairs::{twin, Pair};
 use oracle::reference::listed;
 use oracle::series::{Call, Series};
-use oracle::{cases, draw, edges, enumerate, port, reduce, reference};
+use oracle::text::Grammar;
+use oracle::{cases, draw, edges, enumerate, port, reduce, reference, script, text};
 
 /// Differences after which a run ends.
 const ENOUGH: u64 = 10;
 
 const USAGE: &str =
-    "compare [cases] [seed=N] [trees=N] [pairs=N] [short=N] [fields=N] [load=N] [images=N] [seconds=N] [bytes=N]";
+    "compare [cases] [seed=N] [trees=N] [pairs=N] [short=N] [fields=N] [load=N] [images=N] [texts=N] [seconds=N] [bytes=N]";
 
 /// A run: what it has compared so far.
 struct Run {
     both: Both,
     pair: Pair,
     pairs: u64,
+    /// Texts by the number that they were refused with, 0 for those that were read.
+    texts: [u64; 22],
     differ: u64,
     until: Instant,
 }
@@ -28,7 +31,7 @@ struct Run {
 impl Run {
     fn new(seconds: u64) -> Run {
         let until = Instant::now() + Duration::from_secs(seconds);
-        Run { both: Both::default(), pair: Pair::default(), pairs: 0, differ: 0, until }
+        Run { both: Both::default(), pair: Pair::default(), pairs: 0, texts: [0; 22], differ: 0, until }
     }
 
     fn over(&self) -> bool {
@@ -116,7 +119,23 @@ impl Run {
                 return;
             }
             if let Err(text) = self.both.random_image() {
-                self.report("heights", &text, &[]);
+                self.report("heights", &text, &Series::fresh(Vec::new()));
+            }
+        }
+    }
+
+    /// Random texts, read by the grammar and by the library.
+    fn texts(&mut self, seed: u64, texts: u64) {
+        let grammar = Grammar::default();
+        for number in 0..texts {
+            if self.over() {
+                return;
+            }
+            let mut random = draw::numbered(seed ^ 0x7e87, number);
+            let text = script::text(&mut random, &grammar);
+            match text::compare(&grammar, &text, &mut random) {
+                Ok(number) => self.texts[number] += 1,
+                Err(why) => self.report(&format!("text {}", hex(&text)), &why, &Series::fresh(Vec::new())),
             }
         }
     }
@@ -161,7 +180,7 @@ impl Run {
             some.map(|(number, n)| format!("{number} {n}")).collect::<Vec<_>>().join(", ")
         };
         println!(
-            "compared {} trees, {} more refused 22 without the Rust: accepted {}, refused {}; own limits {}; images listed {}; heights of {} images, {} lists passed; damaged sessions {}, lists of words {}; pairs {}; differ {}",
+            "compared {} trees, {} more refused 22 without the Rust: accepted {}, refused {}; own limits {}; images listed {}; heights of {} images, {} lists passed; damaged sessions {}, lists of words {}; texts {}; pairs {}; differ {}",
             counts.trees - counts.limits[22],
             counts.limits[22],
             counts.accepted,
@@ -172,6 +191,7 @@ impl Run {
             counts.passed,
             counts.sessions,
             counts.lists,
+            listed(&self.texts),
             self.pairs,
             self.differ
         );
@@ -187,6 +207,7 @@ fn run(words: &[String]) -> bool {
         ("fields", 3),
         ("load", 1_000),
         ("images", 100_000),
+        ("texts", 100_000),
         ("seconds", 600),
         ("bytes", 150_000),
     ]);
@@ -203,6 +224,7 @@ fn run(words: &[String]) -> bool {
         return cases::write(options["seed"], options["bytes"] as usize);
     }
     let mut run = Run::new(options["seconds"]);
+    run.texts(options["seed"], options["texts"]);
     run.edges();
     run.short(options["short"] as usize, options["fields"] as usize);
     run.load(options["load"] as u32);
