@@ -8,6 +8,7 @@ pub mod draw;
 pub mod edges;
 pub mod enumerate;
 pub mod generate;
+pub mod grammar;
 pub mod heights;
 pub mod hex;
 pub mod image;

@@ -1,9 +1,10 @@
 //! Random texts: derived from the grammar, nested deeply, damaged, or rows of pieces.
+use crate::grammar::{derives, Grammar};
 use crate::random::Random;
-use crate::text::{derives, Grammar};
 
 const NAMES: [&str; 6] = ["a", "b", "speed", "_", "lets", "nnnnnnnnnnnnnnnnnnnnnnnnnnnnnnnn"];
-const INTEGERS: [&str; 7] = ["0", "1", "007", "42", "9223372036854775807", "9223372036854775808", "99999999999999999999"];
+const INTEGERS: [&str; 7] =
+    ["0", "1", "007", "42", "9223372036854775807", "9223372036854775808", "99999999999999999999"];
 const STRINGS: [&str; 4] = ["\"\"", "\"ok\"", "\"a (b\n]\"", "\"\u{e9}{\\\""];
 const BLANKS: [&str; 6] = [" ", " ", "\n", "\t", "\r\n", "  "];
 const ODD: [&str; 12] =
@@ -79,7 +80,7 @@ fn token(random: &mut Random, symbol: &str) -> String {
     }
 }
 
-/// What a symbol derives, with little more behind so many tokens: then the first production, or the first without a symbol on both sides.
+/// What a symbol derives: up to so many tokens any production now and then, behind them the shortest.
 fn derive(random: &mut Random, grammar: &Grammar, symbol: &'static str, most: usize, out: &mut Vec<String>) {
     let rules = &grammar.of[symbol];
     let short = match symbol {
@@ -89,7 +90,11 @@ fn derive(random: &mut Random, grammar: &Grammar, symbol: &'static str, most: us
         "Statement" | "Statement'" => rules[2],
         _ => rules[0],
     };
-    let rule = if symbol.starts_with("Primary") && random.often(700) && out.len() < most { *random.pick(rules) } else { short };
+    let rule = if symbol.starts_with("Primary") && random.often(700) && out.len() < most {
+        *random.pick(rules)
+    } else {
+        short
+    };
     for &symbol in &grammar.rules[rule].right {
         if derives(symbol) {
             derive(random, grammar, symbol, most, out);

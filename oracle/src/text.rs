@@ -1,8 +1,9 @@
-//! A second reading of scripts, after docs/GRAMMAR.md alone: its productions as a table, and an Earley recogniser over it.
+//! A second reading of scripts, after docs/GRAMMAR.md alone: an Earley recogniser over its productions (`grammar`).
 //! A token is refused where no item is left behind it; a text with two derivations is reported.
 use std::collections::HashMap;
 use std::rc::Rc;
 
+use crate::grammar::{derives, Grammar};
 use crate::node::{self, Body, Node};
 use crate::port::{self, Answer};
 use crate::random::Random;
@@ -15,112 +16,6 @@ const LEVELS: usize = 64;
 const WORDS: [&str; 7] = ["let", "return", "true", "false", "if", "else", "fn"];
 const MARKS: [&str; 19] =
     ["==", "!=", "=", "!", "<", ">", "+", "-", "*", "/", "(", ")", "[", "]", "{", "}", ",", ":", ";"];
-
-/// The productions: the left side, then the symbols. A symbol that begins with a capital letter has productions, any other is a token.
-/// Those with ' derive what stands behind a statement without `;`: it does not begin with `(`, `[` or `-`.
-const PRODUCTIONS: &[&str] = &[
-    "Statements",
-    "Statements Row",
-    "Statements Row ;",
-    "Row Statement",
-    "Row Row ; Statement",
-    "Row Row Statement'",
-    "Statement let name = Equality",
-    "Statement return Equality",
-    "Statement Equality",
-    "Statement' let name = Equality",
-    "Statement' return Equality",
-    "Statement' Equality'",
-    "Equality Comparison",
-    "Equality Equality == Comparison",
-    "Equality Equality != Comparison",
-    "Equality' Comparison'",
-    "Equality' Equality' == Comparison",
-    "Equality' Equality' != Comparison",
-    "Comparison Sum",
-    "Comparison Comparison < Sum",
-    "Comparison Comparison > Sum",
-    "Comparison' Sum'",
-    "Comparison' Comparison' < Sum",
-    "Comparison' Comparison' > Sum",
-    "Sum Product",
-    "Sum Sum + Product",
-    "Sum Sum - Product",
-    "Sum' Product'",
-    "Sum' Sum' + Product",
-    "Sum' Sum' - Product",
-    "Product Prefix",
-    "Product Product * Prefix",
-    "Product Product / Prefix",
-    "Product' Prefix'",
-    "Product' Product' * Prefix",
-    "Product' Product' / Prefix",
-    "Prefix Postfix",
-    "Prefix ! Prefix",
-    "Prefix - Prefix",
-    "Prefix' Postfix'",
-    "Prefix' ! Prefix",
-    "Postfix Primary",
-    "Postfix Postfix ( List )",
-    "Postfix Postfix [ Equality ]",
-    "Postfix' Primary'",
-    "Postfix' Postfix' ( List )",
-    "Postfix' Postfix' [ Equality ]",
-    "Primary Primary'",
-    "Primary ( Equality )",
-    "Primary [ List ]",
-    "Primary' name",
-    "Primary' integer",
-    "Primary' string",
-    "Primary' true",
-    "Primary' false",
-    "Primary' { Pairs }",
-    "Primary' if ( Equality ) Block",
-    "Primary' if ( Equality ) Block else Block",
-    "Primary' fn ( Names ) Block",
-    "Block { Statements }",
-    "List",
-    "List Items",
-    "Items Equality",
-    "Items Items , Equality",
-    "Pairs",
-    "Pairs Entries",
-    "Entries Equality : Equality",
-    "Entries Entries , Equality : Equality",
-    "Names",
-    "Names Parameters",
-    "Parameters name",
-    "Parameters Parameters , name",
-];
-
-/// A production, cut into its symbols.
-pub struct Rule {
-    pub left: &'static str,
-    pub right: Vec<&'static str>,
-}
-
-pub fn derives(symbol: &str) -> bool {
-    symbol.starts_with(|c: char| c.is_ascii_uppercase())
-}
-
-/// The productions, by the symbol on the left.
-pub struct Grammar {
-    pub rules: Vec<Rule>,
-    pub of: HashMap<&'static str, Vec<usize>>,
-}
-
-impl Default for Grammar {
-    fn default() -> Self {
-        let mut grammar = Grammar { rules: Vec::new(), of: HashMap::new() };
-        for (number, line) in PRODUCTIONS.iter().enumerate() {
-            let mut symbols = line.split(' ');
-            let left = symbols.next().unwrap();
-            grammar.rules.push(Rule { left, right: symbols.collect() });
-            grammar.of.entry(left).or_default().push(number);
-        }
-        grammar
-    }
-}
 
 /// A piece of text: its symbol, where it begins and ends.
 struct Piece {
@@ -228,7 +123,8 @@ fn close(grammar: &Grammar, sets: &mut [Items]) {
             continue;
         }
         let whole = Rc::new(Derivation::Rule(item.rule, item.row));
-        let waiting: Vec<_> = sets[item.origin].list.iter().filter(|i| next(grammar, i) == Some(rule.left)).cloned().collect();
+        let waiting: Vec<_> =
+            sets[item.origin].list.iter().filter(|i| next(grammar, i) == Some(rule.left)).cloned().collect();
         for item in waiting {
             sets[now].add(moved(&item, whole.clone()));
         }
@@ -298,9 +194,10 @@ fn derive(grammar: &Grammar, text: &[u8]) -> Result<Result<Rc<Derivation>, (usiz
         return Ok(Ok(empty(grammar, "Statements").unwrap()));
     }
     let last = &sets[sets.len() - 1];
-    let mut wholes = last.list.iter().filter(|i| {
-        i.origin == 0 && grammar.rules[i.rule].left == "Statements" && next(grammar, i).is_none()
-    });
+    let mut wholes = last
+        .list
+        .iter()
+        .filter(|i| i.origin == 0 && grammar.rules[i.rule].left == "Statements" && next(grammar, i).is_none());
     match (wholes.next(), wholes.next()) {
         (Some(_), Some(_)) => Err("two derivations".into()),
         (Some(item), None) => Ok(Ok(Rc::new(Derivation::Rule(item.rule, item.row.clone())))),

@@ -4,11 +4,11 @@ use std::process::ExitCode;
 use std::time::{Duration, Instant};
 
 use oracle::check::Both;
+use oracle::grammar::Grammar;
 use oracle::hex::hex;
 use oracle::pairs::{twin, Pair};
 use oracle::reference::listed;
 use oracle::series::{Call, Series};
-use oracle::text::Grammar;
 use oracle::{cases, draw, edges, enumerate, port, reduce, reference, script, text};
 
 /// Differences after which a run ends.
@@ -207,7 +207,7 @@ fn run(words: &[String]) -> bool {
         ("fields", 3),
         ("load", 1_000),
         ("images", 100_000),
-        ("texts", 100_000),
+        ("texts", 20_000),
         ("seconds", 600),
         ("bytes", 150_000),
     ]);
