@@ -34,6 +34,7 @@ static const struct worst worsts[] = {
     {"20 nested lets", "fn(){let a=", "1", "}", 20, 20, 0, 0, 416},
     {"60 nested indices", "a[", "1", "]", 60, 60, 0, 0, 437},
     {"60 nested hashes", "{1:", "1", "}", 60, 60, 0, 0, 857},
+    {"63 nested conditions", "if(", "1", "){1}", 63, 63, 0, MONKEY_TOO_DEEP, 0},
     {"a string, then +1 61 times", "", "", "+1", 0, 61, 8068, 0, 9175},
     {"a string, then () 61 times", "", "", "()", 0, 61, 8068, 0, 8260},
     {"4,096 times 1;", "1;", "", "", 4096, 0, 0, MONKEY_OUTPUT_SHORT, 0},
@@ -90,15 +91,18 @@ static size_t written(const uint8_t *stack) {
     return STACK - i;
 }
 
+/* The least time of 200 reads. */
 static double microseconds(void) {
-    enum { READS = 200 };
-    struct timespec from, to;
-    clock_gettime(CLOCK_MONOTONIC, &from);
-    for (int k = 0; k < READS; k++) {
+    double least = 1e9;
+    for (int k = 0; k < 200; k++) {
+        struct timespec from, to;
+        clock_gettime(CLOCK_MONOTONIC, &from);
         monkey_read_text(text, length, output, sizeof output);
+        clock_gettime(CLOCK_MONOTONIC, &to);
+        double taken = (double)(to.tv_sec - from.tv_sec) * 1e6 + (double)(to.tv_nsec - from.tv_nsec) / 1e3;
+        least = taken < least ? taken : least;
     }
-    clock_gettime(CLOCK_MONOTONIC, &to);
-    return ((double)(to.tv_sec - from.tv_sec) * 1e6 + (double)(to.tv_nsec - from.tv_nsec) / 1e3) / READS;
+    return least;
 }
 
 int main(int argc, char **argv) {
