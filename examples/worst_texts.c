@@ -1,6 +1,6 @@
 /*
- * Reads the worst texts in a thread with a stack of 256 KB: deep nesting, and long operands that every prefix before them is written in front of. Checks each answer,
- * and with an argument prints how long a read takes and how much of the stack it wrote. examples/run runs it.
+ * Reads the worst texts in a thread with a stack of 256 KB: deep nesting, long operands that each prefix or operator moves, many tokens. Checks each answer and that half of the
+ * stack was left alone, and with an argument prints how long a read takes and how much of the stack it wrote. examples/run runs it.
  */
 #define _POSIX_C_SOURCE 200112L
 #include <pthread.h>
@@ -120,6 +120,10 @@ int main(int argc, char **argv) {
         size_t used = written(stack);
         if (monkey_number(answer) != w->number || monkey_value(answer) != w->value) {
             printf("%s: answered %u, %u\n", w->name, (unsigned)monkey_number(answer), (unsigned)monkey_value(answer));
+            wrong++;
+        }
+        if (used > STACK / 2) {
+            printf("%s: %u bytes of stack\n", w->name, (unsigned)used);
             wrong++;
         }
         if (argc > 1) {
