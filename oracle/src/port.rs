@@ -44,6 +44,7 @@ extern "C" {
         output_length: usize,
     ) -> u64;
     fn monkey_propose_heights(image: *const u8, image_length: usize, heights: *mut u32, heights_length: usize) -> u64;
+    fn monkey_read_text(text: *const u8, text_length: usize, output: *mut u8, output_length: usize) -> u64;
     fn monkey_load_tree(seed: u32, output: *mut u8, output_length: usize) -> u64;
 }
 
@@ -139,6 +140,10 @@ pub fn check_heights(image: &[u8], heights: &[u32], output: &mut [u32]) -> Answe
 
 pub fn propose_heights(image: &[u8], heights: &mut [u32]) -> Answer {
     unpack(unsafe { monkey_propose_heights(image.as_ptr(), image.len(), heights.as_mut_ptr(), heights.len()) })
+}
+
+pub fn read_text(text: &[u8], output: &mut [u8]) -> Answer {
+    unpack(unsafe { monkey_read_text(text.as_ptr(), text.len(), output.as_mut_ptr(), output.len()) })
 }
 
 /// The tree of a seed (docs/LOAD.md).

@@ -4,25 +4,28 @@ use std::process::ExitCode;
 use std::time::{Duration, Instant};
 
 use oracle::check::Both;
+use oracle::grammar::Grammar;
 use oracle::hex::hex;
 use oracle::pairs::{twin, Pair};
 use oracle::reference::listed;
 use oracle::series::{Call, Series};
 use oracle::trial::Trial;
 use oracle::trial_trees::random_tree;
-use oracle::{cases, draw, edges, enumerate, port, reduce, reference};
+use oracle::{cases, draw, edges, enumerate, port, reduce, reference, script, text};
 
 /// Differences after which a run ends.
 const ENOUGH: u64 = 10;
 
 const USAGE: &str =
-    "compare [cases] [seed=N] [trees=N] [pairs=N] [short=N] [fields=N] [load=N] [images=N] [runs=N] [seconds=N] [bytes=N]";
+    "compare [cases] [seed=N] [trees=N] [pairs=N] [short=N] [fields=N] [load=N] [images=N] [runs=N] [texts=N] [seconds=N] [bytes=N]";
 
 /// A run: what it has compared so far.
 struct Run {
     both: Both,
     pair: Pair,
     pairs: u64,
+    /// Texts by the number that they were refused with, 0 for those that were read.
+    texts: [u64; 22],
     differ: u64,
     until: Instant,
 }
@@ -30,7 +33,7 @@ struct Run {
 impl Run {
     fn new(seconds: u64) -> Run {
         let until = Instant::now() + Duration::from_secs(seconds);
-        Run { both: Both::default(), pair: Pair::default(), pairs: 0, differ: 0, until }
+        Run { both: Both::default(), pair: Pair::default(), pairs: 0, texts: [0; 22], differ: 0, until }
     }
 
     fn over(&self) -> bool {
@@ -118,7 +121,23 @@ impl Run {
                 return;
             }
             if let Err(text) = self.both.random_image() {
-                self.report("heights", &text, &[]);
+                self.report("heights", &text, &Series::fresh(Vec::new()));
+            }
+        }
+    }
+
+    /// Random texts, read by the grammar and by the library.
+    fn texts(&mut self, seed: u64, texts: u64) {
+        let grammar = Grammar::default();
+        for number in 0..texts {
+            if self.over() {
+                return;
+            }
+            let mut random = draw::numbered(seed ^ 0x7e87, number);
+            let text = script::text(&mut random, &grammar);
+            match text::compare(&grammar, &text, &mut random) {
+                Ok(number) => self.texts[number] += 1,
+                Err(why) => self.report(&format!("text {}", hex(&text)), &why, &Series::fresh(Vec::new())),
             }
         }
     }
@@ -183,7 +202,7 @@ impl Run {
             some.map(|(number, n)| format!("{number} {n}")).collect::<Vec<_>>().join(", ")
         };
         println!(
-            "compared {} trees, {} more refused 22 without the Rust: accepted {}, refused {}; own limits {}; images listed {}; heights of {} images, {} lists passed; damaged sessions {}, lists of words {}; calls with records {}; pairs {}; differ {}",
+            "compared {} trees, {} more refused 22 without the Rust: accepted {}, refused {}; own limits {}; images listed {}; heights of {} images, {} lists passed; damaged sessions {}, lists of words {}; calls with records {}; texts {}; pairs {}; differ {}",
             counts.trees - counts.limits[22],
             counts.limits[22],
             counts.accepted,
@@ -195,6 +214,7 @@ impl Run {
             counts.sessions,
             counts.lists,
             counts.records,
+            listed(&self.texts),
             self.pairs,
             self.differ
         );
@@ -211,6 +231,7 @@ fn run(words: &[String]) -> bool {
         ("load", 1_000),
         ("images", 100_000),
         ("runs", 100_000),
+        ("texts", 20_000),
         ("seconds", 600),
         ("bytes", 150_000),
     ]);
@@ -227,6 +248,7 @@ fn run(words: &[String]) -> bool {
         return cases::write(options["seed"], options["bytes"] as usize);
     }
     let mut run = Run::new(options["seconds"]);
+    run.texts(options["seed"], options["texts"]);
     run.edges();
     run.short(options["short"] as usize, options["fields"] as usize);
     run.load(options["load"] as u32);
