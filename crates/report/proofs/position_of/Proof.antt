@@ -3,8 +3,8 @@ use Prim.Native.Nat.{_≤_, _+_, _-_}
 use native.Mathlib.Omega.{arith}
 use lib.ListN.{length}
 use borrow.Author.Needs.{needs}
-use Rattle.read_script.proofs.position_of.Statement.{statement}
-use Rattle.read_script.proofs.position_of.Tie as tie
+use Rattle.report.proofs.position_of.Statement.{statement}
+use Rattle.report.proofs.position_of.Tie as tie
 
 abbrev Inv-loop : tie.InvT-loop
 Inv-loop text place at₀ i₀ at i = (i ≤ length text) × (at .line ≤ i + 1) × (at .column ≤ i + 1)

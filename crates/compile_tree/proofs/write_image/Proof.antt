@@ -1,9 +1,0 @@
--- `compile_tree::write_image` meets its contract: a part that was tested is as long as it says.
-use native.Mathlib.Omega.{arith}
-use lib.ListN.{length-take}
-use borrow.Author.Needs.{needs}
-use Rattle.compile_tree.proofs.write_image.Statement.{statement}
-use Rattle.compile_tree.proofs.write_image.Tie as tie
-
-pub write-image-spec : {M : Type 1} → statement M
-write-image-spec = tie.close (tie.spec (λ c. simp length-take (omega arith)) (λ c κs. search needs) (λ c. search needs) (λ c. search needs))
