@@ -28,6 +28,9 @@ const OPEN: [(&str, &str); 14] = [
 
 /// A text, good or not.
 pub fn text(random: &mut Random, grammar: &Grammar) -> Vec<u8> {
+    if random.often(2) {
+        return long(random);
+    }
     let mut tokens = Vec::new();
     match random.below(10) {
         0 => {
@@ -55,6 +58,11 @@ pub fn text(random: &mut Random, grammar: &Grammar) -> Vec<u8> {
         shift(random, &mut out);
     }
     out
+}
+
+/// A text whose tree ends near 32,768 bytes: 14 for each statement.
+fn long(random: &mut Random) -> Vec<u8> {
+    random.pick(&["1;", "1 ", "42\n"]).repeat(random.between(2_336, 2_344)).into_bytes()
 }
 
 /// Some piece that a production names, or an odd one.
