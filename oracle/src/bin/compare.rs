@@ -152,7 +152,7 @@ impl Run {
             let mut random = draw::numbered(seed, number);
             let tree = random_tree(&mut random);
             if let Err(text) = trial.tree(&tree, &mut random) {
-                self.report(&format!("trial run, seed {seed}, tree {number}"), &text, &[Call::full(tree.bytes())]);
+                self.report(&format!("trial run, seed {seed}, tree {number}"), &text, &Series::fresh(vec![Call::full(tree.bytes())]));
             }
         }
         let n = &trial.counts;
