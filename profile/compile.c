@@ -143,10 +143,29 @@ static int compile_all(const struct arguments *a, struct image *images, struct p
     return status == DONE && a->session != NULL ? commit_file(file) : status;
 }
 
+/* Refuses an output, or a session file, that is one of the scripts, and an output that is the session file. */
+static int check_output(const struct arguments *a) {
+    const char *written[] = {a->output, a->session};
+    for (size_t k = 0; k < a->count; k++) {
+        for (size_t w = 0; w < 2; w++) {
+            if (written[w] != NULL && same_file(written[w], a->operands[k])) {
+                return usage_error(a->command, "a script would be written over: ", a->operands[k]);
+            }
+        }
+    }
+    if (a->output != NULL && a->session != NULL && (strcmp(a->output, a->session) == 0 || same_file(a->output, a->session))) {
+        return usage_error(a->command, "image and session would be one file: ", a->session);
+    }
+    return DONE;
+}
+
 /* profile compile */
 int run_compile(const struct arguments *a) {
-    struct pending file = {NULL, NULL};
-    int status = open_session(a, session);
+    struct pending file = {NULL, NULL, 0};
+    int status = check_output(a);
+    if (status == DONE) {
+        status = open_session(a, session);
+    }
     if (status != DONE) {
         return status;
     }

@@ -62,6 +62,12 @@ int is_directory(const char *path) {
     return (length > 0 && path[length - 1] == '/') || (stat(path, &s) == 0 && S_ISDIR(s.st_mode));
 }
 
+/* Whether two paths name one regular file. */
+int same_file(const char *left, const char *right) {
+    struct stat l, r;
+    return stat(left, &l) == 0 && stat(right, &r) == 0 && S_ISREG(l.st_mode) && l.st_dev == r.st_dev && l.st_ino == r.st_ino;
+}
+
 /* Makes a directory where none is. */
 int ensure_directory(const char *path) {
     struct stat s;
@@ -123,6 +129,7 @@ static int name_pending(struct pending *file, const char *path) {
 
 /* Writes a file beside its target. A target that is there and may not be written is left alone. */
 int prepare_file(struct pending *file, const char *path, const uint8_t *bytes, size_t length, int durable) {
+    file->durable = durable;
     if ((access(path, F_OK) == 0 && access(path, W_OK) != 0) || !name_pending(file, path)) {
         return file_error(path);
     }
@@ -146,7 +153,9 @@ int commit_file(struct pending *file) {
     if (rename(file->temporary, file->target) != 0) {
         return file_error(file->target);
     }
-    sync_directory(file->target);
+    if (file->durable) {
+        sync_directory(file->target);
+    }
     free(file->temporary);
     file->temporary = NULL;
     return DONE;
@@ -179,7 +188,7 @@ static int write_stream(const char *path, int descriptor, const uint8_t *bytes, 
 /* Writes an output: to standard output where the path is null or "-", in place where it is a device, else to a new file that is renamed. */
 int write_output(const char *path, const uint8_t *bytes, size_t length) {
     struct stat s;
-    struct pending file = {NULL, NULL};
+    struct pending file = {NULL, NULL, 0};
     if (path == NULL || strcmp(path, "-") == 0) {
         return write_stream("standard output", STDOUT_FILENO, bytes, length);
     }

@@ -37,34 +37,42 @@ static const struct command *find_command(const char *name) {
     return NULL;
 }
 
-/* Where the value of an option goes, or null, if the subcommand does not take it. */
-static const char **value_of(const struct command *c, struct arguments *a, const char *option) {
-    if (strcmp(option, "-o") == 0 && strchr(c->options, 'o') != NULL) {
-        return &a->output;
+/* Where the value of an option goes, or null, if the subcommand does not take it; a value in the same word, -oFILE or --session=FILE, is found. */
+static const char **value_of(const struct command *c, struct arguments *a, const char *word, const char **value) {
+    static const char *const options[] = {"-o", "--session", "--words"};
+    const char **places[] = {&a->output, &a->session, &a->words};
+    for (size_t k = 0; k < sizeof options / sizeof options[0]; k++) {
+        size_t end = strlen(options[k]);
+        if (strncmp(word, options[k], end) != 0 || strchr(c->options, "osw"[k]) == NULL) {
+            continue;
+        }
+        if (word[end] == 0 || k == 0 || word[end] == '=') {
+            *value = word[end] == 0 ? NULL : word + end + (k != 0);
+            return places[k];
+        }
     }
-    if (strcmp(option, "--session") == 0 && strchr(c->options, 's') != NULL) {
-        return &a->session;
-    }
-    return strcmp(option, "--words") == 0 && strchr(c->options, 'w') != NULL ? &a->words : NULL;
+    return NULL;
 }
 
 /* Takes the option at an index, and moves the index to its last word. */
 static int take_option(const struct command *c, struct arguments *a, char **words, int count, int *k) {
-    if (strcmp(words[*k], "--tree") == 0 && strchr(c->options, 't') != NULL) {
+    const char *word = words[*k];
+    const char *value = NULL;
+    if (strcmp(word, "--tree") == 0 && strchr(c->options, 't') != NULL) {
         a->tree = 1;
         return DONE;
     }
-    const char **value = value_of(c, a, words[*k]);
-    if (value == NULL) {
-        return usage_error(c->name, "no option ", words[*k]);
+    const char **place = value_of(c, a, word, &value);
+    if (place == NULL) {
+        return usage_error(c->name, "no option ", word);
     }
-    if (*k + 1 == count) {
-        return usage_error(c->name, "no value behind ", words[*k]);
+    if (*place != NULL) {
+        return usage_error(c->name, "given twice: ", word);
     }
-    if (*value != NULL) {
-        return usage_error(c->name, "given twice: ", words[*k]);
+    if (value == NULL && *k + 1 == count) {
+        return usage_error(c->name, "no value behind ", word);
     }
-    *value = words[++*k];
+    *place = value != NULL ? value : words[++*k];
     return DONE;
 }
 

@@ -33,6 +33,7 @@ struct arguments {
 struct pending {
     char *target;
     char *temporary;
+    int durable; /* to the disk before the rename, and the rename too */
 };
 
 /* files.c: each says what failed, and answers DONE or FAILED */
@@ -45,6 +46,7 @@ int write_binary(const char *path, const uint8_t *bytes, size_t length);
 int write_within(const char *directory, const char *name, const uint8_t *bytes, size_t length);
 int ensure_directory(const char *path);
 int is_directory(const char *path);
+int same_file(const char *left, const char *right);
 int finish_stdout(void);
 
 /* report.c */
@@ -61,6 +63,7 @@ const char *shown_path(const char *path);
 size_t place_in_text(const uint8_t *tree, size_t tree_length, size_t offset, const uint8_t *text, size_t text_length);
 
 /* session.c */
+int read_session(const char *path, uint8_t *session);
 int open_session(const struct arguments *a, uint8_t *session);
 int save_session(const char *path, const uint8_t *session, struct pending *file);
 const uint8_t *global_name(const uint8_t *session, size_t index, size_t *length);

@@ -34,7 +34,7 @@ static int make_with_words(const char *list, uint8_t *session) {
 }
 
 /* Reads a session file. One that has not the length of a session is none. */
-static int read_session(const char *path, uint8_t *session) {
+int read_session(const char *path, uint8_t *session) {
     static uint8_t bytes[MONKEY_SESSION_SIZE + 1];
     size_t length = 0;
     int status = read_input(path, bytes, sizeof bytes, &length);
