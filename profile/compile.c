@@ -164,7 +164,7 @@ int run_compile(const struct arguments *a) {
     struct pending file = {NULL, NULL, 0};
     int status = check_output(a);
     if (status == DONE) {
-        status = open_session(a, session);
+        status = open_session(a, session, 1);
     }
     if (status != DONE) {
         return status;
@@ -231,7 +231,7 @@ static int by_offset(const void *left, const void *right) {
 
 /* profile names */
 int run_names(const struct arguments *a) {
-    int status = open_session(a, session);
+    int status = open_session(a, session, 0);
     if (status == DONE) {
         status = read_script(a, a->operands[0]);
     }

@@ -41,18 +41,44 @@ static int write_all(int descriptor, const uint8_t *bytes, size_t length) {
     return 1;
 }
 
+/* Reads an open file, which is shown by its path. */
+int read_descriptor(const char *path, int descriptor, uint8_t *buffer, size_t room, size_t *length) {
+    return read_all(descriptor, buffer, room, length) ? DONE : file_error(path);
+}
+
 /* Reads a file, or standard input where the path is "-". */
 int read_input(const char *path, uint8_t *buffer, size_t room, size_t *length) {
-    int standard = strcmp(path, "-") == 0;
-    int descriptor = standard ? STDIN_FILENO : open(path, O_RDONLY);
+    if (strcmp(path, "-") == 0) {
+        return read_descriptor(path, STDIN_FILENO, buffer, room, length);
+    }
+    int descriptor = open(path, O_RDONLY);
     if (descriptor < 0) {
         return file_error(path);
     }
-    int status = read_all(descriptor, buffer, room, length) ? DONE : file_error(path);
-    if (!standard) {
+    int status = read_descriptor(path, descriptor, buffer, room, length);
+    close(descriptor);
+    return status;
+}
+
+/*
+ * Opens a file that is to be replaced, and waits until no other command has it so: the descriptor, or -1. It is had until the program ends. Another command may have
+ * replaced it meanwhile; then the new file is opened. Where a file system has no locks there is no waiting.
+ */
+int open_alone(const char *path) {
+    for (;;) {
+        struct stat held, there;
+        struct flock lock = {.l_type = F_WRLCK, .l_whence = SEEK_SET};
+        int descriptor = open(path, O_RDWR);
+        if (descriptor < 0) {
+            return -1;
+        }
+        while (fcntl(descriptor, F_SETLKW, &lock) != 0 && errno == EINTR) {
+        }
+        if (fstat(descriptor, &held) != 0 || stat(path, &there) != 0 || (held.st_dev == there.st_dev && held.st_ino == there.st_ino)) {
+            return descriptor;
+        }
         close(descriptor);
     }
-    return status;
 }
 
 /* Whether a path names a directory. */

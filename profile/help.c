@@ -39,7 +39,7 @@ static const struct {
      "                  speed.monkey becomes speed.image\n"
      "  --tree          the scripts are trees in bytes, not texts\n"
      "  --session FILE  go on with the session of this file and write it anew; a file\n"
-     "                  that is not there is made. One command at a time per file\n"
+     "                  that is not there is made\n"
      "  --words WORD,.. a fresh session has these built-in words alone ('': none)\n"
      "\n"
      "If one script is refused nothing is written: no image, and the session file is as\n"

@@ -101,7 +101,7 @@ static int read_names(const struct arguments *a) {
     static const uint8_t nothing[] = {0x10, 0, 0};
     static uint8_t code[MONKEY_CODE_SIZE];
     static uint32_t table[MONKEY_TABLE_SIZE];
-    int status = read_session(a->session, session);
+    int status = read_session(a->session, session, 0);
     if (status != DONE) {
         return status;
     }

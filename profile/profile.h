@@ -37,6 +37,8 @@ struct pending {
 };
 
 /* files.c: each says what failed, and answers DONE or FAILED */
+int read_descriptor(const char *path, int descriptor, uint8_t *buffer, size_t room, size_t *length);
+int open_alone(const char *path);
 int read_input(const char *path, uint8_t *buffer, size_t room, size_t *length);
 int prepare_file(struct pending *file, const char *path, const uint8_t *bytes, size_t length, int durable);
 int commit_file(struct pending *file);
@@ -63,8 +65,8 @@ const char *shown_path(const char *path);
 size_t place_in_text(const uint8_t *tree, size_t tree_length, size_t offset, const uint8_t *text, size_t text_length);
 
 /* session.c */
-int read_session(const char *path, uint8_t *session);
-int open_session(const struct arguments *a, uint8_t *session);
+int read_session(const char *path, uint8_t *session, int replaced);
+int open_session(const struct arguments *a, uint8_t *session, int replaced);
 int save_session(const char *path, const uint8_t *session, struct pending *file);
 const uint8_t *global_name(const uint8_t *session, size_t index, size_t *length);
 

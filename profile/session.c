@@ -3,6 +3,7 @@
  */
 #define _XOPEN_SOURCE 700
 #include <errno.h>
+#include <fcntl.h>
 #include <stdio.h>
 #include <stdlib.h>
 #include <string.h>
@@ -33,11 +34,18 @@ static int make_with_words(const char *list, uint8_t *session) {
     return monkey_number(answer) == 0 ? DONE : refuse_plainly("--words", answer);
 }
 
-/* Reads a session file. One that has not the length of a session is none. */
-int read_session(const char *path, uint8_t *session) {
+/* Reads a session file, alone if it is to be replaced. One that has not the length of a session is none. */
+int read_session(const char *path, uint8_t *session, int replaced) {
     static uint8_t bytes[MONKEY_SESSION_SIZE + 1];
     size_t length = 0;
-    int status = read_input(path, bytes, sizeof bytes, &length);
+    int descriptor = replaced ? open_alone(path) : open(path, O_RDONLY);
+    if (descriptor < 0) {
+        return file_error(path);
+    }
+    int status = read_descriptor(path, descriptor, bytes, sizeof bytes, &length);
+    if (!replaced) { /* else it stays open: closing it would let another command have it */
+        close(descriptor);
+    }
     if (status != DONE) {
         return status;
     }
@@ -48,13 +56,13 @@ int read_session(const char *path, uint8_t *session) {
     return DONE;
 }
 
-/* Makes or reads the session of a command. */
-int open_session(const struct arguments *a, uint8_t *session) {
+/* Makes or reads the session of a command, which replaces its file or does not. */
+int open_session(const struct arguments *a, uint8_t *session, int replaced) {
     if (a->session != NULL && (access(a->session, F_OK) == 0 || errno != ENOENT)) {
         if (a->words != NULL) {
             return usage_error(a->command, "--words is for a new session, and there is ", a->session);
         }
-        return read_session(a->session, session);
+        return read_session(a->session, session, replaced);
     }
     if (a->words != NULL) {
         return make_with_words(a->words, session);
