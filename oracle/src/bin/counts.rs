@@ -2,40 +2,26 @@
 use std::collections::BTreeMap;
 use std::process::{Command, ExitCode};
 
+use oracle::draw;
 use oracle::hex::hex;
+use oracle::pairs::{filled, random_byte};
 use oracle::port::Answer;
 use oracle::random::Random;
 use oracle::series::{Call, Lent, Series};
-use oracle::{draw, read};
 
 /// What stands in the literals of a series: the first is compared with each of the others.
 const VARIANTS: [&str; 3] = ["zeros", "FF", "random"];
 
 const SEED: u64 = 112;
 
-/// The same series with other literals in it, and other bytes in output and work areas before each call.
+/// The same series with the literals of a variant; it lends other bytes, too.
 fn variant(series: &Series, which: &str, random: &mut Random) -> Series {
-    let mut byte = |boolean: bool| match which {
+    filled(series, &mut |boolean| match which {
         "zeros" => 0,
-        "FF" => {
-            if boolean {
-                1
-            } else {
-                0xFF
-            }
-        }
-        _ => random.below(if boolean { 2 } else { 256 }) as u8,
-    };
-    let mut series = series.clone();
-    for call in &mut series.calls {
-        for literal in read::tree(&call.tree).literals {
-            let boolean = call.tree[literal.start - 3] == 0x27;
-            call.tree[literal].iter_mut().for_each(|b| *b = byte(boolean));
-        }
-        call.lending.fill = byte(false);
-        call.lending.dirt = byte(false);
-    }
-    series
+        "FF" if boolean => 1,
+        "FF" => 0xFF,
+        _ => random_byte(random, boolean),
+    })
 }
 
 /// The series of this number, once for each variant.
