@@ -2,12 +2,13 @@
 use std::collections::BTreeMap;
 use std::process::{Command, ExitCode};
 
-use oracle::draw;
+use oracle::edges::Edge;
 use oracle::hex::hex;
 use oracle::pairs::{filled, random_byte};
 use oracle::port::Answer;
 use oracle::random::Random;
 use oracle::series::{Call, Lent, Series};
+use oracle::{draw, edges};
 
 /// What stands in the literals of a series: the first is compared with each of the others.
 const VARIANTS: [&str; 3] = ["zeros", "FF", "random"];
@@ -24,23 +25,36 @@ fn variant(series: &Series, which: &str, random: &mut Random) -> Series {
     })
 }
 
-/// The series of this number, once for each variant.
-fn alike(number: u64) -> Vec<Series> {
+/// A series once for each variant.
+fn alike(series: Series, random: &mut Random) -> Vec<Series> {
+    VARIANTS.iter().map(|which| variant(&series, which, random)).collect()
+}
+
+/// The random series of this number.
+fn drawn(number: u64) -> Vec<Series> {
     let mut random = draw::numbered(SEED, number);
     let words = draw::words(&mut random);
     let series = draw::series(&mut random, &words);
-    VARIANTS.iter().map(|which| variant(&series, which, &mut random)).collect()
+    alike(series, &mut random)
 }
 
-/// As many series as have so many pairs of calls.
-fn all(pairs: usize) -> Vec<Vec<Series>> {
+/// The series at both sides of each boundary.
+fn edges() -> Vec<Vec<Series>> {
+    let mut random = Random::new(SEED);
+    let series = |edge: Edge| Series::fresh(edge.trees.into_iter().map(Call::full).collect());
+    edges::all().into_iter().map(|edge| alike(series(edge), &mut random)).collect()
+}
+
+/// As many random series as have so many pairs of calls; without a number the edges.
+fn all(pairs: Option<usize>) -> Vec<Vec<Series>> {
+    let Some(pairs) = pairs else { return edges() };
     let mut found = 0;
     let enough = |series: &Vec<Series>| {
         let before = found;
         found += series[0].calls.len() * (VARIANTS.len() - 1);
         before < pairs
     };
-    (0..).map(alike).take_while(enough).collect()
+    (0..).map(drawn).take_while(enough).collect()
 }
 
 /// Makes every call in the same memory, in order, for callgrind; the answers.
@@ -60,14 +74,13 @@ fn calls(series: &[Vec<Series>]) -> Vec<Answer> {
 }
 
 /// The instructions of each call, by callgrind, which runs this program again.
-fn counted(pairs: usize) -> Result<Vec<u64>, String> {
+fn counted(which: &str) -> Result<Vec<u64>, String> {
     let program = std::env::current_exe().map_err(|e| e.to_string())?;
     let file = std::env::temp_dir().join(format!("counts.{}", std::process::id()));
     let mut valgrind = Command::new("valgrind");
     valgrind.args(["--tool=callgrind", "--toggle-collect=monkey_compile", "--dump-after=monkey_compile"]);
     valgrind.args(["--combine-dumps=yes", &format!("--callgrind-out-file={}", file.display())]);
-    let output =
-        valgrind.arg(program).args(["calls", &pairs.to_string()]).output().map_err(|e| format!("valgrind: {e}"))?;
+    let output = valgrind.arg(program).args(["calls", which]).output().map_err(|e| format!("valgrind: {e}"))?;
     let text = std::fs::read_to_string(&file);
     let _ = std::fs::remove_file(&file);
     if !output.status.success() {
@@ -106,10 +119,10 @@ fn compared(series: &[Vec<Series>], counts: &[u64], answers: &[Answer]) -> Optio
     Some(pairs)
 }
 
-fn run(pairs: usize) -> Result<bool, String> {
-    let series = all(pairs);
+fn run(which: &str) -> Result<bool, String> {
+    let series = all(which.parse().ok());
     let answers = calls(&series);
-    let counts = counted(pairs)?;
+    let counts = counted(which)?;
     if counts.len() != answers.len() {
         return Err(format!("{} calls, but {} counts", answers.len(), counts.len()));
     }
@@ -125,23 +138,29 @@ fn run(pairs: usize) -> Result<bool, String> {
     Ok(true)
 }
 
+/// Whether this says which series are meant.
+fn known(which: &str) -> bool {
+    which == "edges" || which.parse::<usize>().is_ok()
+}
+
 fn main() -> ExitCode {
     let words: Vec<_> = std::env::args().skip(1).collect();
-    let number = |word: Option<&String>| word.map_or(Some(200), |w| w.parse().ok());
-    let done = match words.first().map(String::as_str) {
-        Some("calls") => number(words.get(1)).map(|pairs| Ok(!calls(&all(pairs)).is_empty())),
-        _ => number(words.first()).map(run),
+    let words: Vec<_> = words.iter().map(String::as_str).collect();
+    let done = match words[..] {
+        [] => run("200"),
+        ["calls", which] if known(which) => Ok(!calls(&all(which.parse().ok())).is_empty()),
+        [which] if known(which) => run(which),
+        _ => {
+            eprintln!("counts [PAIRS|edges]");
+            return ExitCode::from(2);
+        }
     };
     match done {
-        Some(Ok(true)) => ExitCode::SUCCESS,
-        Some(Ok(false)) => ExitCode::FAILURE,
-        Some(Err(why)) => {
+        Ok(true) => ExitCode::SUCCESS,
+        Ok(false) => ExitCode::FAILURE,
+        Err(why) => {
             eprintln!("counts: {why}");
             ExitCode::FAILURE
-        }
-        None => {
-            eprintln!("counts [PAIRS]");
-            ExitCode::from(2)
         }
     }
 }
