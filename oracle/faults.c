@@ -1,4 +1,4 @@
-/* The exported compile with a fault planted, chosen by the variable FAULT: the comparison must find each (oracle/run faults). */
+/* The exported compile with a fault planted, chosen by the variable FAULT: the comparison, or the counts, must find each (oracle/run faults). */
 #define _GNU_SOURCE
 #include <stddef.h>
 #include <stdint.h>
@@ -46,6 +46,9 @@ uint64_t monkey_compile(uint8_t *session, size_t session_length, const uint8_t *
         break;
     case 10: /* the pool said to be full before it is */
         if (accepted && tree_length > 2000) answer = (uint64_t)12 << 32;
+        break;
+    case 11: /* a step more for one literal, which no answer shows: for the counts */
+        if (number != 1 && memmem(tree, tree_length, "\x26\0\x08\xff", 4)) code[0] = 0;
         break;
     }
     return answer;

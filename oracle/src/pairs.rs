@@ -14,22 +14,31 @@ fn same_words(words: &Words, random: &mut Random) -> Words {
     }
 }
 
-/// The same series with other literals in it, and other bytes in output and work areas before each call.
-pub fn twin(series: &Series, random: &mut Random) -> Series {
-    let words = same_words(&series.words, random);
-    let change = |call: &Call| {
+/// The same series with these bytes in its literals, and in output and work areas before each call; `byte` is told whether it is for a Boolean.
+pub fn filled(series: &Series, byte: &mut impl FnMut(bool) -> u8) -> Series {
+    let mut change = |call: &Call| {
         let mut call = call.clone();
         for literal in read::tree(&call.tree).literals {
             let boolean = call.tree[literal.start - 3] == 0x27;
-            let content = &mut call.tree[literal];
-            content.iter_mut().for_each(|b| *b = if boolean { random.below(2) } else { random.below(256) } as u8);
+            call.tree[literal].iter_mut().for_each(|b| *b = byte(boolean));
         }
-        call.lending.fill = random.next() as u8;
-        call.lending.dirt = random.next() as u8;
+        call.lending.fill = byte(false);
+        call.lending.dirt = byte(false);
         call
     };
-    let calls = series.calls.iter().map(change).collect();
-    Series { words, calls }
+    let calls = series.calls.iter().map(&mut change).collect();
+    Series { words: series.words.clone(), calls }
+}
+
+/// A byte at random, 0 or 1 for a Boolean.
+pub fn random_byte(random: &mut Random, boolean: bool) -> u8 {
+    random.below(if boolean { 2 } else { 256 }) as u8
+}
+
+/// The same series with other literals in it, and other bytes in output and work areas before each call.
+pub fn twin(series: &Series, random: &mut Random) -> Series {
+    let words = same_words(&series.words, random);
+    Series { words, ..filled(series, &mut |boolean| random_byte(random, boolean)) }
 }
 
 /// Three sessions side by side.
