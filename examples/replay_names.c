@@ -9,12 +9,14 @@
 #include "monkey.h"
 
 enum { MOST = 70000, OTHER = 99999 }; /* OTHER: what stands in a number before a call */
+#define PROGRAM "replay_names"
+#include "replay.h"
 
 static uint8_t session[MONKEY_SESSION_SIZE], before[MONKEY_SESSION_SIZE], output[MOST], code[MONKEY_CODE_SIZE], tree[MOST], expected[MOST];
 static uint32_t table[MONKEY_TABLE_SIZE];
 static struct monkey_name names[MONKEY_NAMES_LIMIT];
 static const uint8_t words[] = "\x42\0\x2a" "0\0\3len0\0\4puts0\0\5first0\0\4last0\0\4rest0\0\4push";
-static char line[1 << 20], topic[200];
+static char topic[200];
 static size_t records = MONKEY_NAMES_LIMIT, room = MOST, at;
 static int recording, accepted, asked, wrong;
 
@@ -25,33 +27,6 @@ static void expect(int holds, const char *what) {
         wrong++;
         fprintf(stderr, "replay_names: %s: %s\n", topic, what);
     }
-}
-
-/* Bytes in hexadecimal, where `{0f}301.` stands for the bytes between the braces 301 times; how many there are. */
-static size_t read_bytes(const char *text, uint8_t *to) {
-    size_t length = 0, group = 0;
-    for (const char *c = text; *c != '\0' && *c != '\n' && *c != '-';) {
-        if (*c == '{') {
-            group = length;
-            c++;
-        } else if (*c == '}') {
-            char *end;
-            size_t size = length - group;
-            for (unsigned long k = strtoul(c + 1, &end, 10); k > 1 && length + size <= MOST; k--, length += size) {
-                memcpy(to + length, to + group, size);
-            }
-            c = end + 1;
-        } else {
-            unsigned byte;
-            if (length == MOST || sscanf(c, "%2x", &byte) != 1) {
-                expect(0, "no bytes");
-                return 0;
-            }
-            to[length++] = (uint8_t)byte;
-            c += 2;
-        }
-    }
-    return length;
 }
 
 /* One call, with records or without; its answer, as length or refusal. */

@@ -9,84 +9,12 @@
 #include "monkey.h"
 
 enum { MOST = 70000, ROOM = 9300, WORK = 4200, OTHER = 7 }; /* OTHER: what stands in the output and the work area before a call */
-
-struct list {
-    size_t length;
-    uint32_t at[MOST];
-};
+#define PROGRAM "replay_runs"
+#include "replay.h"
 
 static uint8_t given[MOST], image[MOST], expected[MOST], output[ROOM];
 static uint64_t work[WORK];
 static struct list heights;
-static char line[1 << 20];
-
-static void fail(const char *why) {
-    fprintf(stderr, "replay_runs: %s: %s\n", why, line);
-    exit(1);
-}
-
-static void append(struct list *to, uint32_t n) {
-    if (to->length == MOST) {
-        fail("too long");
-    }
-    to->at[to->length++] = n;
-}
-
-/* A list: numbers, `5*12`, `3..7`, `7..3`, `_` for one that is 0 because its instruction is not reached, `-` for none. */
-static void read_list(char *text, struct list *to) {
-    to->length = 0;
-    for (char *word = strtok(text, " \n"); word != NULL; word = strtok(NULL, " \n")) {
-        char *rest = word + 1;
-        if (word[0] == '-') {
-            continue;
-        }
-        uint32_t n = word[0] == '_' ? 0 : (uint32_t)strtoul(word, &rest, 10);
-        if (rest[0] == '*') {
-            for (unsigned long times = strtoul(rest + 1, NULL, 10); times > 0; times--) {
-                append(to, n);
-            }
-        } else if (rest[0] == '.') {
-            uint32_t last = (uint32_t)strtoul(rest + 2, NULL, 10);
-            for (; n != last; n += n < last ? 1u : (uint32_t)-1) {
-                append(to, n);
-            }
-            append(to, last);
-        } else {
-            append(to, n);
-        }
-    }
-}
-
-/* Bytes in hexadecimal, where `{0f}301.` stands for the bytes between the braces 301 times; how many there are. */
-static size_t read_bytes(const char *text, uint8_t *to) {
-    size_t length = 0, group = 0;
-    for (const char *c = text; *c != '\0' && *c != '\n' && *c != '-';) {
-        if (*c == '{') {
-            group = length;
-            c++;
-        } else if (*c == '}') {
-            char *end;
-            size_t size = length - group;
-            unsigned long times = strtoul(c + 1, &end, 10);
-            if (group + size * times > MOST) {
-                fail("too long");
-            }
-            for (unsigned long k = 1; k < times; k++) {
-                memcpy(to + group + k * size, to + group, size);
-            }
-            length = group + size * times;
-            c = end + 1;
-        } else {
-            unsigned byte;
-            if (length == MOST || sscanf(c, "%2x", &byte) != 1) {
-                fail("no bytes");
-            }
-            to[length++] = (uint8_t)byte;
-            c += 2;
-        }
-    }
-    return length;
-}
 
 /* The image of a tree in a fresh session; its length. */
 static size_t compile(size_t size) {

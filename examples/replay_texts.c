@@ -9,45 +9,10 @@
 #include "monkey.h"
 
 enum { MOST = 131072, OTHER = 0xa5 }; /* OTHER: what stands in an output before a call */
+#define PROGRAM "replay_texts"
+#include "replay.h"
 
 static uint8_t text[MOST], tree[MOST], output[MOST];
-static char line[1 << 18];
-
-static void fail(const char *why) {
-    fprintf(stderr, "replay_texts: %s: %s\n", why, line);
-    exit(1);
-}
-
-/* Bytes in hexadecimal, where `{0f}301.` stands for the bytes between the braces 301 times; how many there are. */
-static size_t read_bytes(const char *hex, uint8_t *to) {
-    size_t length = 0, group = 0;
-    for (const char *c = hex; *c != '\0' && *c != '\n' && *c != '-';) {
-        if (*c == '{') {
-            group = length;
-            c++;
-        } else if (*c == '}') {
-            char *end;
-            size_t size = length - group;
-            unsigned long times = strtoul(c + 1, &end, 10);
-            if (group + size * times > MOST) {
-                fail("too long");
-            }
-            for (unsigned long k = 1; k < times; k++) {
-                memcpy(to + group + k * size, to + group, size);
-            }
-            length = group + size * times;
-            c = end + 1;
-        } else {
-            unsigned byte;
-            if (length == MOST || sscanf(c, "%2x", &byte) != 1) {
-                fail("no bytes");
-            }
-            to[length++] = (uint8_t)byte;
-            c += 2;
-        }
-    }
-    return length;
-}
 
 /* Whether the output has a tree's bytes at its front and is as it was behind them. */
 static int has(size_t length) {
