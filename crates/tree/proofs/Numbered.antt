@@ -21,6 +21,7 @@ under : {x y : Bool} (b : Bool) → (b ≡ true → x ≡ y) → both b x ≡ bo
 under true h = h refl
 under false h = refl
 
+-- tests in a row: three; one that always holds at the end; one that never does
 both-assoc : (a b d : Bool) → both (both a b) d ≡ both a (both b d)
 both-assoc true b d = refl
 both-assoc false b d = refl
@@ -57,7 +58,7 @@ one-tag u t = by (eqb t u) refl
 digits : (m low high : ℕ) → low < m → ((low + m * high) % m ≡ low) × ((low + m * high) / m ≡ high)
 digits m low high h = (add-mul-mod-self-left low m high ∙ mod-eq-of-lt h, add-mul-div-left low high (omega arith) ∙ ap (λ z. z + high) (div-eq-of-lt h) ∙ zero-add high)
 
--- the mark
+-- the mark as a digit, 0 or 1
 bit : Bool → ℕ
 bit e = pick e 1 0
 
@@ -76,6 +77,7 @@ module _ (e : Bool) (low high least : ℕ) (l : low < 64) (h : high < 64) where
   abbrev n : ℕ
   n = marked e (tags low high + 8192 * least)
 
+  -- its digits, and what is left of it without the first and the first two
   n-is : n ≡ low + 64 * (high + 64 * (bit e + 2 * least))
   unfolding bit
   n-is = omega arith

@@ -19,7 +19,7 @@ use Rattle.tree.proofs.Checking.{children-ended, children-more}
 use Rattle.tree.proofs.Turns.{Turned, turned-start, turned-again, turned-first}
 use Rattle.tree.proofs.Numbered.{kind-ends, numbered, good-some}
 
--- the parts of a refusal's number
+-- what the numbers of refusals 3 and 4 say
 pub bad-number : (at : ℕ) → outcomeOf (2 * at + 1) ≡ badTree at
 bad-number at =
     let m : (2 * at + 1) % 2 ≡ 1 = omega arith in

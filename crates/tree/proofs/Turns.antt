@@ -9,7 +9,7 @@ use lib.Dec.{eqb}
 use borrow.Author.Tests.{eqb-true, ne-eqb, le-leb}
 use Rattle.definition.specs.Basic.{both}
 use Rattle.definition.specs.Tag.{tagCall}
-use Rattle.definition.proofs.Basic.{both-true}
+use Rattle.definition.proofs.Basic.{both-left, both-right, both-true}
 use Rattle.tree.specs.Grammar.{either, childKind, leastOf, enoughOf}
 use Rattle.tree.specs.Kinds.{kindNumber, mayEnd, marked, wanted, kindsOf, firstOf, turnOf}
 use Rattle.tree.proofs.Table.{allBelow, passes}
@@ -36,66 +36,53 @@ turn-fits kinds h = sum (kinds / 0x10000) (kinds % 0x10000) (div-lt-iff-lt-mul {
     sum : (high low : ℕ) → high < 0x1000000000000 → low < 0x10000 → high + low * 0x1000000000000 < 0x10000000000000000
     sum high low h l = omega arith
 
--- the first four children of a tag have their kinds in turn, and after four turns the number is what it was
+-- after k turns the kind of child k comes first
+turnRight : ℕ → ℕ → Bool
+turnRight t k = eqb (firstOf (turns k (kindsOf t))) (wanted t k)
+
+-- so for the first four children, and after four turns the number is what it was
 turnsRight : ℕ → Bool
-turnsRight t =
-    both (eqb (firstOf (kindsOf t)) (wanted t 0))
-    (both (eqb (firstOf (turns 1 (kindsOf t))) (wanted t 1))
-    (both (eqb (firstOf (turns 2 (kindsOf t))) (wanted t 2))
-    (both (eqb (firstOf (turns 3 (kindsOf t))) (wanted t 3)) (eqb (turns 4 (kindsOf t)) (kindsOf t)))))
+turnsRight t = both (allBelow 4 (turnRight t)) (eqb (turns 4 (kindsOf t)) (kindsOf t))
 
--- where a fourth child may stand, all have one kind, and the content may end before each, or a hash's before each key
+-- where a fourth child may stand, all have one kind, and none must be there but a call's first and a key's value
 repeatsRight : ℕ → Bool
-repeatsRight t =
-    either (eqb (kindAt t 3) 63)
-    (both (eqb (kindAt t 0) (kindAt t 3))
-    (both (eqb (kindAt t 1) (kindAt t 3))
-    (both (eqb (kindAt t 2) (kindAt t 3)) (either (eqb t tagCall) (eqb (leastOf t) 0)))))
+repeatsRight t = either (eqb (kindAt t 3) 63) (both (allBelow 3 (λ k. eqb (kindAt t k) (kindAt t 3))) (either (eqb t tagCall) (eqb (leastOf t) 0)))
 
+-- both hold of each tag, computed
 turns-right : allBelow 256 turnsRight ≡ true
-unfolding turnsRight turns wanted kindsOf
+unfolding turnRight turnsRight turns wanted kindsOf
 turns-right = refl
 
 repeats-right : allBelow 256 repeatsRight ≡ true
 unfolding repeatsRight
 repeats-right = refl
 
--- what the tests say of a tag
-record Right (t : ℕ) : Type 0 where
-  first : firstOf (kindsOf t) ≡ wanted t 0
-  second : firstOf (turns 1 (kindsOf t)) ≡ wanted t 1
-  third : firstOf (turns 2 (kindsOf t)) ≡ wanted t 2
-  fourth : firstOf (turns 3 (kindsOf t)) ≡ wanted t 3
-  round : turns 4 (kindsOf t) ≡ kindsOf t
+-- what the first says of a child
+in-turn : {t : ℕ} (k : ℕ) → t < 256 → k < 4 → firstOf (turns k (kindsOf t)) ≡ wanted t k
+unfolding turnRight turnsRight
+in-turn {t} k h l = eqb-true (firstOf (turns k (kindsOf t))) (wanted t k) (passes 4 (turnRight t) k (both-left (allBelow 4 (turnRight t)) _ (passes 256 turnsRight t turns-right h)) l)
 
-right : (t : ℕ) → t < 256 → Right t
+-- and of four turns
+round : {t : ℕ} → t < 256 → turns 4 (kindsOf t) ≡ kindsOf t
 unfolding turnsRight
-right t h =
-    let a = both-true _ _ (passes 256 turnsRight t turns-right h) in
-    let b = both-true _ _ (a .1) in
-    let d = both-true _ _ (b .1) in
-    let e = both-true _ _ (d .1) in
-    record { first = eqb-true _ _ (a .0); second = eqb-true _ _ (b .0); third = eqb-true _ _ (d .0); fourth = eqb-true _ _ (e .0); round = eqb-true _ _ (e .1) }
+round {t} h = eqb-true (turns 4 (kindsOf t)) (kindsOf t) (both-right (allBelow 4 (turnRight t)) _ (passes 256 turnsRight t turns-right h))
 
+-- what the second says of a tag
 record Repeats (t : ℕ) : Type 0 where
-  first : kindAt t 0 ≡ kindAt t 3
-  second : kindAt t 1 ≡ kindAt t 3
-  third : kindAt t 2 ≡ kindAt t 3
+  same : (k : ℕ) → k < 3 → kindAt t k ≡ kindAt t 3
   none : either (eqb t tagCall) (eqb (leastOf t) 0) ≡ true
 
 repeats : (t : ℕ) → t < 256 → (kindAt t 3 ≡ 63 → ⊥) → Repeats t
 unfolding repeatsRight
 repeats t h some =
-    let a = both-true _ _ (rw (ne-eqb (kindAt t 3) 63 some) at (passes 256 repeatsRight t repeats-right h)) in
-    let b = both-true _ _ (a .1) in
-    let d = both-true _ _ (b .1) in
-    record { first = eqb-true _ _ (a .0); second = eqb-true _ _ (b .0); third = eqb-true _ _ (d .0); none = d .1 }
+    let tests = both-true _ _ (rw (ne-eqb (kindAt t 3) 63 some) at (passes 256 repeatsRight t repeats-right h)) in
+    record { same = λ k l. eqb-true (kindAt t k) (kindAt t 3) (passes 3 (λ k. eqb (kindAt t k) (kindAt t 3)) k (tests .0) l); none = tests .1 }
 
 -- one kind of all children
 kind-same : {t : ℕ} → Repeats t → (k : ℕ) → kindAt t k ≡ kindAt t 3
-kind-same r zero = r .first
-kind-same r (suc zero) = r .second
-kind-same r (suc (suc zero)) = r .third
+kind-same r zero = r .same 0 (omega arith)
+kind-same r (suc zero) = r .same 1 (omega arith)
+kind-same r (suc (suc zero)) = r .same 2 (omega arith)
 kind-same r (suc (suc (suc k))) = refl
 
 -- and the content may end before one as before the fourth after it
@@ -116,12 +103,12 @@ wanted-again {t} r k = rw (end-same r k, kind-same r k)
 -- the first kind after k turns, where a fourth child may stand if there are four already
 first-wanted : (t k : ℕ) → t < 256 → (4 ≤ k → kindAt t 3 ≡ 63 → ⊥) → firstOf (turns k (kindsOf t)) ≡ wanted t k
 unfolding turns
-first-wanted t zero h some = right t h .first
-first-wanted t (suc zero) h some = right t h .second
-first-wanted t (suc (suc zero)) h some = right t h .third
-first-wanted t (suc (suc (suc zero))) h some = right t h .fourth
+first-wanted t zero h some = in-turn 0 h (omega arith)
+first-wanted t (suc zero) h some = in-turn 1 h (omega arith)
+first-wanted t (suc (suc zero)) h some = in-turn 2 h (omega arith)
+first-wanted t (suc (suc (suc zero))) h some = in-turn 3 h (omega arith)
 first-wanted t (suc (suc (suc (suc k)))) h some =
-    ap (λ n. firstOf (turns k n)) (right t h .round)
+    ap (λ n. firstOf (turns k n)) (round h)
     ∙ first-wanted t k h (λ _. some (omega arith))
     ∙ wanted-again (repeats t h (some (omega arith))) k
 
