@@ -3,7 +3,7 @@ use definition::limit::NAME_LIMIT;
 use definition::tag;
 use field::wide;
 ghost use mathlib.Core.Path.{_≡_};
-ghost use Prim.Native.Nat.{_+_, _≤_, _<_};
+ghost use Prim.Native.Nat.{_+_, _≤_};
 ghost use lib.Dec.{leb};
 ghost use lib.ListN.{length};
 ghost use Rattle.definition.specs.Basic.{byteAt, both};
@@ -120,7 +120,7 @@ pub fn is_leaf(t: usize) -> bool
     }
 }
 
-// What the first four children of a tag must be.
+// What the first four children of a tag must be; that a call has one is tested on its own.
 pub fn child_kinds(t: usize) -> usize
     ensures { λ r. ⌜ r ≡ kindsOf t ⌝ }
 {
