@@ -1,5 +1,5 @@
 -- What the checks of code, constants, images and sessions answer, from what the definition reads.
-use Prim.Native.Nat.{ℕ, _+_, _≤_}
+use Prim.Native.Nat.{ℕ, _+_, _-_, _≤_}
 use mathlib.Core.Bool.{Bool, true, false}
 use mathlib.Core.List.{List, []}
 use mathlib.Core.Path.{_≡_}
@@ -68,6 +68,10 @@ isRead (decoded x n) = true
 isRead (malformed p) = false
 
 module _ (byte : ℕ → ℕ) where
+  -- code decodes from an offset up to an end
+  abbrev pub isCode : ℕ → ℕ → Bool
+  isCode end at = isRead (readCode byte (end - at) at end)
+
   -- the content of a pool
   abbrev pub constants : ℕ → ℕ → Decoded (List Const)
   constants start end = items (readConst byte) constantsLimit [] start end

@@ -5,15 +5,16 @@ use definition::number;
 use definition::tag;
 use field::length_at;
 use field::names::distinct_names;
-use opcode::size_by;
-use opcode::table::WIDTHS;
+use field::wide;
+use opcode::size_at;
+use opcode::width;
 ghost use mathlib.Core.Path.{_≡_};
 ghost use Prim.Native.Nat.{ℕ, _+_, _≤_};
 ghost use lib.ListN.{length};
 ghost use Rattle.definition.specs.Basic.{byteAt};
 ghost use Rattle.definition.specs.Decode.{allZero, readCode, readImage, readNameField, readNameFields, readWords, readHanded};
 ghost use Rattle.bytecode.specs.Form.{tagMainIn, tagFunctionIn, readConstIn, readPoolIn, readForm};
-ghost use Rattle.bytecode.specs.Checked.{Part, headOf, isConstant, isPool, isMain, isName, headAnswer, item, checked, constantsIn, nameFields, mainCode, refused, imageAnswer, isRead, layoutOf, WordsEnd, LaysOut};
+ghost use Rattle.bytecode.specs.Checked.{Part, isCode, headOf, isConstant, isPool, isMain, isName, headAnswer, item, checked, constantsIn, nameFields, mainCode, refused, imageAnswer, isRead, layoutOf, WordsEnd, LaysOut};
 
 // The tags of the chin unit's main code and functions.
 pub const CHIN_MAIN: u8 = 0x58;
@@ -100,23 +101,39 @@ pub fn head_at(bytes: &[u8], at: usize, end: usize) -> FieldHead
     FieldHead::Whole(bytes[at], len)
 }
 
-// Check that code decodes from `start` up to `end`.
-fn check_code(bytes: &[u8], start: usize, end: usize) -> Checked
+// Whether code decodes from `start` up to `end`, read from the end: bit k of `good` says whether it does from k bytes behind `at`. Every
+// byte is taken as the first of an instruction, so that no step waits for the length of the instruction before it.
+fn decodes(bytes: &[u8], start: usize, end: usize) -> bool
     requires { ⌜ Part (now bytes) start end ⌝ }
-    ensures { λ r. ⌜ ((len : ℕ) → end ≤ start + len → r ≡ checked (readCode (byteAt (now (bytes .entry))) len start end)) ⌝ }
+    ensures { λ r. ⌜ r ≡ isCode (byteAt (now (bytes .entry))) end start ⌝ }
 {
-    let widths = WIDTHS;
+    let mut at = end;
+    let mut good: usize = 1;
+    while start < at {
+        at -= 1;
+        let behind = wide(width(bytes[at])) % 64;
+        good = good % 8 * 2 + (good >> behind) % 2;
+    }
+    good % 2 == 1
+}
+
+// Check that code decodes from `start` up to `end`; where it does not, its first wrong instruction is looked for.
+fn check_code(bytes: &[u8], start: usize, end: usize) -> Item
+    requires { ⌜ Part (now bytes) start end ⌝ }
+    ensures { λ r. ⌜ ((len : ℕ) → end ≤ start + len → r ≡ item (readCode (byteAt (now (bytes .entry))) len start end)) ⌝ }
+{
+    if decodes(bytes, start, end) {
+        return Item::Next(end);
+    }
     let mut at = start;
-    let mut count = 0;
     while at < end {
-        let size = size_by(&widths, bytes, at, end);
+        let size = size_at(bytes, at, end);
         if size == 0 {
-            return Checked::Wrong(at);
+            return Item::Wrong(at);
         }
         at += size;
-        count += 1;
     }
-    Checked::Good(count, at)
+    Item::Next(at)
 }
 
 // Whether a head is a constant's.
@@ -149,10 +166,7 @@ fn check_constant(bytes: &[u8], at: usize, end: usize, form: Form) -> Item
             if tag != function_tag(form) {
                 return Item::Next(at + 3 + len);
             }
-            match check_code(bytes, at + 3 + 3, at + 3 + len) {
-                Checked::Good(_, next) => Item::Next(next),
-                Checked::Wrong(place) => Item::Wrong(place),
-            }
+            check_code(bytes, at + 3 + 3, at + 3 + len)
         }
     }
 }
@@ -216,14 +230,14 @@ pub fn main_head(form: Form, tag: u8, len: usize) -> bool
 }
 
 // Check an image's main code.
-fn check_main(image: &[u8], form: Form) -> Checked
-    ensures { λ r. ⌜ r ≡ checked (mainCode (byteAt (now (image .entry))) form (length (now (image .entry)))) ⌝ }
+fn check_main(image: &[u8], form: Form) -> Item
+    ensures { λ r. ⌜ r ≡ item (mainCode (byteAt (now (image .entry))) form (length (now (image .entry)))) ⌝ }
 {
     match head_at(image, 0, image.len()) {
-        FieldHead::Cut => Checked::Wrong(0),
+        FieldHead::Cut => Item::Wrong(0),
         FieldHead::Whole(tag, len) => {
             if !main_head(form, tag, len) {
-                return Checked::Wrong(0);
+                return Item::Wrong(0);
             }
             check_code(image, 3, 3 + len)
         }
@@ -245,8 +259,8 @@ pub fn check_form(image: &[u8], form: Form) -> ImageCheck
     ensures { λ r. ⌜ r ≡ imageAnswer (readForm form (now (image .entry))) ⌝ }
 {
     match check_main(image, form) {
-        Checked::Wrong(place) => bad_image(place),
-        Checked::Good(_, at) => match check_pool(image, at, image.len(), form) {
+        Item::Wrong(place) => bad_image(place),
+        Item::Next(at) => match check_pool(image, at, image.len(), form) {
             Checked::Wrong(place) => bad_image(place),
             Checked::Good(constants, next) => {
                 if next != image.len() {
