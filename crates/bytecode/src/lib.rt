@@ -10,11 +10,12 @@ use opcode::size_at;
 use opcode::width;
 ghost use mathlib.Core.Path.{_≡_};
 ghost use Prim.Native.Nat.{ℕ, _+_, _≤_};
+ghost use lib.Dec.{eqb};
 ghost use lib.ListN.{length};
 ghost use Rattle.definition.specs.Basic.{byteAt};
 ghost use Rattle.definition.specs.Decode.{allZero, readCode, readImage, readNameField, readNameFields, readWords, readHanded};
 ghost use Rattle.bytecode.specs.Form.{tagMainIn, tagFunctionIn, readConstIn, readPoolIn, readForm};
-ghost use Rattle.bytecode.specs.Checked.{Part, isCode, headOf, isConstant, isPool, isMain, isName, headAnswer, item, checked, constantsIn, nameFields, mainCode, refused, imageAnswer, isRead, layoutOf, WordsEnd, LaysOut};
+ghost use Rattle.bytecode.specs.Checked.{Part, isCode, Alike, fourZero, headOf, isConstant, isPool, isMain, isName, headAnswer, item, checked, constantsIn, nameFields, mainCode, refused, imageAnswer, isRead, layoutOf, WordsEnd, LaysOut};
 
 // The tags of the chin unit's main code and functions.
 pub const CHIN_MAIN: u8 = 0x58;
@@ -378,9 +379,9 @@ pub fn words_stand(names: &[u8]) -> bool
     }
 }
 
-// Whether all bytes are zero: no test in the loop, so that it runs at the speed of memory.
-fn all_zero(bytes: &[u8]) -> bool
-    ensures { λ r. ⌜ r ≡ allZero (now (bytes .entry)) ⌝ }
+// The bytes joined by `or`.
+fn join(bytes: &[u8]) -> u8
+    ensures { λ r. ⌜ eqb r 0 ≡ allZero (now (bytes .entry)) ⌝ }
 {
     let mut any: u8 = 0;
     let mut i = 0;
@@ -388,7 +389,33 @@ fn all_zero(bytes: &[u8]) -> bool
         any |= bytes[i];
         i += 1;
     }
-    any == 0
+    any
+}
+
+// The bytes of four equally long parts joined by `or`: side by side and without a test, so that it runs at the speed of memory.
+fn join_four(one: &[u8], two: &[u8], three: &[u8], four: &[u8]) -> u8
+    requires { ⌜ Alike (now one) (now two) (now three) (now four) ⌝ }
+    ensures { λ r. ⌜ eqb r 0 ≡ fourZero (now (one .entry)) (now (two .entry)) (now (three .entry)) (now (four .entry)) ⌝ }
+{
+    let mut any: u8 = 0;
+    let mut i = 0;
+    while i < one.len() {
+        any |= one[i] | two[i] | three[i] | four[i];
+        i += 1;
+    }
+    any
+}
+
+// Whether all bytes are zero: four quarters, then what is left behind them.
+fn all_zero(bytes: &[u8]) -> bool
+    ensures { λ r. ⌜ r ≡ allZero (now (bytes .entry)) ⌝ }
+{
+    let a = bytes.len() / 4;
+    let b = 2 * a;
+    let c = 3 * a;
+    let d = 4 * a;
+    let any = join_four(&bytes[..a], &bytes[a..b], &bytes[b..c], &bytes[c..d]);
+    (any | join(&bytes[d..])) == 0
 }
 
 // Read what is behind a session's words: its names, its pool, and zeros up to the end.

@@ -1,29 +1,52 @@
--- `bytecode::all_zero` meets its contract: one byte a turn, joined by `or`.
-use Prim.Native.Nat.{_-_}
+-- `bytecode::all_zero` meets its contract: the quarters and the rest are the list.
+use mathlib.Core.Path.{sym}
+use Prim.Native.Nat.{_/_}
 use native.Mathlib.Omega.{arith}
 use lib.ListN.{length}
-use Rattle.bytecode.proofs.Zeros.{Joining, zeros-begin, zeros-again, zeros-end}
+use lib.Seq.{length-take-le}
+use denote.Ref.{now}
+use borrow.Author.Needs.{needs}
+use Rattle.bytecode.proofs.Zeros.{quarters-alike, quarters-zero}
 use Rattle.bytecode.proofs.all_zero.Statement.{statement}
 use Rattle.bytecode.proofs.all_zero.Tie as tie
 
-abbrev Inv-loop : tie.InvT-loop
-Inv-loop bytes any₀ i₀ any i = Joining bytes any i
+slice-aggregate-join-four : tie.Need-slice-aggregate-join-four
+slice-aggregate-join-four c =
+    let b = now (c .before .before .args .bytes) in
+    sym (length-take-le (length b / 4) b (omega arith))
 
-abbrev μ-loop : tie.MeasureT-loop
-μ-loop bytes any₀ i₀ any i = length bytes - i
+join-four-requires : tie.Need-join-four-requires
+join-four-requires c κs =
+    let b = now (c .before .before .before .before .before .args .bytes) in
+    quarters-alike b (length b / 4) (omega arith)
 
-loop-holds : tie.Need-loop-holds Inv-loop μ-loop
-loop-holds c =
-    let start = c in
-    zeros-begin (start .args .bytes .now)
-
-loop-again : tie.Need-loop-again Inv-loop μ-loop
-loop-again c = search zeros-again
-
-returns : tie.Need-returns Inv-loop μ-loop
-returns c = search zeros-end
+returns : tie.Need-returns
+returns c =
+    let b = now (c .before .before .before .before .before .before .before .before .args .bytes) in
+    let join-four = c .before .before .join-four in
+    let join = c .join in
+    quarters-zero b (length b / 4) (omega arith) (join-four .result) (join .result) (join-four .ensures) (join .ensures)
 
 pub all-zero-spec : {M : Type 1} → statement M
 all-zero-spec =
     tie.close
-    (tie.spec Inv-loop μ-loop loop-holds (λ c. omega arith) (λ c. omega arith) (λ c. omega arith) loop-again returns)
+    (tie.spec
+    (λ c. search needs)
+    (λ c. search needs)
+    (λ c. search needs)
+    slice-aggregate-join-four
+    (λ c. search needs)
+    (λ c. search needs)
+    (λ c. search needs)
+    (λ c. search needs)
+    (λ c. search needs)
+    (λ c. search needs)
+    (λ c. search needs)
+    (λ c. search needs)
+    (λ c. search needs)
+    join-four-requires
+    (λ c. search needs)
+    (λ c. search needs)
+    (λ c. search needs)
+    (λ c κs. search needs)
+    returns)
