@@ -9,7 +9,7 @@ use borrow.Author.Tests.{eq-eqb, ne-eqb, eqb-true, eqb-false, leb-true, leb-fals
 use Rattle.definition.specs.Basic.{pick, both}
 use Rattle.definition.specs.Opcode.{instrAt, width, whole, opLast}
 use Rattle.definition.specs.Bytecode.{Code}
-use Rattle.definition.specs.Decode.{Decoded, decoded, malformed, then, items, readInstr, readCode}
+use Rattle.definition.specs.Decode.{Decoded, decoded, malformed, items, readInstr, readCode}
 use Rattle.opcode.specs.Decoding.{sizeAt}
 use Rattle.opcode.specs.Table.{entry}
 use Rattle.opcode.proofs.Widths.{size-end, width-small}
@@ -134,7 +134,7 @@ module _ (byte : ℕ → ℕ) (end : ℕ) where
 
   -- what follows the instruction at an offset decides
   decides : (at : ℕ) → at < end → isCode byte end at ≡ pick (whole byte at end) (isCode byte end (at + 1 + width (byte at))) false
-  decides at h = ap (λ (m : ℕ). isRead (read m [] at)) (first) ∙ go (whole byte at end) refl
+  decides at h = ap (λ (m : ℕ). isRead (read m [] at)) first ∙ go (whole byte at end) refl
     where
       first : end - at ≡ suc (end - at - 1)
       first = omega arith

@@ -1,21 +1,21 @@
 // Images and sessions on bytes: whether they are sound, and where a session's parts lie.
+mod code;
+mod zero;
+
+use code::check_code;
 use definition::Refusal;
 use definition::limit;
 use definition::number;
 use definition::tag;
 use field::length_at;
 use field::names::distinct_names;
-use field::wide;
-use opcode::size_at;
-use opcode::width;
+use zero::all_zero;
 ghost use mathlib.Core.Path.{_≡_};
-ghost use Prim.Native.Nat.{ℕ, _+_, _≤_};
-ghost use lib.Dec.{eqb};
 ghost use lib.ListN.{length};
 ghost use Rattle.definition.specs.Basic.{byteAt};
-ghost use Rattle.definition.specs.Decode.{allZero, readCode, readImage, readNameField, readNameFields, readWords, readHanded};
+ghost use Rattle.definition.specs.Decode.{readImage, readNameField, readNameFields, readWords, readHanded};
 ghost use Rattle.bytecode.specs.Form.{tagMainIn, tagFunctionIn, readConstIn, readPoolIn, readForm};
-ghost use Rattle.bytecode.specs.Checked.{Part, isCode, Alike, fourZero, headOf, isConstant, isPool, isMain, isName, headAnswer, item, checked, constantsIn, nameFields, mainCode, refused, imageAnswer, isRead, layoutOf, WordsEnd, LaysOut};
+ghost use Rattle.bytecode.specs.Checked.{Part, headOf, isConstant, isPool, isMain, isName, headAnswer, item, checked, constantsIn, nameFields, mainCode, refused, imageAnswer, isRead, layoutOf, WordsEnd, LaysOut};
 
 // The tags of the chin unit's main code and functions.
 pub const CHIN_MAIN: u8 = 0x58;
@@ -100,41 +100,6 @@ pub fn head_at(bytes: &[u8], at: usize, end: usize) -> FieldHead
         return FieldHead::Cut;
     }
     FieldHead::Whole(bytes[at], len)
-}
-
-// Whether code decodes from `start` up to `end`, read from the end: bit k of `good` says whether it does from k bytes behind `at`. Every
-// byte is taken as the first of an instruction, so that no step waits for the length of the instruction before it.
-fn decodes(bytes: &[u8], start: usize, end: usize) -> bool
-    requires { ⌜ Part (now bytes) start end ⌝ }
-    ensures { λ r. ⌜ r ≡ isCode (byteAt (now (bytes .entry))) end start ⌝ }
-{
-    let mut at = end;
-    let mut good: usize = 1;
-    while start < at {
-        at -= 1;
-        let behind = wide(width(bytes[at])) % 64;
-        good = good % 8 * 2 + (good >> behind) % 2;
-    }
-    good % 2 == 1
-}
-
-// Check that code decodes from `start` up to `end`; where it does not, its first wrong instruction is looked for.
-fn check_code(bytes: &[u8], start: usize, end: usize) -> Item
-    requires { ⌜ Part (now bytes) start end ⌝ }
-    ensures { λ r. ⌜ ((len : ℕ) → end ≤ start + len → r ≡ item (readCode (byteAt (now (bytes .entry))) len start end)) ⌝ }
-{
-    if decodes(bytes, start, end) {
-        return Item::Next(end);
-    }
-    let mut at = start;
-    while at < end {
-        let size = size_at(bytes, at, end);
-        if size == 0 {
-            return Item::Wrong(at);
-        }
-        at += size;
-    }
-    Item::Next(at)
 }
 
 // Whether a head is a constant's.
@@ -377,45 +342,6 @@ pub fn words_stand(names: &[u8]) -> bool
         Checked::Wrong(_) => false,
         Checked::Good(_, end) => distinct_names(names, 0, end),
     }
-}
-
-// The bytes joined by `or`.
-fn join(bytes: &[u8]) -> u8
-    ensures { λ r. ⌜ eqb r 0 ≡ allZero (now (bytes .entry)) ⌝ }
-{
-    let mut any: u8 = 0;
-    let mut i = 0;
-    while i < bytes.len() {
-        any |= bytes[i];
-        i += 1;
-    }
-    any
-}
-
-// The bytes of four equally long parts joined by `or`: side by side and without a test, so that it runs at the speed of memory.
-fn join_four(one: &[u8], two: &[u8], three: &[u8], four: &[u8]) -> u8
-    requires { ⌜ Alike (now one) (now two) (now three) (now four) ⌝ }
-    ensures { λ r. ⌜ eqb r 0 ≡ fourZero (now (one .entry)) (now (two .entry)) (now (three .entry)) (now (four .entry)) ⌝ }
-{
-    let mut any: u8 = 0;
-    let mut i = 0;
-    while i < one.len() {
-        any |= one[i] | two[i] | three[i] | four[i];
-        i += 1;
-    }
-    any
-}
-
-// Whether all bytes are zero: four quarters, then what is left behind them.
-fn all_zero(bytes: &[u8]) -> bool
-    ensures { λ r. ⌜ r ≡ allZero (now (bytes .entry)) ⌝ }
-{
-    let a = bytes.len() / 4;
-    let b = 2 * a;
-    let c = 3 * a;
-    let d = 4 * a;
-    let any = join_four(&bytes[..a], &bytes[a..b], &bytes[b..c], &bytes[c..d]);
-    (any | join(&bytes[d..])) == 0
 }
 
 // Read what is behind a session's words: its names, its pool, and zeros up to the end.

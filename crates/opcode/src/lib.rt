@@ -41,14 +41,15 @@ pub enum Decoded {
     Refused(Refusal),
 }
 
-// The table's entry for a first byte. Reading it copies the table to the stack: where speed matters, `width` says the same.
+// The entry of a first byte in the table. A constant array is copied to the stack where it is read, so `width` stands in where speed matters.
 fn table_entry(op: u8) -> u8
     ensures { λ r. ⌜ r ≡ entry op ⌝ }
 {
     WIDTHS[wide(op)]
 }
 
-// The operand length of an instruction with this first byte, or `NO_INSTRUCTION`: the table's entry, without memory and without a branch.
+// The operand length of an instruction with this first byte, or `NO_INSTRUCTION`: the table's entry, computed without memory or a branch.
+// `past` is 1 for a byte that begins no instruction, else 0.
 pub fn width(op: u8) -> u8
     ensures { λ r. ⌜ r ≡ entry op ⌝ }
 {

@@ -1,4 +1,4 @@
--- `bytecode::decodes` meets its contract: one byte a turn, from the end; four bits say what was found behind it.
+-- `bytecode::code::decodes` meets its contract: one byte a turn, from the end; four bits say what was found behind it.
 use mathlib.Core.Path.{_∙_}
 use Prim.Native.Nat.{_-_}
 use native.Mathlib.Omega.{arith}
@@ -6,8 +6,8 @@ use denote.Ref.{now}
 use borrow.Author.Needs.{needs}
 use Rattle.definition.specs.Basic.{byteAt}
 use Rattle.bytecode.proofs.Backward.{BackLoop, back-begins, back-again, back-ends}
-use Rattle.bytecode.proofs.decodes.Statement.{statement}
-use Rattle.bytecode.proofs.decodes.Tie as tie
+use Rattle.bytecode.proofs.code.decodes.Statement.{statement}
+use Rattle.bytecode.proofs.code.decodes.Tie as tie
 
 abbrev Inv-loop : tie.InvT-loop
 Inv-loop bytes start end at₀ good₀ at good = BackLoop (byteAt bytes) end start at good

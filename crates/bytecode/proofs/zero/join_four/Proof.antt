@@ -1,10 +1,10 @@
--- `bytecode::join_four` meets its contract: a byte of each part a turn, joined by `or`.
+-- `bytecode::zero::join_four` meets its contract: a byte of each part a turn, joined by `or`.
 use Prim.Native.Nat.{_-_}
 use native.Mathlib.Omega.{arith}
 use lib.ListN.{length}
 use Rattle.bytecode.proofs.Zeros.{FourJoining, four-begin, four-again, four-end}
-use Rattle.bytecode.proofs.join_four.Statement.{statement}
-use Rattle.bytecode.proofs.join_four.Tie as tie
+use Rattle.bytecode.proofs.zero.join_four.Statement.{statement}
+use Rattle.bytecode.proofs.zero.join_four.Tie as tie
 
 abbrev Inv-loop : tie.InvT-loop
 Inv-loop one two three four any₀ i₀ any i = FourJoining one two three four any i

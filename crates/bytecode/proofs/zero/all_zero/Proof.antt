@@ -1,4 +1,4 @@
--- `bytecode::all_zero` meets its contract: the quarters and the rest are the list.
+-- `bytecode::zero::all_zero` meets its contract: the quarters and the rest are the list.
 use mathlib.Core.Path.{sym}
 use Prim.Native.Nat.{_/_}
 use native.Mathlib.Omega.{arith}
@@ -7,8 +7,8 @@ use lib.Seq.{length-take-le}
 use denote.Ref.{now}
 use borrow.Author.Needs.{needs}
 use Rattle.bytecode.proofs.Zeros.{quarters-alike, quarters-zero}
-use Rattle.bytecode.proofs.all_zero.Statement.{statement}
-use Rattle.bytecode.proofs.all_zero.Tie as tie
+use Rattle.bytecode.proofs.zero.all_zero.Statement.{statement}
+use Rattle.bytecode.proofs.zero.all_zero.Tie as tie
 
 slice-aggregate-join-four : tie.Need-slice-aggregate-join-four
 slice-aggregate-join-four c =

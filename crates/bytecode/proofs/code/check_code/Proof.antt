@@ -1,4 +1,4 @@
--- `bytecode::check_code` meets its contract: code that decodes goes up to the end; else one instruction a turn, and what is left decides.
+-- `bytecode::code::check_code` meets its contract: code that decodes goes up to the end; else one instruction a turn, and what is left decides.
 use mathlib.Core.Path.{_∙_, sym}
 use Prim.Native.Nat.{_-_}
 use native.Mathlib.Omega.{arith}
@@ -7,8 +7,8 @@ use borrow.Author.Needs.{needs}
 use Rattle.definition.specs.Basic.{byteAt}
 use Rattle.bytecode.proofs.Backward.{decoded-whole}
 use Rattle.bytecode.proofs.Instructions.{CodeLoop, code-begins, code-ends, code-wrong, code-next, code-again}
-use Rattle.bytecode.proofs.check_code.Statement.{statement}
-use Rattle.bytecode.proofs.check_code.Tie as tie
+use Rattle.bytecode.proofs.code.check_code.Statement.{statement}
+use Rattle.bytecode.proofs.code.check_code.Tie as tie
 
 abbrev Inv-loop : tie.InvT-loop
 Inv-loop bytes start end at₀ at = CodeLoop (byteAt bytes) start end at

@@ -1,10 +1,10 @@
--- `bytecode::join` meets its contract: one byte a turn, joined by `or`.
+-- `bytecode::zero::join` meets its contract: one byte a turn, joined by `or`.
 use Prim.Native.Nat.{_-_}
 use native.Mathlib.Omega.{arith}
 use lib.ListN.{length}
 use Rattle.bytecode.proofs.Zeros.{Joining, zeros-begin, zeros-again, zeros-end}
-use Rattle.bytecode.proofs.join.Statement.{statement}
-use Rattle.bytecode.proofs.join.Tie as tie
+use Rattle.bytecode.proofs.zero.join.Statement.{statement}
+use Rattle.bytecode.proofs.zero.join.Tie as tie
 
 abbrev Inv-loop : tie.InvT-loop
 Inv-loop bytes any₀ i₀ any i = Joining bytes any i
