@@ -14,16 +14,14 @@ use Rattle.opcode.specs.Table.{entry, noInstruction}
 use Rattle.opcode.specs.Decoding.{sizeAt}
 use Rattle.opcode.proofs.Tables.{tabulate, tabulated, every-at}
 
--- what `opcode::width` computes: two bits of one number, and all eight of a byte that begins no instruction
-abbrev packed : ℕ → ℕ
-packed o = bitOr (132016892939337730 / 2 ^ (2 * o % 64) % 4) ((o + 226) / 256 * noInstruction)
+-- what `opcode::width` computes from two numbers: two bits of the first, and all eight of a byte that the second takes past 255
+module _ (p k : ℕ) where
+  abbrev packed : ℕ → ℕ
+  packed o = bitOr (p / 2 ^ (2 * o % 64) % 4) ((o + k) / 256 * noInstruction)
 
--- it is the table's rule: antt computes both at all 256 bytes
-same-table : tabulate packed 0 256 ≡ tabulate entry 0 256
-same-table = refl
-
-pub packed-entry : (o : ℕ) {n : ℕ} → o < 256 → n ≡ o → packed n ≡ entry o
-packed-entry o h e = ap packed e ∙ sym (tabulated packed 256 o h) ∙ ap (λ (l : List ℕ). getD l o 0) same-table ∙ tabulated entry 256 o h
+  -- it is the table's rule, if it is at all 256 bytes, as antt computes
+  pub packed-entry : tabulate packed 0 256 ≡ tabulate entry 0 256 → (o : ℕ) {n : ℕ} → o < 256 → n ≡ o → packed n ≡ entry o
+  packed-entry t o h e = ap packed e ∙ sym (tabulated packed 256 o h) ∙ ap (λ (l : List ℕ). getD l o 0) t ∙ tabulated entry 256 o h
 
 -- at most three operand bytes
 pub width-small : (o : ℕ) → width o ≤ 3
