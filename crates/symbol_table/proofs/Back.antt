@@ -12,7 +12,7 @@ use Rattle.definition.specs.Basic.{Bytes}
 use Rattle.definition.specs.SymbolTable.{same, find, findGlobal}
 use Rattle.field.specs.Layout.{content}
 use Rattle.symbol_table.specs.Name.{hashOf}
-use Rattle.symbol_table.specs.Layout.{entriesAt, nameIn, codeIn, tagIn, entryOf, symbolOf, back, GoodEntry, globalName, Latest}
+use Rattle.symbol_table.specs.Layout.{entriesAt, nameIn, codeIn, tagIn, entryOf, symbolOf, back, GoodEntry}
 use Rattle.symbol_table.specs.Contract.{PassedOver}
 use Rattle.symbol_table.proofs.Names.{hash-differs}
 
@@ -110,17 +110,3 @@ module _ (name : ℕ → Bytes) (g : List ℕ) (n : Bytes) where
     pub global-miss : same n (name (getD g (1 + (k - 1)) 0)) ≡ false → findGlobal n (back name g 1 k) ≡ findGlobal n (back name g 1 (k - 1))
     unfolding findGlobal
     global-miss e = rw (back-more name g 1 k h, e)
-
-  -- those of other hashes are skipped
-  others-skipped : (hash p k : ℕ) → hash ≡ hashOf n → p ≤ k → ((i : ℕ) → p ≤ i → i < k → hashOf (name (getD g (1 + i) 0)) ≡ hash → ⊥) → findGlobal n (back name g 1 k) ≡ findGlobal n (back name g 1 p)
-  unfolding findGlobal back
-  others-skipped hash p zero is l other = let e : p ≡ 0 = omega arith in rw e
-  others-skipped hash p (suc k) is l other =
-      ⊎-elim (λ e. rw e)
-      (λ lt.
-      rw (hash-differs hashOf n (name (getD g (1 + k) 0)) (λ e. other k (omega arith) (omega arith) (sym e ∙ sym is)))
-      (others-skipped hash p k is (omega arith) (λ i a b. other i a (omega arith))))
-      (eq-or-lt-of-le {n = p} {m = suc k} l)
-
-  pub global-skip : (hash p k : ℕ) → hash ≡ hashOf n → Latest name g hash p k → findGlobal n (back name g 1 k) ≡ findGlobal n (back name g 1 p)
-  global-skip hash p k is x = others-skipped hash p k is (x .below) (x .other)

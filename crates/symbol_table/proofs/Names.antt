@@ -10,7 +10,7 @@ use Rattle.definition.specs.Basic.{Bytes}
 use Rattle.definition.specs.SymbolTable.{same}
 use Rattle.definition.proofs.Undefined.{same-equal}
 use Rattle.field.specs.Layout.{len, after, content}
-use Rattle.symbol_table.specs.Name.{buckets, hashFrom}
+use Rattle.symbol_table.specs.Name.{hashBound, hashFrom}
 use Rattle.symbol_table.proofs.Slices.{slice-take}
 
 -- names of different hashes are not the same
@@ -22,7 +22,7 @@ hash-differs f x y h = go (same x y) refl
     go false p = p
 
 module _ (x : Bytes) (h i : ℕ) where
-  pub hash-step : i < length x → hashFrom h (drop i x) ≡ hashFrom ((h * 37 + getD x i 0) % buckets) (drop (i + 1) x)
+  pub hash-step : i < length x → hashFrom h (drop i x) ≡ hashFrom ((h * 2654440485 + getD x i 0) % hashBound) (drop (i + 1) x)
   unfolding hashFrom
   hash-step l = rw (drop-cons x i 0, add-one)
 
