@@ -6,7 +6,7 @@ use mathlib.Core.Path.{_≡_}
 use mathlib.Core.List.{List, [], _∷_}
 use mathlib.Core.Option.{Option, none, some}
 use lib.ListN.{length, getD, take, drop}
-use lib.Dec.{ltb}
+use lib.Dec.{ltb, eqb}
 use Rattle.definition.specs.Basic.{Bytes, pick}
 use Rattle.definition.specs.Limit.{globalsLimit, localsLimit, freeLimit}
 use Rattle.definition.specs.SymbolTable.{Symbol, Entry, Table, findGlobal}
@@ -133,6 +133,10 @@ pub record Finds (tree names : Bytes) (g : List ℕ) (n : Bytes) : Type 0 where
   pub belowNew : Way tree 1 g n 0 (headOf g n 1) new
   pub belowOld : Way names 0 g n 0 (headOf g n 0) old
   pub latest : findGlobal n (globalsOf tree names g) ≡ firstFound new old
+
+-- what it finds among the session's, on side 0, or the tree's
+abbrev pub foundOn : {tree names : Bytes} {g : List ℕ} {n : Bytes} → Finds tree names g n → ℕ → Option ℕ
+foundOn x side = pick (eqb side 0) (x .old) (x .new)
 
 pub record GoodGlobals (tree names : Bytes) (g : List ℕ) : Type 0 where
   pub size : length g ≡ globalsSize

@@ -21,13 +21,12 @@ ghost use Prim.Native.Nat.{ℕ, _+_, _*_, _%_, _<_, _≤_};
 ghost use lib.ListN.{length, getD};
 ghost use Rattle.definition.specs.Basic.{Bytes};
 ghost use Rattle.definition.specs.Limit.{sessionSize, treeLimit, globalsLimit};
-ghost use Rattle.definition.specs.SymbolTable.{Symbol, findGlobal};
-ghost use Rattle.field.specs.Layout.{content};
-ghost use Rattle.symbol_table.specs.Name.{Stands, buckets, hashOf, hashBound};
+ghost use Rattle.definition.specs.SymbolTable.{Symbol, same, findGlobal};
+ghost use Rattle.symbol_table.specs.Name.{buckets, hashOf};
 ghost use Rattle.symbol_table.specs.Search.{sideOf, childOf, withChild, Way, Goes};
-ghost use Rattle.symbol_table.specs.Layout.{globalsSize, headsAt, globalsOf, GoodGlobals};
+ghost use Rattle.symbol_table.specs.Layout.{globalsSize, headsAt, globalName, globalsOf, GlobalStands, Finds, foundOn, GoodGlobals};
 ghost use Rattle.symbol_table.specs.Store.{globalIn};
-ghost use Rattle.symbol_table.specs.Contract.{hitOf, asSymbol, IsName, Adds, DefinesGlobal, HasItems, StartsGlobals};
+ghost use Rattle.symbol_table.specs.Contract.{hitOf, asSymbol, IsName, Addable, Adds, DefinesGlobal, HasItems, StartsGlobals};
 
 // Where a global more goes: an index of the area, and the number that is to stand there.
 struct Place {
@@ -71,20 +70,31 @@ fn with_child(node: u32, side: usize, k: u32) -> u32
     node + SIDE_UNIT * k
 }
 
-// The latest global of a name, below a global.
-fn find_below(bytes: &[u8], globals: &[u32], head: u32, name: &[u8], hash: usize) -> Hit
-    requires { ⌜ length (now globals) ≡ globalsSize ⌝ }
-    requires { ⌜ getD (now globals) 0 0 ≤ globalsLimit ⌝ }
-    requires { ⌜ hash ≡ hashOf (now name) ⌝ }
-    requires { ⌜ ((side : ℕ) × (r : Option ℕ) × Way (now bytes) side (now globals) (now name) 0 head r) ⌝ }
-    ensures { λ h. ⌜ ((side : ℕ) (r : Option ℕ) → Way (now (bytes .entry)) side (now (globals .entry)) (now (name .entry)) 0 head r → hitOf h ≡ asSymbol Symbol.global r) ⌝ }
+// Whether a name is that of a global.
+fn same_global(tree: &[u8], names: &[u8], v: u32, name: &[u8]) -> bool
+    requires { ⌜ GlobalStands (now tree) (now names) v ⌝ }
+    ensures { λ r. ⌜ r ≡ same (now (name .entry)) (globalName (now (tree .entry)) (now (names .entry)) v) ⌝ }
 {
-    let mut k = head;
+    let at = wide32(v);
+    if at < IN_TREE {
+        return same_name(name, name_at(names, at));
+    }
+    same_name(name, name_at(tree, at - IN_TREE))
+}
+
+// The latest global of a name among the session's, on side 0, or the tree's.
+fn find_side(tree: &[u8], names: &[u8], side: usize, globals: &[u32], name: &[u8], hash: usize) -> Hit
+    requires { ⌜ GoodGlobals (now tree) (now names) (now globals) ⌝ }
+    requires { ⌜ hash ≡ hashOf (now name) ⌝ }
+    requires { ⌜ side < 2 ⌝ }
+    ensures { λ h. ⌜ ((x : Finds (now (tree .entry)) (now (names .entry)) (now (globals .entry)) (now (name .entry))) → hitOf h ≡ asSymbol Symbol.global (foundOn x side)) ⌝ }
+{
+    let mut k = child(globals[HEADS_AT + hash % BUCKETS], side);
     let mut depth = 0;
     while k > 0 {
         let i = wide32(k);
         let node = globals[NODES_AT + i];
-        if same_name(name, name_at(bytes, wide32(globals[i]) % IN_TREE)) {
+        if same_global(tree, names, globals[i], name) {
             return Hit::At(GLOBAL + node / LATEST_UNIT);
         }
         k = child(node, side_of(name, hash, depth));
@@ -99,11 +109,10 @@ pub fn find_global(tree: &[u8], names: &[u8], globals: &[u32], name: &[u8], hash
     requires { ⌜ hash ≡ hashOf (now name) ⌝ }
     ensures { λ r. ⌜ hitOf r ≡ asSymbol Symbol.global (findGlobal (now (name .entry)) (globalsOf (now (tree .entry)) (now (names .entry)) (now (globals .entry)))) ⌝ }
 {
-    let heads = globals[HEADS_AT + hash % BUCKETS];
-    if let Hit::At(code) = find_below(tree, globals, child(heads, 1), name, hash) {
+    if let Hit::At(code) = find_side(tree, names, 1, globals, name, hash) {
         return Hit::At(code);
     }
-    find_below(names, globals, child(heads, 0), name, hash)
+    find_side(tree, names, 0, globals, name, hash)
 }
 
 // Where a global more of a name goes: it becomes the latest of its name, or hangs where the search for its name ends.
@@ -153,18 +162,50 @@ fn push_global(globals: &mut [u32], v: u32, at: usize, number: u32)
     globals[0] = k + 1;
 }
 
-// A global more of the session's, on side 0, or of the tree's: its name is at an offset.
-fn add_global(bytes: &[u8], side: usize, globals: &mut [u32], name: usize, hash: usize)
+// A global more, the first of its side in its bucket.
+fn add_first(globals: &mut [u32], side: usize, v: u32, hash: usize)
     requires { ⌜ length (now globals) ≡ globalsSize ⌝ }
     requires { ⌜ getD (now globals) 0 0 < globalsLimit ⌝ }
-    requires { ⌜ IsName (now bytes) name hash ⌝ }
+    requires { ⌜ childOf (getD (now globals) (headsAt + hash % buckets) 0) side ≡ 0 ⌝ }
+    ensures { λ _. ⌜ now (globals .exit) ≡ globalIn (now (globals .entry)) v (headsAt + hash % buckets) (withChild (getD (now (globals .entry)) (headsAt + hash % buckets) 0) side (getD (now (globals .entry)) 0 0 + 1)) ⌝ }
+{
+    let at = HEADS_AT + hash % BUCKETS;
+    let number = with_child(globals[at], side, globals[0] + 1);
+    push_global(globals, v, at, number);
+}
+
+// A global more, where the search for its name ends.
+fn add_below(bytes: &[u8], side: usize, globals: &mut [u32], name: usize, hash: usize)
+    requires { ⌜ Addable (now bytes) side (now globals) name hash ⌝ }
     requires { ⌜ side < 2 ⌝ }
-    requires { ⌜ name < sessionSize ⌝ }
-    requires { ⌜ ((r : Option ℕ) × Way (now bytes) side (now globals) (content (now bytes) name) 0 (childOf (getD (now globals) (headsAt + hash % buckets) 0) side) r) ⌝ }
-    ensures { λ _. ⌜ Adds (now (bytes .entry)) side (65536 * side + name) (now (globals .entry)) (now (globals .exit)) ⌝ }
+    ensures { λ _. ⌜ Adds (now (bytes .entry)) side name (now (globals .entry)) (now (globals .exit)) ⌝ }
 {
     let place = find_place(bytes, side, globals, name_at(bytes, name), hash);
     push_global(globals, (IN_TREE * side + name) as u32, place.at, place.number);
+}
+
+// A global of the session more: its name is at an offset.
+fn add_old(names: &[u8], globals: &mut [u32], name: usize, hash: usize)
+    requires { ⌜ Addable (now names) 0 (now globals) name hash ⌝ }
+    ensures { λ _. ⌜ Adds (now (names .entry)) 0 name (now (globals .entry)) (now (globals .exit)) ⌝ }
+{
+    if child(globals[HEADS_AT + hash % BUCKETS], 0) == 0 {
+        add_first(globals, 0, name as u32, hash);
+        return;
+    }
+    add_below(names, 0, globals, name, hash);
+}
+
+// A global of the tree more: its name is at an offset.
+fn add_new(tree: &[u8], globals: &mut [u32], name: usize, hash: usize)
+    requires { ⌜ Addable (now tree) 1 (now globals) name hash ⌝ }
+    ensures { λ _. ⌜ Adds (now (tree .entry)) 1 name (now (globals .entry)) (now (globals .exit)) ⌝ }
+{
+    if child(globals[HEADS_AT + hash % BUCKETS], 1) == 0 {
+        add_first(globals, 1, (IN_TREE + name) as u32, hash);
+        return;
+    }
+    add_below(tree, 1, globals, name, hash);
 }
 
 // A global of the tree more, if there is room.
@@ -178,7 +219,7 @@ pub fn place_global(tree: &[u8], globals: &mut [u32], name: usize, hash: usize) 
     if GLOBALS <= k {
         return Definition::GlobalsFull;
     }
-    add_global(tree, 1, globals, name, hash);
+    add_new(tree, globals, name, hash);
     Definition::Global(k)
 }
 
@@ -207,7 +248,7 @@ pub fn start_in(session: &[u8], globals: &mut [u32], from: usize, end: usize)
     let mut at = from;
     while at < end {
         let hash = hash_at(session, at);
-        add_global(&session[..end], 0, globals, at, hash);
+        add_old(&session[..end], globals, at, hash);
         at = at + 3 + field::length_at(session, at);
     }
 }
