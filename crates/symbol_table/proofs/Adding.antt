@@ -15,10 +15,10 @@ use Rattle.definition.specs.SymbolTable.{same, findGlobal}
 use Rattle.definition.proofs.Undefined.{same-equal, same-self}
 use Rattle.field.specs.Layout.{content}
 use Rattle.symbol_table.specs.Name.{Stands, buckets, hashOf}
-use Rattle.symbol_table.specs.Search.{childOf, Way, Goes}
+use Rattle.symbol_table.specs.Search.{childOf, withChild, Way, Goes, hangs}
 use Rattle.symbol_table.specs.Layout.{globalsSize, headsAt, headOf, firstFound, globalName, globalsOf, GlobalStands, Finds, GoodGlobals}
 use Rattle.symbol_table.specs.Store.{globalIn}
-use Rattle.symbol_table.specs.Contract.{Adds}
+use Rattle.symbol_table.specs.Contract.{IsName, Addable, Adds}
 use Rattle.symbol_table.proofs.Back.{last-or-before}
 use Rattle.symbol_table.proofs.Nodes.{child-other, child-later}
 use Rattle.symbol_table.proofs.Pushing.{Inside, global-at, global-name, global-size, global-count, global-new, global-place, globals-more, globals-length}
@@ -95,6 +95,22 @@ module _ (tree names : Bytes) (g : List ℕ) (v at number : ℕ) (size : length 
   stands-more s old i l =
       last-or-before (λ k. GlobalStands tree names (getD (globalIn g v at number) (1 + k) 0)) (getD g 0 0) i (omega (arith, global-count g v at number size room inside)) (rw (global-new g v at number size room inside) s)
       (λ lt. rw (global-name g v at number size room inside (1 + i) (omega arith) (omega arith)) (old i lt))
+
+-- from what is to be added to what is added
+module _ {bytes : Bytes} {side : ℕ} {g : List ℕ} {name hash : ℕ} (a : Addable bytes side g name hash) where
+  module _ {n : Bytes} {at number : ℕ} (e : n ≡ content bytes name) (y : Goes bytes side g n 0 (headsAt + hash % buckets) side at number) where
+    sought : Goes bytes side g (content bytes name) 0 (headsAt + hashOf (content bytes name) % buckets) side at number
+    sought = rw e at (rw (a .named .is) at y)
+
+    pub place-to : at < globalsSize
+    place-to = inside bytes side g (content bytes name) 0 at number (a .size) (a .room) sought .to
+
+    pub added : {g′ : List ℕ} → g′ ≡ globalIn g (65536 * side + name) at number → Adds bytes side name g g′
+    added h = record { place = at; number = number; goes = sought; is = h }
+
+  pub added-first : {v : ℕ} {g′ : List ℕ} → childOf (getD g (headsAt + hash % buckets) 0) side ≡ 0 → v ≡ 65536 * side + name
+      → g′ ≡ globalIn g v (headsAt + hash % buckets) (withChild (getD g (headsAt + hash % buckets) 0) side (getD g 0 0 + 1)) → Adds bytes side name g g′
+  added-first {v} z e h = added refl (hangs z refl refl) (rw e at h)
 
 -- the names of the globals after it
 module _ (tree names : Bytes) (g g′ : List ℕ) (name : ℕ) (size : length g ≡ globalsSize) (room : getD g 0 0 < globalsLimit) (small : name < 65536) where
@@ -176,3 +192,8 @@ module _ (tree names : Bytes) (g g′ : List ℕ) (name : ℕ) (room : getD g 0 
 
     pub none-more : Adds names 0 name g g′ → (h : ℕ) → h < buckets → childOf (getD g′ (headsAt + h) 0) 1 ≡ 0
     none-more a h l = rw (a .is) (head-kept names 0 g (content names name) (65536 * 0 + name) (a .place) (a .number) (x .size) room (a .goes) 1 refl h l ∙ none h l)
+
+-- a global of the tree can be added
+pub addable-new : {tree names : Bytes} {g : List ℕ} {name hash : ℕ} → GoodGlobals tree names g → getD g 0 0 < globalsLimit → IsName tree name hash → name < 32768 → Addable tree 1 g name hash
+addable-new {tree} {names} {g} {name} x room named small =
+    record { size = x .size; room = room; named = named; within = omega arith; found = x .finds (content tree name) .new; way = x .finds (content tree name) .belowNew }
