@@ -1,8 +1,7 @@
 -- The globals still stand well when one is added.
-use Prim.Native.Nat.{ℕ, suc, _+_, _-_, _*_, _/_, _%_, _≤_, _<_}
+use Prim.Native.Nat.{ℕ, suc, _+_, _-_, _*_, _/_, _%_, _<_}
 use mathlib.Core.Path.{_≡_, refl, sym, ap, subst, _∙_}
 use mathlib.Core.Bool.{Bool, true, false, not}
-use mathlib.Core.Logic.{_⊎_, inl, inr}
 use mathlib.Core.List.{List, _∷_}
 use mathlib.Core.Option.{Option, none, some}
 use native.Mathlib.Omega.{arith}
@@ -16,13 +15,13 @@ use Rattle.definition.proofs.Undefined.{same-equal, same-self}
 use Rattle.field.specs.Layout.{content}
 use Rattle.symbol_table.specs.Name.{Stands, buckets, hashOf}
 use Rattle.symbol_table.specs.Search.{childOf, withChild, Way, Goes, hangs}
-use Rattle.symbol_table.specs.Layout.{globalsSize, headsAt, headOf, firstFound, globalName, globalsOf, GlobalStands, Finds, GoodGlobals}
+use Rattle.symbol_table.specs.Layout.{globalsSize, headsAt, headOf, firstFound, globalName, globalsOf, GlobalStands, GoodGlobals}
 use Rattle.symbol_table.specs.Store.{globalIn}
 use Rattle.symbol_table.specs.Contract.{IsName, Addable, Adds}
 use Rattle.symbol_table.proofs.Back.{last-or-before}
-use Rattle.symbol_table.proofs.Nodes.{child-other, child-later}
+use Rattle.symbol_table.proofs.Nodes.{child-other}
 use Rattle.symbol_table.proofs.Pushing.{Inside, global-at, global-name, global-size, global-count, global-new, global-place, globals-more, globals-length}
-use Rattle.symbol_table.proofs.Growing.{Owner, head, node, Change, link, late, change, owner-inside, change-inside, child-grown, way-kept, way-new, way-other, way-none}
+use Rattle.symbol_table.proofs.Growing.{Owner, head, node, Change, link, late, change, change-inside, child-grown, way-kept, way-new, way-other, way-none}
 
 -- a name's head is inside
 head-inside : (g : List ℕ) → getD g 0 0 < globalsLimit → (n : Bytes) → Inside g (headsAt + hashOf n % buckets)

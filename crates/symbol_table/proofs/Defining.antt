@@ -8,7 +8,7 @@ use lib.Seq.{take-at, drop-at}
 use borrow.Author.Tests.{le-leb, lt-leb}
 use Rattle.definition.specs.Basic.{Bytes}
 use Rattle.definition.specs.Limit.{globalsLimit, localsLimit}
-use Rattle.field.specs.Layout.{len, content}
+use Rattle.field.specs.Layout.{len}
 use Rattle.symbol_table.specs.Name.{Stands}
 use Rattle.symbol_table.specs.Layout.{globalsSize, partSize, base, tableOf, tablesOf, globalsIn, Sized, Good}
 use Rattle.symbol_table.specs.Store.{enteredIn, localIn}

@@ -1,33 +1,26 @@
 -- A global more in the search trees: what a search finds afterwards.
-use Prim.Native.Nat.{ℕ, suc, _+_, _*_, _/_, _%_, _≤_, _<_}
+use Prim.Native.Nat.{ℕ, _+_, _*_, _/_, _%_, _<_}
 use mathlib.Core.Path.{_≡_, refl, sym, ap, subst, _∙_}
-use mathlib.Core.Bool.{Bool, true, false, not}
-use mathlib.Core.Logic.{_≢_, _⊎_, inl, inr, ⊎-elim}
+use mathlib.Core.Bool.{Bool, true, false}
+use mathlib.Core.Logic.{_⊎_, inl, inr, ⊎-elim}
 use mathlib.Core.List.{List}
 use mathlib.Core.Option.{Option, none, some}
 use native.Mathlib.Omega.{arith}
 use lib.ListN.{length, getD}
 use lib.Dec.{eqb}
 use borrow.Author.Tests.{eqb-true, eqb-false}
-use Rattle.definition.specs.Basic.{Bytes, pick}
+use Rattle.definition.specs.Basic.{Bytes}
 use Rattle.definition.specs.Limit.{globalsLimit}
 use Rattle.definition.specs.SymbolTable.{same}
 use Rattle.definition.proofs.Undefined.{same-equal, same-self}
 use Rattle.field.specs.Layout.{content}
 use Rattle.symbol_table.specs.Name.{Stands, buckets, hashOf}
 use Rattle.symbol_table.specs.Search.{nodesAt, sideOf, childOf, latestOf, withChild, withLatest, Node, nameOf, nextOf, Way, ends, hits, goes, Goes, hangs, follows, further}
-use Rattle.symbol_table.specs.Layout.{globalsSize, headsAt, headOf}
+use Rattle.symbol_table.specs.Layout.{globalsSize, headsAt}
 use Rattle.symbol_table.specs.Store.{globalIn}
-use Rattle.symbol_table.proofs.Nodes.{child-new, child-other, latest-same, child-either, child-later, latest-later, child-none, latest-own}
+use Rattle.symbol_table.proofs.Names.{differs}
+use Rattle.symbol_table.proofs.Nodes.{child-new, latest-same, child-either, child-later, latest-later, child-none, latest-own}
 use Rattle.symbol_table.proofs.Pushing.{Inside, global-at, global-name, global-count, global-new, global-node, global-place}
-
--- other names are not the same
-differs : (x y : Bytes) → (x ≡ y → ⊥) → same x y ≡ false
-differs x y h = go (same x y) refl
-  where
-    go : (t : Bool) → same x y ≡ t → same x y ≡ false
-    go true p = absurd (h (same-equal x y p))
-    go false p = p
 
 module _ (bytes : Bytes) (side : ℕ) (g : List ℕ) (m : Bytes) where
   -- where a side of something is: a head of the globals' own side, or the node of one of them
@@ -93,6 +86,7 @@ module _ (g : List ℕ) (v at number : ℕ) (size : length g ≡ globalsSize) (r
         placed : {a y : ℕ} → Change bytes side g m a y → nodesAt + k ≡ a → latestOf y ≡ latestOf (getD g a 0)
         placed {a} (link {s = s} o z w) q = rw w (latest-same (getD g a 0) s (getD g 0 0 + 1) z (omega arith))
         placed (late {k = j} e n h w) q = let p : k ≡ j = omega arith in absurd (d (rw p h))
+
         go : (b : Bool) → eqb (nodesAt + k) at ≡ b → latestOf (getD (globalIn g v at number) (nodesAt + k) 0) ≡ latestOf (getD g (nodesAt + k) 0)
         go true p = rw (eqb-true (nodesAt + k) at p, global-place g v at number size room inside) (placed c (eqb-true (nodesAt + k) at p))
         go false p =

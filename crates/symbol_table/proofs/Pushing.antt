@@ -1,6 +1,6 @@
 -- A global more: what the numbers of the area become, and the names after it.
 use Prim.Native.Nat.{ℕ, suc, _+_, _*_, _≤_, _<_}
-use mathlib.Core.Path.{_≡_, refl, _∙_}
+use mathlib.Core.Path.{_≡_}
 use mathlib.Core.Logic.{_≢_}
 use mathlib.Core.List.{List, _∷_}
 use native.Mathlib.Omega.{arith}

@@ -1,5 +1,5 @@
 -- The names of a session, entered one after the other: what is left decides.
-use Prim.Native.Nat.{ℕ, suc, _+_, _-_, _%_, _≤_, _<_}
+use Prim.Native.Nat.{ℕ, _+_, _-_, _%_, _≤_, _<_}
 use mathlib.Core.Path.{_≡_, refl, sym, ap, _∙_}
 use mathlib.Core.Bool.{true, false}
 use mathlib.Core.Logic.{_≢_}
@@ -18,7 +18,7 @@ use Rattle.field.proofs.Reading.{items-none, Next, items-next, IsRead, name-rea
 use Rattle.symbol_table.specs.Name.{Stands, buckets, hashOf}
 use Rattle.symbol_table.specs.Search.{childOf, ends}
 use Rattle.symbol_table.specs.Layout.{globalsSize, headsAt, back, GoodGlobals, globalsOf, Good}
-use Rattle.symbol_table.specs.Contract.{IsName, Addable, Adds, HasNames, HasItems, StartsGlobals, StartsFrom, Starts}
+use Rattle.symbol_table.specs.Contract.{Addable, Adds, HasNames, HasItems, StartsGlobals, StartsFrom, Starts}
 use Rattle.symbol_table.proofs.Back.{last-or-before}
 use Rattle.symbol_table.proofs.Names.{len-take, content-take}
 use Rattle.symbol_table.proofs.Nodes.{child-none}

@@ -1,6 +1,6 @@
 -- The search trees of the globals. A global k, counted from 1, has its name's number at k and its node at `nodesAt + k`; 0 is none.
 -- A name is sought from a global to the one on a side of it, by the bits of the name's hash that its bucket leaves, then by the name's own.
-use Prim.Native.Nat.{ℕ, suc, _+_, _-_, _*_, _/_, _%_, _^_, _≤_, _<_}
+use Prim.Native.Nat.{ℕ, _+_, _-_, _*_, _/_, _%_, _^_, _≤_, _<_}
 use mathlib.Core.Path.{_≡_}
 use mathlib.Core.Bool.{true, false}
 use mathlib.Core.List.{List}
@@ -12,6 +12,7 @@ use Rattle.definition.specs.SymbolTable.{same}
 use Rattle.field.specs.Layout.{content}
 use Rattle.symbol_table.specs.Name.{Stands, hashOf}
 
+-- where the nodes are
 abbrev pub nodesAt : ℕ
 nodesAt = 1024
 
@@ -43,6 +44,7 @@ module _ (bytes : Bytes) (side : ℕ) (g : List ℕ) where
     pub part : getD g k 0 / 65536 ≡ side
     pub stands : Stands bytes (getD g k 0 % 65536)
 
+  -- its name
   abbrev pub nameOf : ℕ → Bytes
   nameOf k = content bytes (getD g k 0 % 65536)
 

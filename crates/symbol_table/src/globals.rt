@@ -1,15 +1,16 @@
 // The global names, in the first numbers of the area: for each bucket of hashes a search tree of the session's and one of the tree's.
-// A global is known there by its index and 1, so that 0 is none.
+// A global stands in a node by its index and 1, so that 0 is none.
 use super::Definition;
 use super::Hit;
+use super::layout::BUCKET_BITS;
 use super::layout::BUCKETS;
 use super::layout::GLOBAL;
 use super::layout::GLOBALS;
-use super::layout::HASH_BITS;
 use super::layout::HEADS_AT;
 use super::layout::IN_TREE;
 use super::layout::LATEST_UNIT;
 use super::layout::NODES_AT;
+use super::layout::SIDE_BITS;
 use super::layout::SIDE_UNIT;
 use super::name::hash_at;
 use super::name::name_at;
@@ -38,14 +39,14 @@ struct Place {
 fn side_of(name: &[u8], hash: usize, depth: usize) -> usize
     ensures { λ r. ⌜ r ≡ sideOf (now (name .entry)) hash depth ⌝ }
 {
-    if depth < HASH_BITS {
-        return (hash >> (10 + depth)) % 2;
+    if depth < SIDE_BITS {
+        return (hash >> (BUCKET_BITS + depth)) % 2;
     }
-    let i = (depth - HASH_BITS) / 8;
+    let i = (depth - SIDE_BITS) / 8;
     if name.len() <= i {
         return 0;
     }
-    (field::wide(name[i]) >> ((depth - HASH_BITS) % 8)) % 2
+    (field::wide(name[i]) >> ((depth - SIDE_BITS) % 8)) % 2
 }
 
 // The global on a side of a node, or of a bucket's heads.
@@ -83,7 +84,14 @@ fn same_global(tree: &[u8], names: &[u8], v: u32, name: &[u8]) -> bool
 }
 
 // The latest global of a name among the session's, on side 0, or the tree's.
-fn find_side(tree: &[u8], names: &[u8], side: usize, globals: &[u32], name: &[u8], hash: usize) -> Hit
+fn find_side(
+    tree: &[u8],
+    names: &[u8],
+    side: usize,
+    globals: &[u32],
+    name: &[u8],
+    hash: usize,
+) -> Hit
     requires { ⌜ GoodGlobals (now tree) (now names) (now globals) ⌝ }
     requires { ⌜ hash ≡ hashOf (now name) ⌝ }
     requires { ⌜ side < 2 ⌝ }
@@ -181,7 +189,12 @@ fn add_below(bytes: &[u8], side: usize, globals: &mut [u32], name: usize, hash: 
     ensures { λ _. ⌜ Adds (now (bytes .entry)) side name (now (globals .entry)) (now (globals .exit)) ⌝ }
 {
     let place = find_place(bytes, side, globals, name_at(bytes, name), hash);
-    push_global(globals, (IN_TREE * side + name) as u32, place.at, place.number);
+    push_global(
+        globals,
+        (IN_TREE * side + name) as u32,
+        place.at,
+        place.number,
+    );
 }
 
 // A global of the session more: its name is at an offset.

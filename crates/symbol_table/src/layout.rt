@@ -7,14 +7,16 @@ use definition::limit::LOCALS_LIMIT;
 use definition::limit::SESSION_SIZE;
 use definition::limit::TREE_LIMIT;
 
-// The hashes of names: their bound, their buckets, and the bits that their buckets leave.
+// The hashes of names: their bound; their buckets, by the low bits; the bits that are left.
 pub const HASHES: usize = 4294967296;
 
 pub const BUCKETS: usize = 1024;
 
-pub const HASH_BITS: usize = 22;
+pub const BUCKET_BITS: usize = 10;
 
-// The node of a global is there, and its index and 1 more.
+pub const SIDE_BITS: usize = 22;
+
+// The node of a global is behind this, by its index and 1.
 pub const NODES_AT: usize = GLOBALS_LIMIT;
 
 pub const HEADS_AT: usize = 1 + NODES_AT + GLOBALS_LIMIT;
@@ -53,7 +55,8 @@ pub const CODE_UNIT: u32 = TREE_LIMIT as u32;
 
 pub const TAG_UNIT: u32 = CODE_UNIT * CODES;
 
-// A node: the globals on its two sides, each its index and 1, or 0; and the index of the latest global of its name. A bucket's heads: a session's and a tree's.
+// A node: the globals on its two sides, and the index of the latest global of its name. A bucket's heads: the first of the session's globals and of the tree's.
+// A global stands there as its index and 1, so that 0 is none.
 pub const SIDE_UNIT: u32 = 2048;
 
 pub const LATEST_UNIT: u32 = SIDE_UNIT * SIDE_UNIT;

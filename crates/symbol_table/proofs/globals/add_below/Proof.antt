@@ -1,6 +1,5 @@
 -- `symbol_table::globals::add_below` meets its contract.
 use mathlib.Core.Path.{sym, ap, _∙_}
-use native.Mathlib.Omega.{arith}
 use Rattle.symbol_table.specs.Name.{hashOf}
 use Rattle.symbol_table.proofs.Adding.{place-to, added}
 use borrow.Author.Needs.{needs}

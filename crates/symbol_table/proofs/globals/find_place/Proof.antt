@@ -1,5 +1,5 @@
 -- The loop's invariant: what is left of the way decides where the global goes.
-use Prim.Native.Nat.{_+_, _-_, _%_}
+use Prim.Native.Nat.{_-_, _%_}
 use mathlib.Core.Path.{_≡_, sym, ap, _∙_}
 use native.Mathlib.Omega.{arith}
 use Rattle.definition.specs.SymbolTable.{same}

@@ -1,5 +1,4 @@
 -- `symbol_table::globals::place_global` meets its contract.
-use native.Mathlib.Omega.{arith}
 use Rattle.symbol_table.proofs.Adding.{addable-new}
 use Rattle.symbol_table.proofs.Defining.{globals-full, global-defined}
 use borrow.Author.Needs.{needs}

@@ -1,5 +1,4 @@
 -- `symbol_table::globals::side_of` meets its contract.
-use native.Mathlib.Omega.{arith}
 use borrow.Author.Tests.{lt-ltb, le-ltb, lt-leb, le-leb}
 use borrow.Author.Needs.{needs}
 use Rattle.symbol_table.specs.Search.{sideOf}
