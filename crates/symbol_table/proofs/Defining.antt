@@ -5,17 +5,18 @@ use mathlib.Core.List.{List, [], _++_}
 use native.Mathlib.Omega.{arith}
 use lib.ListN.{length, getD, take, drop}
 use lib.Seq.{take-at, drop-at}
-use borrow.Author.Tests.{le-ltb, le-leb, lt-leb}
+use borrow.Author.Tests.{le-leb, lt-leb}
 use Rattle.definition.specs.Basic.{Bytes}
 use Rattle.definition.specs.Limit.{globalsLimit, localsLimit}
-use Rattle.field.specs.Layout.{len, content}
-use Rattle.symbol_table.specs.Name.{Stands, buckets, hashOf}
-use Rattle.symbol_table.specs.Layout.{globalsSize, partSize, base, tableOf, tablesOf, globalsIn, globalName, Sized, GlobalStands, Good}
-use Rattle.symbol_table.specs.Store.{enteredIn, localIn, globalIn}
-use Rattle.symbol_table.specs.Contract.{IsName, Inside, DefinesGlobal, DefinesLocal, Defines, Params, Opens, Enters}
+use Rattle.field.specs.Layout.{len}
+use Rattle.symbol_table.specs.Name.{Stands}
+use Rattle.symbol_table.specs.Layout.{globalsSize, partSize, base, tableOf, tablesOf, globalsIn, Sized, Good}
+use Rattle.symbol_table.specs.Store.{enteredIn, localIn}
+use Rattle.symbol_table.specs.Contract.{IsName, Inside, Adds, DefinesGlobal, DefinesLocal, Defines, Params, Opens, Enters}
 use Rattle.symbol_table.specs.declared.Definition.{Definition}
 use Rattle.symbol_table.specs.declared.Definition.the-variants.{Global, Local, GlobalsFull, LocalsFull}
-use Rattle.symbol_table.proofs.Pushing.{globals-length, globals-more, globals-good}
+use Rattle.symbol_table.proofs.Pushing.{globals-length}
+use Rattle.symbol_table.proofs.Adding.{new-names, new-good}
 use Rattle.symbol_table.proofs.Tables.{local-table, local-good, entered-table, entered-good}
 use Rattle.symbol_table.proofs.Slices.{take-agree}
 use Rattle.symbol_table.proofs.Levels.{tables-agree, good-agree, base-more}
@@ -36,39 +37,29 @@ module _ (r : List ℕ) (name hash : ℕ) where
         good = local-good r name hash s room below;
       }
 
--- a name of the tree, as a global's
-module _ (tree names : Bytes) (name : ℕ) where
-  global-name : globalName tree names (65536 + name) ≡ content tree name
-  global-name = let e : 65536 + name - 65536 ≡ name = omega arith in rw (le-ltb (65536 + name) 65536 (omega arith), e)
-
-  global-stands : Stands tree name → GlobalStands tree names (65536 + name)
-  global-stands s = record { old = λ h. absurd (omega arith); new = λ h. let z : 65536 + name - 65536 ≡ name = omega arith in rw z s }
-
 -- among the globals
-module _ (g : List ℕ) (name hash : ℕ) where
-  pub globals-full : globalsLimit ≤ getD g 0 0 → DefinesGlobal name hash GlobalsFull g g
-  globals-full h = record { defined = λ tree names. rw (globals-length g tree names, le-leb globalsLimit (getD g 0 0) h); good = λ tree names n x. x }
+module _ (tree : Bytes) (g : List ℕ) (name : ℕ) where
+  pub globals-full : globalsLimit ≤ getD g 0 0 → DefinesGlobal tree name GlobalsFull g g
+  globals-full h = record { defined = λ names. rw (globals-length g tree names, le-leb globalsLimit (getD g 0 0) h); good = λ names x. x }
 
-  pub global-defined : length g ≡ globalsSize → getD g 0 0 < globalsLimit → hash < buckets → DefinesGlobal name hash (Global (getD g 0 0)) g (globalIn g (65536 + name) hash)
-  global-defined size room small =
+  pub global-defined : (g′ : List ℕ) → length g ≡ globalsSize → getD g 0 0 < globalsLimit → name < 32768 → Stands tree name → Adds tree 1 name g g′ → DefinesGlobal tree name (Global (getD g 0 0)) g g′
+  global-defined g′ size room small whole a =
       record {
-        defined = λ tree names.
-            rw (globals-more g (65536 + name) hash size room small tree names, global-name tree names name, globals-length g tree names, lt-leb globalsLimit (getD g 0 0) room);
-        good = λ tree names n.
-            globals-good g (65536 + name) hash size room small tree names (rw (global-name tree names name) (n .is)) (global-stands tree names name (n .stands));
+        defined = λ names. rw (new-names tree names g g′ name size room (omega arith) a, globals-length g tree names, lt-leb globalsLimit (getD g 0 0) room);
+        good = λ names x. new-good tree names g g′ name room (omega arith) x whole a;
       }
 
 -- in the whole area
 module _ (a : List ℕ) (level name : ℕ) where
   module _ (tree : Bytes) (hash : ℕ) (n : IsName tree name hash) (answer : Definition) where
-    pub defined-global : (g′ : List ℕ) → level ≡ 0 → length g′ ≡ globalsSize → DefinesGlobal name hash answer (take globalsSize a) g′ → Defines tree level name answer a (g′ ++ drop globalsSize a)
+    pub defined-global : (g′ : List ℕ) → level ≡ 0 → length g′ ≡ globalsSize → DefinesGlobal tree name answer (take globalsSize a) g′ → Defines tree level name answer a (g′ ++ drop globalsSize a)
     unfolding tablesOf Good
     defined-global g′ e size x =
         let whole : take globalsSize (g′ ++ drop globalsSize a) ≡ g′ = take-at g′ (drop globalsSize a) globalsSize size in
         rw e
         (record {
-          defined = λ names. rw whole (x .defined tree names);
-          good = λ names h. rw whole (x .good tree names n h);
+          defined = λ names. rw whole (x .defined names);
+          good = λ names h. rw whole (x .good names h);
           above = drop-at g′ (drop globalsSize a) globalsSize size;
         })
 

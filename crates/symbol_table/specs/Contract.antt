@@ -1,5 +1,5 @@
 -- What the functions promise: equations with the definition's tables, and what stays as it was.
-use Prim.Native.Nat.{ℕ, suc, _+_, _^_, _≤_, _<_}
+use Prim.Native.Nat.{ℕ, suc, _+_, _*_, _%_, _^_, _≤_, _<_}
 use mathlib.Core.Path.{_≡_}
 use mathlib.Core.List.{List, [], _∷_}
 use mathlib.Core.Option.{Option, none, some}
@@ -12,8 +12,10 @@ use Rattle.definition.specs.Session.{Words}
 use Rattle.definition.specs.Limit.{globalsLimit}
 use Rattle.definition.specs.Decode.{decoded, items, readNameField, readWords, readNames}
 use Rattle.field.specs.Layout.{after, content}
-use Rattle.symbol_table.specs.Name.{Stands, fields, hashOf}
-use Rattle.symbol_table.specs.Layout.{globalsSize, partSize, entriesAt, tagIn, base, part, symbolOf, tableOf, tablesOf, globalsOf, globalsIn, GoodTable, GoodGlobals, Good}
+use Rattle.symbol_table.specs.Name.{Stands, fields, buckets, hashOf}
+use Rattle.symbol_table.specs.Search.{Way, Goes}
+use Rattle.symbol_table.specs.Layout.{globalsSize, headsAt, headOf, partSize, entriesAt, tagIn, base, part, symbolOf, tableOf, tablesOf, globalsOf, globalsIn, GoodTable, GoodGlobals, Good}
+use Rattle.symbol_table.specs.Store.{globalIn}
 use Rattle.symbol_table.specs.declared.Hit.{Hit}
 use Rattle.symbol_table.specs.declared.Hit.the-variants.{At, Nothing}
 use Rattle.symbol_table.specs.declared.Lookup.{Lookup}
@@ -110,10 +112,26 @@ pub record Resolves (builtins : List Bytes) (tree names : Bytes) (level name : �
   pub globals : take globalsSize a′ ≡ take globalsSize a
   pub above : drop (base level) a′ ≡ drop (base level) a
 
+-- a global more can be added, of the session's on side 0 or of the tree's on side 1: its name is at an offset
+pub record Addable (bytes : Bytes) (side : ℕ) (g : List ℕ) (name hash : ℕ) : Type 0 where
+  pub size : length g ≡ globalsSize
+  pub room : getD g 0 0 < globalsLimit
+  pub named : IsName bytes name hash
+  pub within : name < 65536
+  pub found : Option ℕ
+  pub way : Way bytes side g (content bytes name) 0 (headOf g (content bytes name) side) found
+
+-- it is added where the search for its name ends
+pub record Adds (bytes : Bytes) (side name : ℕ) (g g′ : List ℕ) : Type 0 where
+  pub place : ℕ
+  pub number : ℕ
+  pub goes : Goes bytes side g (content bytes name) 0 (headsAt + hashOf (content bytes name) % buckets) side place number
+  pub is : g′ ≡ globalIn g (65536 * side + name) place number
+
 -- a definition among the globals
-pub record DefinesGlobal (name hash : ℕ) (answer : Definition) (g g′ : List ℕ) : Type 0 where
-  pub defined : (tree names : Bytes) → definedOf answer (globalsOf tree names g′) [] ≡ place (content tree name) (globalsOf tree names g) []
-  pub good : (tree names : Bytes) → IsName tree name hash → GoodGlobals tree names g → GoodGlobals tree names g′
+pub record DefinesGlobal (tree : Bytes) (name : ℕ) (answer : Definition) (g g′ : List ℕ) : Type 0 where
+  pub defined : (names : Bytes) → definedOf answer (globalsOf tree names g′) [] ≡ place (content tree name) (globalsOf tree names g) []
+  pub good : (names : Bytes) → GoodGlobals tree names g → GoodGlobals tree names g′
 
 -- a definition in a function's part
 pub record DefinesLocal (name hash : ℕ) (answer : Definition) (r r′ : List ℕ) : Type 0 where

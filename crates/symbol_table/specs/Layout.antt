@@ -1,23 +1,22 @@
 -- The table area: what its numbers stand for, and when they stand well.
--- First the globals: their count; 1,024 names; 1,024 links, each to the global before it of the same hash; for each hash its latest global.
+-- First the globals: their count; 1,024 names; 1,024 nodes of search trees; for each bucket the heads of two search trees, of the session's globals and of the tree's.
 -- Then a part for each open function, the outermost first: 1 where it has a name, its definitions, its free symbols; 512 entries; 255 originals.
 use Prim.Native.Nat.{ℕ, zero, suc, _+_, _-_, _*_, _/_, _%_, _≤_, _<_}
 use mathlib.Core.Path.{_≡_}
 use mathlib.Core.List.{List, [], _∷_}
+use mathlib.Core.Option.{Option, none, some}
 use lib.ListN.{length, getD, take, drop}
-use lib.Dec.{ltb}
+use lib.Dec.{ltb, eqb}
 use Rattle.definition.specs.Basic.{Bytes, pick}
 use Rattle.definition.specs.Limit.{globalsLimit, localsLimit, freeLimit}
-use Rattle.definition.specs.SymbolTable.{Symbol, Entry, Table}
+use Rattle.definition.specs.SymbolTable.{Symbol, Entry, Table, findGlobal}
 use Rattle.field.specs.Layout.{content}
 use Rattle.symbol_table.specs.Name.{Stands, buckets, hashOf}
+use Rattle.symbol_table.specs.Search.{childOf, Way}
 
--- the numbers of the globals; where the links begin; where the latest of each hash begin
+-- the numbers of the globals; where the heads of the buckets begin
 abbrev pub globalsSize : ℕ
 globalsSize = 3073
-
-abbrev pub linksAt : ℕ
-linksAt = 1025
 
 abbrev pub headsAt : ℕ
 headsAt = 2049
@@ -118,18 +117,32 @@ pub record GlobalStands (tree names : Bytes) (v : ℕ) : Type 0 where
   pub old : v < 65536 → Stands names v
   pub new : 65536 ≤ v → Stands tree (v - 65536)
 
--- the latest global before k of a hash is the one before p; where p is 0 there is none
-pub record Latest (name : ℕ → Bytes) (g : List ℕ) (hash p k : ℕ) : Type 0 where
-  pub below : p ≤ k
-  pub is : 0 < p → hashOf (name (getD g (1 + (p - 1)) 0)) ≡ hash
-  pub other : (i : ℕ) → p ≤ i → i < k → hashOf (name (getD g (1 + i) 0)) ≡ hash → ⊥
+-- the first of two indices that is there
+abbrev pub firstFound : Option ℕ → Option ℕ → Option ℕ
+firstFound (some k) o = some k
+firstFound none o = o
+
+-- the global below one of the heads of a name's bucket: the session's on side 0, the tree's on side 1
+abbrev pub headOf : List ℕ → Bytes → ℕ → ℕ
+headOf g n side = childOf (getD g (headsAt + hashOf n % buckets) 0) side
+
+-- a search for a name, among the tree's globals and then among the session's, finds the latest of that name
+pub record Finds (tree names : Bytes) (g : List ℕ) (n : Bytes) : Type 0 where
+  pub new : Option ℕ
+  pub old : Option ℕ
+  pub belowNew : Way tree 1 g n 0 (headOf g n 1) new
+  pub belowOld : Way names 0 g n 0 (headOf g n 0) old
+  pub latest : findGlobal n (globalsOf tree names g) ≡ firstFound new old
+
+-- what it finds among the session's, on side 0, or the tree's
+abbrev pub foundOn : {tree names : Bytes} {g : List ℕ} {n : Bytes} → Finds tree names g n → ℕ → Option ℕ
+foundOn x side = pick (eqb side 0) (x .old) (x .new)
 
 pub record GoodGlobals (tree names : Bytes) (g : List ℕ) : Type 0 where
   pub size : length g ≡ globalsSize
   pub count : getD g 0 0 ≤ globalsLimit
   pub stands : (i : ℕ) → i < getD g 0 0 → GlobalStands tree names (getD g (1 + i) 0)
-  pub links : (i : ℕ) → i < getD g 0 0 → Latest (globalName tree names) g (hashOf (globalName tree names (getD g (1 + i) 0))) (getD g (linksAt + i) 0) i
-  pub heads : (h : ℕ) → h < buckets → Latest (globalName tree names) g h (getD g (headsAt + h) 0) (getD g 0 0)
+  pub finds : (n : Bytes) → Finds tree names g n
 
 -- the whole area stands well, with so many open functions
 unfoldable pub Good : Bytes → Bytes → ℕ → List ℕ → Type 0

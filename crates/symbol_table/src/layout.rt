@@ -1,4 +1,4 @@
-// The table area. First the globals, 3,073 numbers: their count, 1,024 names, 1,024 links, the latest of each hash.
+// The table area. First the globals, 3,073 numbers: their count, 1,024 names, 1,024 nodes, the heads of 1,024 buckets.
 // Then a part for each open function, 770 numbers: 1 where it has a name, its definitions, its free symbols, 512 entries, 255 originals.
 use definition::limit;
 use definition::limit::FREE_LIMIT;
@@ -7,12 +7,19 @@ use definition::limit::LOCALS_LIMIT;
 use definition::limit::SESSION_SIZE;
 use definition::limit::TREE_LIMIT;
 
-// The hashes of names.
+// The hashes of names: their bound; their buckets, by the low bits; the bits that are left.
+pub const HASHES: usize = 4294967296;
+
 pub const BUCKETS: usize = 1024;
 
-pub const LINKS_AT: usize = 1 + GLOBALS_LIMIT;
+pub const BUCKET_BITS: usize = 10;
 
-pub const HEADS_AT: usize = LINKS_AT + GLOBALS_LIMIT;
+pub const SIDE_BITS: usize = 22;
+
+// The node of a global is behind this, by its index and 1.
+pub const NODES_AT: usize = GLOBALS_LIMIT;
+
+pub const HEADS_AT: usize = 1 + NODES_AT + GLOBALS_LIMIT;
 
 pub const GLOBALS_SIZE: usize = HEADS_AT + BUCKETS;
 
@@ -47,6 +54,12 @@ pub const CODES: u32 = 1024;
 pub const CODE_UNIT: u32 = TREE_LIMIT as u32;
 
 pub const TAG_UNIT: u32 = CODE_UNIT * CODES;
+
+// A node: the globals on its two sides, and the index of the latest global of its name. A bucket's heads: the first of the session's globals and of the tree's.
+// A global stands there as its index and 1, so that 0 is none.
+pub const SIDE_UNIT: u32 = 2048;
+
+pub const LATEST_UNIT: u32 = SIDE_UNIT * SIDE_UNIT;
 
 // A global's name is an offset among the session's names, or that much more than an offset in the tree.
 pub const IN_TREE: usize = SESSION_SIZE;

@@ -35,7 +35,7 @@ ghost use Rattle.definition.specs.Opcode.{instr, width};
 ghost use Rattle.definition.specs.SymbolTable.{find, loadOf};
 ghost use Rattle.definition.specs.Decode.{wordsIn};
 ghost use Rattle.field.specs.Layout.{after, content};
-ghost use Rattle.symbol_table.specs.Name.{Stands, Row, buckets};
+ghost use Rattle.symbol_table.specs.Name.{Stands, Row, hashBound};
 ghost use Rattle.symbol_table.specs.Layout.{globalsSize, partSize, originalsAt, base, part, symbolOf, tableOf, globalsIn, Sized, GoodTable, GoodGlobals, Good};
 ghost use Rattle.symbol_table.specs.Contract.{hitOf, resolvedOf, outermostOf, IsName, Inside, Few, Crossed, Crosses, Resolves, DefinesLocal, Defines, Enters, HasWords, HasNames, HasItems, StartsFrom, Starts};
 
@@ -98,7 +98,7 @@ fn find_outermost(tree: &[u8], names: &[u8], table: &[u32], name: usize, hash: u
     requires { ⌜ globalsSize ≤ length (now table) ⌝ }
     requires { ⌜ GoodGlobals (now tree) (now names) (take globalsSize (now table)) ⌝ }
     requires { ⌜ IsName (now tree) name hash ⌝ }
-    requires { ⌜ hash < buckets ⌝ }
+    requires { ⌜ hash < hashBound ⌝ }
     ensures { λ r. ⌜ resolvedOf r [] ≡ outermostOf (wordsIn (now (names .entry))) (globalsIn (now (tree .entry)) (now (names .entry)) (now (table .entry))) (content (now (tree .entry)) name) ⌝ }
     ensures { λ r. ⌜ Crossed 0 r ⌝ }
 {
@@ -126,7 +126,7 @@ fn resolve(
     requires { ⌜ Good (now tree) (now names) level (now table) ⌝ }
     requires { ⌜ IsName (now tree) name hash ⌝ }
     requires { ⌜ name < treeLimit ⌝ }
-    requires { ⌜ hash < buckets ⌝ }
+    requires { ⌜ hash < hashBound ⌝ }
     ensures { λ r. ⌜ Resolves (wordsIn (now (names .entry))) (now (tree .entry)) (now (names .entry)) level name r (now (table .entry)) (now (table .exit)) ⌝ }
 {
     if level == 0 {
@@ -188,7 +188,7 @@ pub fn define(tree: &[u8], table: &mut [u32], level: usize, name: usize) -> Defi
 {
     let hash = hash_at(tree, name);
     if level == 0 {
-        return place_global(&mut table[..GLOBALS_SIZE], name, hash);
+        return place_global(tree, &mut table[..GLOBALS_SIZE], name, hash);
     }
     place_at(table, level - 1, name, hash)
 }
