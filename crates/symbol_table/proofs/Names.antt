@@ -13,13 +13,17 @@ use Rattle.field.specs.Layout.{len, after, content}
 use Rattle.symbol_table.specs.Name.{buckets, hashFrom}
 use Rattle.symbol_table.proofs.Slices.{slice-take}
 
--- names of different hashes are not the same
-pub hash-differs : (f : Bytes → ℕ) (x y : Bytes) → (f x ≡ f y → ⊥) → same x y ≡ false
-hash-differs f x y h = go (same x y) refl
+-- names that are not equal are not the same
+pub not-same : (x y : Bytes) → (x ≡ y → ⊥) → same x y ≡ false
+not-same x y h = go (same x y) refl
   where
     go : (t : Bool) → same x y ≡ t → same x y ≡ false
-    go true p = absurd (h (ap f (same-equal x y p)))
+    go true p = absurd (h (same-equal x y p))
     go false p = p
+
+-- names of different hashes
+pub hash-differs : (f : Bytes → ℕ) (x y : Bytes) → (f x ≡ f y → ⊥) → same x y ≡ false
+hash-differs f x y h = not-same x y (λ e. h (ap f e))
 
 module _ (x : Bytes) (h i : ℕ) where
   pub hash-step : i < length x → hashFrom h (drop i x) ≡ hashFrom ((h * 37 + getD x i 0) % buckets) (drop (i + 1) x)
