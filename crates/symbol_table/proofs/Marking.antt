@@ -91,7 +91,7 @@ module _ (ws gs : List Bytes) (tree : Bytes) (r r′ : List ℕ) where
       }
 
   module _ (h : SameBelow markedAt r r′) (sized : Sized r) where
-    entries-same : entries r′ ≡ entries r
+    pub entries-same : entries r′ ≡ entries r
     entries-same = rw (h 0 (omega arith), h 1 (omega arith), h 2 (omega arith))
 
     pub table-same : tableOf tree r′ ≡ tableOf tree r
