@@ -6,7 +6,7 @@ use mathlib.Core.List.{List, []}
 use mathlib.Core.Option.{none}
 use native.Mathlib.Omega.{arith}
 use lib.Bits.{bitOr, or-shr, or-mod, or-comm}
-use lib.Pow.{shl-shr}
+use lib.Pow.{shl-exact, shl-shr}
 use lib.Dec.{eqb}
 use lib.ListN.{length, getD, set, length-set}
 use lib.Seq.{getD-set-same, getD-set-other}
@@ -39,6 +39,9 @@ bit-new v k =
     let h : 2 ^ k / 2 ^ k ≡ 1 = rw e at (shl-shr 1 k) in
     rw (or-comm v (2 ^ k)) (bit-kept (2 ^ k) v k (rw h))
 
+pub shifted : (k : ℕ) → k < 32 → (1 * 2 ^ k) % 2 ^ 32 ≡ 2 ^ k
+shifted k h = let e : 1 * 2 ^ k ≡ 2 ^ k = omega arith in shl-exact 1 k 32 (omega arith) (omega arith) ∙ e
+
 -- a bit more in a number of a list
 module _ (r : List ℕ) (i w : ℕ) (inside : i < length r) where
   set-new : (k : ℕ) → getD (set r i (bitOr (getD r i 0) (2 ^ k))) i 0 / 2 ^ k % 2 ≡ 1
@@ -54,30 +57,32 @@ module _ (r : List ℕ) (i w : ℕ) (inside : i < length r) where
       go false p = rw (getD-set-other r i j (bitOr (getD r i 0) w) 0 (eqb-false j i p)) h
 
 -- one entry more is marked
-module _ (r : List ℕ) (code : ℕ) (size : length r ≡ partSize) where
-  pub next-none : code < 768 → MarksNext code r (set r markedAt (getD r markedAt 0 + 1))
+module _ (r q : List ℕ) (code : ℕ) (size : length q ≡ partSize) (b : BeginsMarks r q) where
+  next-count : (j : ℕ) → (j ≡ markedAt → ⊥) → getD (set q markedAt (getD r markedAt 0 + 1)) j 0 ≡ getD q j 0
+  next-count j d = getD-set-other q markedAt j (getD r markedAt 0 + 1) 0 d
+
+  pub next-none : code < 768 → MarksNext code r (set q markedAt (getD r markedAt 0 + 1))
   next-none h =
       record {
-        same = λ j l. getD-set-other r markedAt j (getD r markedAt 0 + 1) 0 (omega arith);
-        count = getD-set-same r markedAt (getD r markedAt 0 + 1) 0 (omega arith);
-        kept = λ c k. rw (getD-set-other r markedAt (marksAt + c % marksCount / 32) (getD r markedAt 0 + 1) 0 (omega arith)) k;
+        same = λ j l. next-count j (omega arith) ∙ b .same j (omega arith);
+        count = getD-set-same q markedAt (getD r markedAt 0 + 1) 0 (omega arith);
+        kept = λ c p k. rw (next-count (marksAt + c % marksCount / 32) (omega arith)) (b .kept c p k);
         new = λ l. absurd (omega arith);
       }
 
-  pub next-marked : MarksNext code r (markIn (set r markedAt (getD r markedAt 0 + 1)) code)
+  pub next-marked : MarksNext code r (markIn (set q markedAt (getD r markedAt 0 + 1)) code)
   unfolding markIn
   next-marked =
       let v = getD r markedAt 0 + 1 in
-      let q = set r markedAt v in
+      let q₁ = set q markedAt v in
       let i = marksAt + code % marksCount / 32 in
-      let inside : i < length q = omega (arith, length-set r markedAt v) in
+      let w = 2 ^ (code % marksCount % 32) in
+      let inside : i < length q₁ = omega (arith, length-set q markedAt v) in
       record {
-        same = λ j l. getD-set-other q i j (bitOr (getD q i 0) (2 ^ (code % marksCount % 32))) 0 (omega arith) ∙ getD-set-other r markedAt j v 0 (omega arith);
-        count = getD-set-other q i markedAt (bitOr (getD q i 0) (2 ^ (code % marksCount % 32))) 0 (omega arith) ∙ getD-set-same r markedAt v 0 (omega arith);
-        kept = λ c k.
-            set-kept q i (2 ^ (code % marksCount % 32)) inside (marksAt + c % marksCount / 32) (c % marksCount % 32)
-            (rw (getD-set-other r markedAt (marksAt + c % marksCount / 32) v 0 (omega arith)) k);
-        new = λ l. set-new q i 0 inside (code % marksCount % 32);
+        same = λ j l. getD-set-other q₁ i j (bitOr (getD q₁ i 0) w) 0 (omega arith) ∙ next-count j (omega arith) ∙ b .same j (omega arith);
+        count = getD-set-other q₁ i markedAt (bitOr (getD q₁ i 0) w) 0 (omega arith) ∙ getD-set-same q markedAt v 0 (omega arith);
+        kept = λ c p k. set-kept q₁ i w inside (marksAt + c % marksCount / 32) (c % marksCount % 32) (rw (next-count (marksAt + c % marksCount / 32) (omega arith)) (b .kept c p k));
+        new = λ l. set-new q₁ i 0 inside (code % marksCount % 32);
       }
 
 -- marks that stay right: the entries that are marked stay, and so do the marks
@@ -123,7 +128,7 @@ module _ (ws gs : List Bytes) (tree : Bytes) (r r′ : List ℕ) where
               (λ s e.
               let w = o .whole s (rw (h (entriesAt + getD r markedAt 0) (omega arith)) at e) in
               rw (w .1) (x .new (w .0)))
-              (λ b s e. x .kept (codeOf s) (m .each i b s (rw (h (entriesAt + i) (omega arith)) at e)));
+              (λ b s e. x .kept (codeOf s) (omega arith) (m .each i b s (rw (h (entriesAt + i) (omega arith)) at e)));
         }
 
 -- a name whose code has no mark is not among the entries, where all are marked

@@ -1,6 +1,6 @@
 -- All entries of the function at a level are marked, one after the other.
 use Prim.Native.Nat.{ℕ, _+_, _≤_, _<_}
-use mathlib.Core.Path.{_≡_, refl, sym, _∙_}
+use mathlib.Core.Path.{_≡_, refl, _∙_}
 use mathlib.Core.Bool.{true, false}
 use mathlib.Core.List.{List}
 use native.Mathlib.Omega.{arith}
@@ -8,10 +8,10 @@ use lib.ListN.{length, getD, take}
 use Rattle.definition.specs.Basic.{Bytes}
 use Rattle.field.specs.Layout.{content}
 use Rattle.symbol_table.specs.Name.{Stands}
-use Rattle.symbol_table.specs.Layout.{globalsSize, partSize, entriesAt, markedAt, base, part, nameIn, entries, Sized, GoodTable, IsMarked, Marked, GoodPart}
-use Rattle.symbol_table.specs.Contract.{Inside, SameBelow, BeginsMarks, MarksNext, Remarked, Outermost, MarksAll, Absent}
+use Rattle.symbol_table.specs.Layout.{globalsSize, partSize, entriesAt, markedAt, base, part, nameIn, entries, tableOf, GoodTable, IsMarked, GoodPart}
+use Rattle.symbol_table.specs.Contract.{Inside, MarksNext, Remarked, Outermost, MarksAll, Absent}
 use Rattle.symbol_table.proofs.Slices.{take-agree}
-use Rattle.symbol_table.proofs.Marking.{marked-kept, marked-next, table-same, entries-same, good-same, none-marked}
+use Rattle.symbol_table.proofs.Marking.{marked-next, table-same, entries-same, good-same, none-marked}
 use Rattle.symbol_table.proofs.Levels.{part-length}
 
 -- one change of a part after another
@@ -25,54 +25,44 @@ pub record Marks (ws gs : List Bytes) (tree : Bytes) (l i : ℕ) (a₀ a : List 
   pub order : i ≤ entries (part l a₀)
   pub size : length a ≡ length a₀
 
-module _ (ws gs : List Bytes) (tree : Bytes) (l : ℕ) (a₀ : List ℕ) (g : GoodPart ws gs tree (part l a₀)) (fits : base l + partSize ≤ length a₀) where
+module _ (ws gs : List Bytes) (tree : Bytes) (l : ℕ) (a₀ : List ℕ) (g : GoodPart ws gs tree (part l a₀)) where
+  -- what other marks leave as it was
+  module _ (a : List ℕ) (x : Inside (Remarked ws gs tree) l a₀ a) where
+    pub entries-then : entries (part l a) ≡ entries (part l a₀)
+    entries-then = entries-same ws gs tree (part l a₀) (part l a) (x .here .same) (g .table .sized)
+
+    pub table-then : tableOf tree (part l a) ≡ tableOf tree (part l a₀)
+    table-then = table-same ws gs tree (part l a₀) (part l a) (x .here .same) (g .table .sized)
+
+    pub good-then : GoodTable tree (part l a)
+    good-then = good-same ws gs tree (part l a₀) (part l a) (x .here .same) (g .table .sized) (x .here .size) (g .table)
+
+    pub globals-then : take globalsSize a ≡ take globalsSize a₀
+    globals-then = take-agree globalsSize (base l) a a₀ (omega arith) (x .below)
+
   -- the marks as they are
   pub remarked-none : Inside (Remarked ws gs tree) l a₀ a₀
   remarked-none = record { here = record { size = g .table .sized .size; same = λ j h. refl; marks = g .marks }; below = refl; above = refl }
 
-  pub marks-begin : (a : List ℕ) → length a ≡ length a₀ → Inside BeginsMarks l a₀ a → Marks ws gs tree l (getD (part l a₀) markedAt 0) a₀ a
-  marks-begin a size x =
-      let same : SameBelow markedAt (part l a₀) (part l a) = λ j h. x .here .same j (omega arith) in
-      let n = entries-same ws gs tree (part l a₀) (part l a) same (g .table .sized) in
-      record {
-        remarked =
-            record {
-              here =
-                  record {
-                    size = part-length l a (omega arith);
-                    same = same;
-                    marks = marked-kept ws gs tree (part l a₀) (part l a) (λ j p q. same j (omega (arith, g .table .sized))) (omega arith) (x .here .same markedAt (omega arith)) (x .here .kept) (g .marks);
-                  };
-              below = x .below;
-              above = x .above;
-            };
-        count = x .here .same markedAt (omega arith);
-        order = g .marks .order;
-        size = size;
-      }
+  pub marks-start : Marks ws gs tree l (getD (part l a₀) markedAt 0) a₀ a₀
+  marks-start = record { remarked = remarked-none; count = refl; order = g .marks .order; size = refl }
 
   module _ (i : ℕ) (a : List ℕ) (x : Marks ws gs tree l i a₀ a) where
     same-entries : entries (part l a) ≡ entries (part l a₀)
-    same-entries = entries-same ws gs tree (part l a₀) (part l a) (x .remarked .here .same) (g .table .sized)
-
-    good-now : GoodTable tree (part l a)
-    good-now = good-same ws gs tree (part l a₀) (part l a) (x .remarked .here .same) (g .table .sized) (x .remarked .here .size) (g .table)
-
-    pub marks-globals : take globalsSize a ≡ take globalsSize a₀
-    marks-globals = take-agree globalsSize (base l) a a₀ (omega arith) (x .remarked .below)
+    same-entries = entries-then a (x .remarked)
 
     pub marks-done : entries (part l a₀) ≤ i → MarksAll ws gs tree l a₀ a
     marks-done h = record { remarked = x .remarked; all = x .count ∙ omega (arith, same-entries, x .order) }
 
     module _ (h : i < entries (part l a₀)) where
       pub marks-stands : Stands tree (nameIn (getD (part l a) (entriesAt + i) 0))
-      marks-stands = good-now .each i (omega (arith, same-entries)) .stands
+      marks-stands = good-then a (x .remarked) .each i (omega (arith, same-entries)) .stands
 
       pub marks-few : getD (part l a) markedAt 0 < 1024
       marks-few = omega (arith, x .count, g .table .sized)
 
-      pub marks-next : (code : ℕ) (a′ : List ℕ) → Outermost ws gs (content tree (nameIn (getD (part l a) (entriesAt + i) 0))) code → length a′ ≡ length a → Inside (MarksNext code) l a a′ → Marks ws gs tree l (i + 1) a₀ a′
-      marks-next code a′ o size y =
+      pub marks-next : (code : ℕ) (a′ : List ℕ) → base l + partSize ≤ length a₀ → Outermost ws gs (content tree (nameIn (getD (part l a) (entriesAt + i) 0))) code → length a′ ≡ length a → Inside (MarksNext code) l a a′ → Marks ws gs tree l (i + 1) a₀ a′
+      marks-next code a′ fits o size y =
           record {
             remarked =
                 inside-then
@@ -80,7 +70,7 @@ module _ (ws gs : List Bytes) (tree : Bytes) (l : ℕ) (a₀ : List ℕ) (g : Go
                 record {
                   size = part-length l a′ (omega (arith, x .size));
                   same = λ j k. q .same j k ∙ p .same j k;
-                  marks = marked-next ws gs tree (part l a) (part l a′) (q .same) (good-now .sized) code q (omega (arith, x .count, same-entries)) (rw (x .count) o) (p .marks);
+                  marks = marked-next ws gs tree (part l a) (part l a′) (q .same) (good-then a (x .remarked) .sized) code q (omega (arith, x .count, same-entries)) (rw (x .count) o) (p .marks);
                 })
                 (x .remarked) y;
             count = y .here .count ∙ rw (x .count);
@@ -100,7 +90,7 @@ module _ (ws gs : List Bytes) (tree : Bytes) (l : ℕ) (a₀ : List ℕ) (g : Go
     absent-clear far clear =
         record {
           absent = λ e n known.
-              rw (← table-same ws gs tree (part l a₀) (part l a) (x .remarked .here .same) (g .table .sized))
+              rw (← table-then a (x .remarked))
               (none-marked ws gs tree (part l a) n code (x .remarked .here .marks) (x .all) far known clear);
           remarked = x .remarked;
         }

@@ -104,7 +104,7 @@ pub record BeginsMarks (r r′ : List ℕ) : Type 0 where
 pub record MarksNext (code : ℕ) (r r′ : List ℕ) : Type 0 where
   pub same : SameBelow markedAt r r′
   pub count : getD r′ markedAt 0 ≡ getD r markedAt 0 + 1
-  pub kept : (c : ℕ) → IsMarked r c → IsMarked r′ c
+  pub kept : (c : ℕ) → 0 < getD r markedAt 0 → IsMarked r c → IsMarked r′ c
   pub new : 768 ≤ code → IsMarked r′ code
 
 -- a function's part with other marks that are right

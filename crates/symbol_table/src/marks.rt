@@ -61,12 +61,12 @@ fn is_marked(part: &[u32], code: u32) -> bool
 }
 
 // How many entries are marked. Before the first, the marks are cleared.
-fn begin_marks(part: &mut [u32]) -> usize
+fn begin_marks(part: &mut [u32]) -> u32
     requires { ⌜ length (now part) ≡ partSize ⌝ }
     ensures { λ r. ⌜ r ≡ getD (now (part .entry)) markedAt 0 ⌝ }
     ensures { λ _. ⌜ BeginsMarks (now (part .entry)) (now (part .exit)) ⌝ }
 {
-    let m = wide32(part[MARKED_AT]);
+    let m = part[MARKED_AT];
     if m == 0 {
         clear_marks(part);
     }
@@ -79,7 +79,7 @@ fn mark_next(part: &mut [u32], code: u32)
     requires { ⌜ getD (now part) markedAt 0 < 1024 ⌝ }
     ensures { λ _. ⌜ MarksNext code (now (part .entry)) (now (part .exit)) ⌝ }
 {
-    let m = part[MARKED_AT];
+    let m = begin_marks(part);
     part[MARKED_AT] = m + 1;
     if BUILTIN <= code {
         mark(part, code);
@@ -87,16 +87,6 @@ fn mark_next(part: &mut [u32], code: u32)
 }
 
 // The same in the part of the function at a level.
-fn begin_at(table: &mut [u32], level: usize) -> usize
-    requires { ⌜ base level + partSize ≤ length (now table) ⌝ }
-    ensures { λ r. ⌜ r ≡ getD (part level (now (table .entry))) markedAt 0 ⌝ }
-    ensures { λ _. ⌜ Inside BeginsMarks level (now (table .entry)) (now (table .exit)) ⌝ }
-{
-    let start = GLOBALS_SIZE + PART_SIZE * level;
-    let end = start + PART_SIZE;
-    begin_marks(&mut table[start..end])
-}
-
 fn next_at(table: &mut [u32], level: usize, code: u32)
     requires { ⌜ base level + partSize ≤ length (now table) ⌝ }
     requires { ⌜ getD (part level (now table)) markedAt 0 < 1024 ⌝ }
@@ -107,6 +97,7 @@ fn next_at(table: &mut [u32], level: usize, code: u32)
     mark_next(&mut table[start..end], code);
 }
 
+// Whether the mark of a code is set in the part of the function at a level.
 fn is_marked_at(table: &[u32], level: usize, code: u32) -> bool
     requires { ⌜ base level + partSize ≤ length (now table) ⌝ }
     ensures { λ r. ⌜ (r ≡ false → IsMarked (part level (now (table .entry))) code → ⊥) ⌝ }
@@ -158,7 +149,7 @@ fn mark_entries(tree: &[u8], names: &[u8], table: &mut [u32], level: usize, n: u
     requires { ⌜ n ≡ entries (part level (now table)) ⌝ }
     ensures { λ _. ⌜ MarksAll (wordsIn (now (names .entry))) (globalsIn (now (tree .entry)) (now (names .entry)) (now (table .entry))) (now (tree .entry)) level (now (table .entry)) (now (table .exit)) ⌝ }
 {
-    let mut i = begin_at(table, level);
+    let mut i = wide32(number_at(table, level, MARKED_AT));
     while i < n {
         let name = wide32(number_at(table, level, ENTRIES_AT + i) % CODE_UNIT);
         let hash = hash_at(tree, name);
