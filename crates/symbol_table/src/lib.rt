@@ -73,14 +73,7 @@ pub struct Load {
 }
 
 // The latest entry of a name in the table of the function at a level.
-fn find_at(
-    tree: &[u8],
-    table: &[u32],
-    level: usize,
-    n: usize,
-    name: usize,
-    hash: usize,
-) -> Hit
+fn find_at(tree: &[u8], table: &[u32], level: usize, n: usize, name: usize, hash: usize) -> Hit
     requires { ⌜ base level + partSize ≤ length (now table) ⌝ }
     requires { ⌜ GoodTable (now tree) (part level (now table)) ⌝ }
     requires { ⌜ n ≡ entries (part level (now table)) ⌝ }

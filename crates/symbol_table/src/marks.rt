@@ -6,10 +6,10 @@ use super::layout::BUILTIN;
 use super::layout::CODE_UNIT;
 use super::layout::ENTRIES_AT;
 use super::layout::GLOBALS_SIZE;
+use super::layout::MARK_NUMBERS;
 use super::layout::MARKED_AT;
 use super::layout::MARKS;
 use super::layout::MARKS_AT;
-use super::layout::MARK_NUMBERS;
 use super::layout::PART_SIZE;
 use super::layout::SHORT;
 use super::leaving::number_at;
@@ -119,13 +119,7 @@ pub fn count_at(table: &[u32], level: usize) -> usize
 }
 
 // The code of a name's builtin or global, or 1 where there is none.
-pub fn code_outermost(
-    tree: &[u8],
-    names: &[u8],
-    table: &[u32],
-    name: usize,
-    hash: usize,
-) -> u32
+pub fn code_outermost(tree: &[u8], names: &[u8], table: &[u32], name: usize, hash: usize) -> u32
     requires { ⌜ HasWords (now names) ⌝ }
     requires { ⌜ globalsSize ≤ length (now table) ⌝ }
     requires { ⌜ GoodGlobals (now tree) (now names) (take globalsSize (now table)) ⌝ }
