@@ -8,6 +8,7 @@ use lib.Seq.{take-at, drop-at}
 use borrow.Author.Tests.{le-leb, lt-leb}
 use Rattle.definition.specs.Basic.{Bytes}
 use Rattle.definition.specs.Limit.{globalsLimit, localsLimit}
+use Rattle.definition.specs.Decode.{wordsIn}
 use Rattle.field.specs.Layout.{len}
 use Rattle.symbol_table.specs.Name.{Stands}
 use Rattle.symbol_table.specs.Layout.{globalsSize, partSize, base, tableOf, tablesOf, globalsIn, Sized, Good}
@@ -17,7 +18,7 @@ use Rattle.symbol_table.specs.declared.Definition.{Definition}
 use Rattle.symbol_table.specs.declared.Definition.the-variants.{Global, Local, GlobalsFull, LocalsFull}
 use Rattle.symbol_table.proofs.Pushing.{globals-length}
 use Rattle.symbol_table.proofs.Adding.{new-names, new-good}
-use Rattle.symbol_table.proofs.Tables.{local-table, local-good, entered-table, entered-good}
+use Rattle.symbol_table.proofs.Tables.{local-table, local-part, entered-table, entered-unmarked}
 use Rattle.symbol_table.proofs.Slices.{take-agree}
 use Rattle.symbol_table.proofs.Levels.{tables-agree, good-agree, base-more}
 
@@ -28,13 +29,13 @@ module _ (r : List ℕ) (name hash : ℕ) where
   definitions tree = refl
 
   pub locals-full : localsLimit ≤ getD r 1 0 → DefinesLocal name hash LocalsFull r r
-  locals-full h = record { defined = λ tree gs ts. rw (definitions tree, le-leb localsLimit (getD r 1 0) h); good = λ tree n g. g }
+  locals-full h = record { defined = λ tree gs ts. rw (definitions tree, le-leb localsLimit (getD r 1 0) h); good = λ ws gs tree n g. g }
 
   pub local-defined : Sized r → getD r 1 0 < localsLimit → name < 32768 → DefinesLocal name hash (Local (getD r 1 0)) r (localIn r name hash)
   local-defined s room below =
       record {
         defined = λ tree gs ts. rw (local-table r name hash s room below tree, definitions tree, lt-leb localsLimit (getD r 1 0) room);
-        good = local-good r name hash s room below;
+        good = local-part r name hash s room below;
       }
 
 -- among the globals
@@ -71,7 +72,9 @@ module _ (a : List ℕ) (level name : ℕ) where
           defined = λ names.
               rw (take-agree globalsSize (base l) a′ a (omega arith) (x .below), tables-agree tree names l a′ a (x .below))
               (x .here .defined tree (globalsIn tree names a) (tablesOf tree l a));
-          good = λ names h. (x .here .good tree n (h .0), good-agree tree names l a a′ (sym (x .below)) (h .1));
+          good = λ names h.
+              let e : take globalsSize a′ ≡ take globalsSize a = take-agree globalsSize (base l) a′ a (omega arith) (x .below) in
+              (rw e (x .here .good (wordsIn names) (globalsIn tree names a) tree n (h .0)), good-agree tree names l a a′ (sym (x .below)) (h .1));
           above = rw base-more (x .above);
         })
 
@@ -81,9 +84,10 @@ module _ (a : List ℕ) (level name : ℕ) where
       record {
         tables = rw (x .here .table, tables-agree tree [] level a′ a (x .below));
         globals = take-agree globalsSize (base level) a′ a (omega arith) (x .below);
-        good = λ names h. (x .here .good, good-agree tree names level a a′ (sym (x .below)) h);
+        good = λ names h.
+            (record { table = x .here .good; marks = record { order = omega (arith, x .here .unmarked); each = λ i l. absurd (omega (arith, x .here .unmarked)) } }, good-agree tree names level a a′ (sym (x .below)) h);
         above = rw base-more (x .above);
       }
 
 pub opened : (tree : Bytes) (r r₁ r₂ : List ℕ) (name hash row n : ℕ) → length r ≡ partSize → name < 32768 → Stands tree name → r₁ ≡ enteredIn r name hash (len tree name) → Params tree row n r₁ r₂ → Opens tree name row n r₂
-opened tree r r₁ r₂ name hash row n size below s e x = record { table = x .table ∙ rw (e, entered-table tree name hash below s r size); good = x .good }
+opened tree r r₁ r₂ name hash row n size below s e x = record { table = x .table ∙ rw (e, entered-table tree name hash below s r size); good = x .good; unmarked = x .marked ∙ rw e (entered-unmarked r name hash (len tree name) size) }

@@ -1,7 +1,8 @@
 -- The table area: what its numbers stand for, and when they stand well.
 -- First the globals: their count; 1,024 names; 1,024 nodes of search trees; for each bucket the heads of two search trees, of the session's globals and of the tree's.
--- Then a part for each open function, the outermost first: 1 where it has a name, its definitions, its free symbols; 512 entries; 255 originals.
-use Prim.Native.Nat.{ℕ, zero, suc, _+_, _-_, _*_, _/_, _%_, _≤_, _<_}
+-- Then a part for each open function, the outermost first: 1 where it has a name, its definitions, its free symbols; 512 entries; 255 originals;
+-- how many of its entries are marked; 1,280 marks in 40 numbers, one for each code of a builtin or a global: the mark is set where a marked entry has its name.
+use Prim.Native.Nat.{ℕ, zero, suc, _+_, _-_, _*_, _/_, _%_, _≤_, _<_, _^_}
 use mathlib.Core.Path.{_≡_}
 use mathlib.Core.List.{List, [], _∷_}
 use mathlib.Core.Option.{Option, none, some}
@@ -9,7 +10,8 @@ use lib.ListN.{length, getD, take, drop}
 use lib.Dec.{ltb, eqb}
 use Rattle.definition.specs.Basic.{Bytes, pick}
 use Rattle.definition.specs.Limit.{globalsLimit, localsLimit, freeLimit}
-use Rattle.definition.specs.SymbolTable.{Symbol, Entry, Table, findGlobal}
+use Rattle.definition.specs.SymbolTable.{Symbol, Entry, Table, findGlobal, Resolved, resolve}
+use Rattle.definition.specs.Decode.{wordsIn}
 use Rattle.field.specs.Layout.{content}
 use Rattle.symbol_table.specs.Name.{Stands, buckets, hashOf}
 use Rattle.symbol_table.specs.Search.{childOf, Way}
@@ -21,15 +23,24 @@ globalsSize = 3073
 abbrev pub headsAt : ℕ
 headsAt = 2049
 
--- the numbers of a function's part; where its entries begin; where its originals begin
+-- the numbers of a function's part; where its entries begin; where its originals begin; how many entries are marked; where its marks begin
 abbrev pub partSize : ℕ
-partSize = 770
+partSize = 811
 
 abbrev pub entriesAt : ℕ
 entriesAt = 3
 
 abbrev pub originalsAt : ℕ
 originalsAt = 515
+
+abbrev pub markedAt : ℕ
+markedAt = 770
+
+abbrev pub marksAt : ℕ
+marksAt = 771
+
+abbrev pub marksCount : ℕ
+marksCount = 1280
 
 -- where the part of the function at a level begins
 abbrev pub base : ℕ → ℕ
@@ -45,6 +56,14 @@ symbolOf c =
     (pick (ltb c 512) (Symbol.local (c - 256))
     (pick (ltb c 768) (Symbol.free (c - 512))
     (pick (ltb c 1024) (Symbol.builtin (c - 768)) (Symbol.global (c - 1024)))))
+
+-- the code of a builtin or a global
+abbrev pub codeOf : Symbol → ℕ
+codeOf (Symbol.builtin k) = 768 + k
+codeOf (Symbol.global k) = 1024 + k
+codeOf (Symbol.local k) = 0
+codeOf (Symbol.free k) = 0
+codeOf Symbol.function = 0
 
 -- an entry of a function's part: the offset of its name, the code of its symbol, and seven bits of its name's hash
 abbrev pub packed : ℕ → ℕ → ℕ → ℕ
@@ -112,6 +131,19 @@ pub record GoodTable (tree : Bytes) (r : List ℕ) : Type 0 where
   pub sized : Sized r
   pub each : (i : ℕ) → i < entries r → GoodEntry tree (getD r (entriesAt + i) 0)
 
+-- the mark of a code is set in a function's part
+abbrev pub IsMarked : List ℕ → ℕ → Type 0
+IsMarked r c = getD r (marksAt + c % marksCount / 32) 0 / 2 ^ (c % marksCount % 32) % 2 ≡ 1
+
+-- the builtins or globals that marked entries have the names of are marked
+pub record Marked (words globals : List Bytes) (tree : Bytes) (r : List ℕ) : Type 0 where
+  pub order : getD r markedAt 0 ≤ entries r
+  pub each : (i : ℕ) → i < getD r markedAt 0 → (s : Symbol) → resolve words globals (content tree (nameIn (getD r (entriesAt + i) 0))) [] ≡ Resolved.found s [] → IsMarked r (codeOf s)
+
+pub record GoodPart (words globals : List Bytes) (tree : Bytes) (r : List ℕ) : Type 0 where
+  pub table : GoodTable tree r
+  pub marks : Marked words globals tree r
+
 -- a global has a whole name
 pub record GlobalStands (tree names : Bytes) (v : ℕ) : Type 0 where
   pub old : v < 65536 → Stands names v
@@ -147,4 +179,4 @@ pub record GoodGlobals (tree names : Bytes) (g : List ℕ) : Type 0 where
 -- the whole area stands well, with so many open functions
 unfoldable pub Good : Bytes → Bytes → ℕ → List ℕ → Type 0
 Good tree names zero a = GoodGlobals tree names (take globalsSize a)
-Good tree names (suc l) a = GoodTable tree (part l a) × Good tree names l a
+Good tree names (suc l) a = GoodPart (wordsIn names) (globalsIn tree names a) tree (part l a) × Good tree names l a

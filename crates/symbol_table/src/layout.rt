@@ -1,5 +1,6 @@
 // The table area. First the globals, 3,073 numbers: their count, 1,024 names, 1,024 nodes, the heads of 1,024 buckets.
-// Then a part for each open function, 770 numbers: 1 where it has a name, its definitions, its free symbols, 512 entries, 255 originals.
+// Then a part for each open function, 811 numbers: 1 where it has a name, its definitions, its free symbols, 512 entries, 255 originals,
+// how many of its entries are marked, and 1,280 marks, 32 to a number: one for each builtin and each global, set where a marked entry has its name.
 use definition::limit;
 use definition::limit::FREE_LIMIT;
 use definition::limit::GLOBALS_LIMIT;
@@ -27,7 +28,13 @@ pub const ENTRIES_AT: usize = 3;
 
 pub const ORIGINALS_AT: usize = ENTRIES_AT + 1 + LOCALS_LIMIT + FREE_LIMIT;
 
-pub const PART_SIZE: usize = ORIGINALS_AT + FREE_LIMIT;
+pub const MARKED_AT: usize = ORIGINALS_AT + FREE_LIMIT;
+
+pub const MARKS_AT: usize = MARKED_AT + 1;
+
+pub const MARK_NUMBERS: usize = 40;
+
+pub const PART_SIZE: usize = MARKS_AT + MARK_NUMBERS;
 
 // The definitions of a session and of a function, and a function's free symbols, as the area counts them.
 pub const GLOBALS: u32 = limit::GLOBALS_LIMIT as u32;
@@ -49,6 +56,12 @@ pub const GLOBAL: u32 = 1024;
 
 // The codes that an entry can have are below this.
 pub const CODES: u32 = 1024;
+
+// A table of so many entries is searched without marks.
+pub const SHORT: usize = 16;
+
+// The marks: that of a code is the code's remainder.
+pub const MARKS: u32 = 1280;
 
 // An entry: the offset of its name, the code of its symbol, and seven bits of its name's hash.
 pub const CODE_UNIT: u32 = TREE_LIMIT as u32;

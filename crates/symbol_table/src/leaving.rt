@@ -10,7 +10,7 @@ ghost use Rattle.definition.specs.Limit.{freeLimit};
 ghost use Rattle.symbol_table.specs.Layout.{partSize, originalsAt, base, part};
 
 // A number of the part of the function at a level.
-fn number_at(table: &[u32], level: usize, i: usize) -> u32
+pub fn number_at(table: &[u32], level: usize, i: usize) -> u32
     requires { ⌜ base level + partSize ≤ length (now table) ⌝ }
     requires { ⌜ i < partSize ⌝ }
     ensures { λ r. ⌜ r ≡ getD (part level (now (table .entry))) i 0 ⌝ }
