@@ -14,9 +14,9 @@ use borrow.Author.Tests.{eqb-true, eqb-false}
 use Rattle.definition.specs.Basic.{Bytes}
 use Rattle.definition.specs.SymbolTable.{Symbol, same, find, Resolved, resolve}
 use Rattle.field.specs.Layout.{content}
-use Rattle.symbol_table.specs.Layout.{partSize, entriesAt, originalsAt, markedAt, marksAt, marksCount, nameIn, symbolOf, codeOf, entryOf, back, entries, tableOf, Sized, GoodTable, IsMarked, Marked, GoodPart}
+use Rattle.symbol_table.specs.Layout.{partSize, entriesAt, originalsAt, markedAt, marksAt, marksCount, nameIn, symbolOf, codeOf, entryOf, back, entries, tableOf, Sized, GoodTable, IsMarked, Marked}
 use Rattle.symbol_table.specs.Store.{markIn}
-use Rattle.symbol_table.specs.Contract.{SameBelow, BeginsMarks, MarksNext, Remarked, Known, Outermost}
+use Rattle.symbol_table.specs.Contract.{SameBelow, BeginsMarks, MarksNext, Known, Outermost}
 use Rattle.symbol_table.proofs.Back.{last-or-before, back-same}
 use Rattle.symbol_table.proofs.Codes.{code-far}
 use Rattle.symbol_table.proofs.Names.{differs}

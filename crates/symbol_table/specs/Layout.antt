@@ -23,7 +23,7 @@ globalsSize = 3073
 abbrev pub headsAt : ℕ
 headsAt = 2049
 
--- the numbers of a function's part; where its entries begin; where its originals begin; how many entries are marked; where its marks begin
+-- the numbers of a function's part; where its entries begin; where its originals begin; how many entries are marked; where its marks begin, and how many they are
 abbrev pub partSize : ℕ
 partSize = 811
 
@@ -131,7 +131,7 @@ pub record GoodTable (tree : Bytes) (r : List ℕ) : Type 0 where
   pub sized : Sized r
   pub each : (i : ℕ) → i < entries r → GoodEntry tree (getD r (entriesAt + i) 0)
 
--- the mark of a code is set in a function's part
+-- the mark of a code is set in a function's part: 32 marks are in a number
 abbrev pub IsMarked : List ℕ → ℕ → Type 0
 IsMarked r c = getD r (marksAt + c % marksCount / 32) 0 / 2 ^ (c % marksCount % 32) % 2 ≡ 1
 
@@ -140,6 +140,7 @@ pub record Marked (words globals : List Bytes) (tree : Bytes) (r : List ℕ) : T
   pub order : getD r markedAt 0 ≤ entries r
   pub each : (i : ℕ) → i < getD r markedAt 0 → (s : Symbol) → resolve words globals (content tree (nameIn (getD r (entriesAt + i) 0))) [] ≡ Resolved.found s [] → IsMarked r (codeOf s)
 
+-- a function's part stands well
 pub record GoodPart (words globals : List Bytes) (tree : Bytes) (r : List ℕ) : Type 0 where
   pub table : GoodTable tree r
   pub marks : Marked words globals tree r

@@ -72,7 +72,7 @@ pub struct Load {
     pub operand: u32,
 }
 
-// The latest entry of a name in the table of the function at a level.
+// The latest entry of a name in the table of the function at a level, which has n entries.
 fn find_at(tree: &[u8], table: &[u32], level: usize, n: usize, name: usize, hash: usize) -> Hit
     requires { ⌜ base level + partSize ≤ length (now table) ⌝ }
     requires { ⌜ GoodTable (now tree) (part level (now table)) ⌝ }
@@ -118,7 +118,7 @@ fn find_outermost(tree: &[u8], names: &[u8], table: &[u32], name: usize, hash: u
     Lookup::Undefined
 }
 
-// The same, where its code may be known: 0 while it was not looked for, 1 where there is none.
+// The same, where the name's code may be known: 0 is a name not yet looked for, 1 one that is not there.
 fn resolve_outermost(
     tree: &[u8],
     names: &[u8],
@@ -142,7 +142,7 @@ fn resolve_outermost(
     find_outermost(tree, names, table, name, hash)
 }
 
-// The code of a name outside all functions, if it is known, or is of use in a table of so many entries.
+// The code of a name outside all functions, if it is known or is of use in a table of n entries.
 fn code_for(
     tree: &[u8],
     names: &[u8],
@@ -169,7 +169,7 @@ fn code_for(
     code_outermost(tree, names, table, name, hash)
 }
 
-// The latest entry of a name in the table of the function at a level, which is passed over where marks show that the name is not there.
+// The same as `find_at`, but the table is passed over where its marks show that the name is not there.
 fn look_at(
     tree: &[u8],
     names: &[u8],

@@ -1,6 +1,7 @@
 // The marks of an open function's part: by them a lookup of a builtin or a global passes the function's table over.
 use super::Lookup;
 use super::enclosed::count;
+use super::enclosed::number_at;
 use super::find_outermost;
 use super::layout::BUILTIN;
 use super::layout::CODE_UNIT;
@@ -12,12 +13,11 @@ use super::layout::MARKS;
 use super::layout::MARKS_AT;
 use super::layout::PART_SIZE;
 use super::layout::SHORT;
-use super::leaving::number_at;
 use super::name::hash_at;
 use super::name::wide32;
 ghost use mathlib.Core.Path.{_≡_};
 ghost use mathlib.Core.Bool.{true, false};
-ghost use Prim.Native.Nat.{ℕ, _+_, _<_, _≤_};
+ghost use Prim.Native.Nat.{_+_, _<_, _≤_};
 ghost use lib.ListN.{length, getD, take};
 ghost use Rattle.definition.specs.Decode.{wordsIn};
 ghost use Rattle.field.specs.Layout.{content};
@@ -134,7 +134,7 @@ pub fn code_outermost(tree: &[u8], names: &[u8], table: &[u32], name: usize, has
     }
 }
 
-// Every entry of the function at a level is marked, those that are not yet.
+// The entries of the function at a level, n of them, are marked, those that are not yet.
 fn mark_entries(tree: &[u8], names: &[u8], table: &mut [u32], level: usize, n: usize)
     requires { ⌜ HasWords (now names) ⌝ }
     requires { ⌜ base level + partSize ≤ length (now table) ⌝ }
@@ -153,7 +153,7 @@ fn mark_entries(tree: &[u8], names: &[u8], table: &mut [u32], level: usize, n: u
     }
 }
 
-// Whether the function at a level has surely no entry of the name of a builtin or a global.
+// Whether the function at a level, with n entries, surely has none of the name of a builtin or a global.
 pub fn is_absent(
     tree: &[u8],
     names: &[u8],

@@ -1,8 +1,8 @@
 -- The loop's invariant: what stands before the marks is as it was.
-use Prim.Native.Nat.{ℕ, _-_, _≤_, _<_}
+use Prim.Native.Nat.{_-_, _≤_}
 use mathlib.Core.Path.{_≡_, refl, _∙_}
 use native.Mathlib.Omega.{arith}
-use lib.ListN.{length, getD, length-set}
+use lib.ListN.{length, length-set}
 use lib.Seq.{getD-set-other}
 use Rattle.symbol_table.specs.Layout.{partSize, marksAt}
 use Rattle.symbol_table.specs.Contract.{SameBelow}
