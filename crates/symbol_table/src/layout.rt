@@ -11,6 +11,9 @@ use definition::limit::TREE_LIMIT;
 // The hashes of names: their bound; their buckets, by the low bits; the bits that are left.
 pub const HASHES: usize = 4294967296;
 
+// What the hash of the bytes before is multiplied by: 37 and a multiple of 1,024, so that the buckets are those of 37 alone.
+pub const FACTOR: usize = 2654440485;
+
 pub const BUCKETS: usize = 1024;
 
 pub const BUCKET_BITS: usize = 10;

@@ -1,4 +1,5 @@
 // Names: a name is known by the offset of its field.
+use super::layout::FACTOR;
 use super::layout::HASHES;
 ghost use mathlib.Core.Path.{_≡_};
 ghost use Prim.Native.Nat.{_<_};
@@ -23,7 +24,7 @@ pub fn hash_name(name: &[u8]) -> usize
     let mut hash: usize = 0;
     let mut i = 0;
     while i < name.len() {
-        hash = (hash * 2654440485 + field::wide(name[i])) % HASHES;
+        hash = (hash * FACTOR + field::wide(name[i])) % HASHES;
         i += 1;
     }
     hash
