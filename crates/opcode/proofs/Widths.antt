@@ -71,15 +71,18 @@ module _ (byte : ℕ → ℕ) (at end : ℕ) where
   pub size-end : end ≤ at → 0 ≡ sizeAt byte at end
   size-end h = rw (none-left h)
 
-  pub size-unknown : {w : ℕ} → w ≡ entry (byte at) → w ≡ noInstruction → 0 ≡ sizeAt byte at end
-  size-unknown e n = rw (unknown (byte at) e n)
+  pub size-unknown : {n : ℕ} → n ≡ byte at → opLast < n → 0 ≡ sizeAt byte at end
+  size-unknown i h = rw (lt-leb (byte at) opLast (omega arith))
 
-  pub size-cut : {w n : ℕ} → w ≡ entry (byte at) → (w ≡ noInstruction → ⊥) → n ≡ w → end - at ≤ n → 0 ≡ sizeAt byte at end
-  size-cut {w} e n i h =
-      let k = known (byte at) e n in
-      rw (k .known, k .is, lt-leb (at + 1 + w) end (omega arith))
+  module _ {n w : ℕ} (i : n ≡ byte at) (h : n ≤ opLast) (e : w ≡ entry (byte at)) where
+    is-known : Known (byte at) w
+    is-known =
+        let k = le-leb (byte at) opLast (omega arith) in
+        let j : width (byte at) ≡ w = sym (rw k at e) in
+        record { known = k; is = j; small = rw (← j) (width-small (byte at)) }
 
-  pub size-whole : {w n : ℕ} → w ≡ entry (byte at) → (w ≡ noInstruction → ⊥) → n ≡ w → n < end - at → 1 + n ≡ sizeAt byte at end
-  size-whole {w} e n i h =
-      let k = known (byte at) e n in
-      rw (k .known, k .is, le-leb (at + 1 + w) end (omega arith), i)
+    pub size-cut : {m : ℕ} → m ≡ w → end - at ≤ m → 0 ≡ sizeAt byte at end
+    size-cut j l = rw (is-known .known, is-known .is, lt-leb (at + 1 + w) end (omega arith))
+
+    pub size-whole : {m : ℕ} → m ≡ w → m < end - at → 1 + m ≡ sizeAt byte at end
+    size-whole j l = rw (is-known .known, is-known .is, le-leb (at + 1 + w) end (omega arith), j)

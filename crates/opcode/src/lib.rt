@@ -69,7 +69,8 @@ pub fn operand_length(op: u8) -> usize
     wide(w)
 }
 
-// The length of the instruction at `at`, if it stands whole before `end`; else 0.
+// The length of the instruction at `at`, if it stands whole before `end`; else 0. A byte that begins no instruction is tested for by itself, so that
+// the next offset of a loop waits for the two bits alone.
 pub fn size_at(code: &[u8], at: usize, end: usize) -> usize
     requires { ⌜ end ≤ length (now code) ⌝ }
     ensures { λ r. ⌜ r ≡ sizeAt (byteAt (now (code .entry))) at end ⌝ }
@@ -77,11 +78,11 @@ pub fn size_at(code: &[u8], at: usize, end: usize) -> usize
     if end <= at {
         return 0;
     }
-    let w = width(code[at]);
-    if w == NO_INSTRUCTION {
+    let op = code[at];
+    if INSTRUCTIONS <= wide(op) {
         return 0;
     }
-    let n = wide(w);
+    let n = wide(width(op));
     if end - at <= n {
         return 0;
     }
