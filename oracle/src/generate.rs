@@ -21,6 +21,8 @@ pub struct Style {
     pub odd_names: usize,
     /// Per mille of the function literals that are no value of a `let` and have a name all the same.
     pub named: usize,
+    /// Per mille of the functions that have so many parameters that a lookup asks for a global or builtin first.
+    pub long: usize,
     pub longest_string: usize,
     pub most_children: usize,
 }
@@ -33,8 +35,9 @@ const MACROS: [usize; 13] = [24, 5, 14, 8, 8, 8, 12, 6, 6, 4, 3, 3, 1];
 
 impl Style {
     fn new(budget: usize, depth: usize, names: usize, weights: [usize; 13]) -> Self {
-        let (undefined, operators, odd_names, named) = (0, 0, 5, 200);
-        Style { budget, depth, names, weights, undefined, operators, odd_names, named, longest_string: 12, most_children: 4 }
+        let (undefined, operators, odd_names, named, long) = (0, 0, 5, 200, 30);
+        let (longest_string, most_children) = (12, 4);
+        Style { budget, depth, names, weights, undefined, operators, odd_names, named, long, longest_string, most_children }
     }
 
     /// One of the styles.
@@ -166,7 +169,10 @@ impl<'a> Grammar<'a> {
         };
         let mut scope = Vec::new();
         scope.extend((!name.is_empty()).then(|| name.clone()));
-        let count = self.random.below(self.style.most_children.min(5));
+        let count = match self.random.often(self.style.long) {
+            true => self.random.between(14, 40),
+            false => self.random.below(self.style.most_children.min(5)),
+        };
         let params: Vec<_> = (0..count).map(|_| self.new_name()).collect();
         scope.extend(params.iter().cloned());
         self.scopes.push(scope);

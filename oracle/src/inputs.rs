@@ -1,4 +1,5 @@
 //! The benchmark's inputs: a tree, and the trees that filled its session before.
+use crate::chosen;
 use crate::node::{self, Body, Node};
 use crate::reference::Words;
 use crate::tree::to_string;
@@ -154,6 +155,37 @@ fn word_lookups() -> Input {
     Input { words: Some(words), ..input(name, before, vec![node::expr_stmt(node::array(uses))]) }
 }
 
+/// A program of functions, each in the one before it, with an array of identifiers in the innermost: first each captured name, then
+/// others in turn, as many as a tree can hold.
+fn full_of_lookups(functions: &[&[Vec<u8>]], captured: &[Vec<u8>], others: &[Vec<u8>]) -> Vec<Node> {
+    let program = |uses: usize| {
+        let others = (0..uses).map(|n| &others[n * 7 % others.len()]);
+        let inner = node::expr_stmt(node::array(captured.iter().chain(others).map(|n| node::identifier(n)).collect()));
+        let nested = |inner, params: &&[Vec<u8>]| node::expr_stmt(node::function(b"", params, vec![inner]));
+        vec![functions.iter().rev().fold(inner, nested)]
+    };
+    let room = 32_768 - node::program(program(0)).bytes().len();
+    program(room / (3 + others[0].len()))
+}
+
+/// Lookups of names that were chosen: globals, below functions that have captured others of the same hash; and of one function's.
+fn chosen_lookups() -> Vec<Input> {
+    let below = |what: &str, names: Vec<Vec<u8>>| {
+        let (captured, globals) = names.split_at(255);
+        let functions = [&[captured][..], &[&[][..]; 15]].concat();
+        let name = format!("1,024 globals and 255 captured names of one {what}, 16 functions open");
+        input(name, vec![defining(globals)], full_of_lookups(&functions, captured, globals))
+    };
+    let names = chosen::of_one_bucket(510);
+    let (captured, own) = names.split_at(255);
+    let locals = full_of_lookups(&[captured, own], captured, own);
+    vec![
+        below("bucket", chosen::of_one_bucket(1279)),
+        below("hash", chosen::of_one_hash(1279)),
+        input("510 names of one bucket in a function".into(), Vec::new(), locals),
+    ]
+}
+
 /// The names of a tree's identifiers, in the order of the bytes.
 pub fn identifiers(tree: &[u8]) -> Vec<String> {
     fn add(node: &Node, names: &mut Vec<String>) {
@@ -190,5 +222,6 @@ pub fn all() -> Vec<Input> {
     list.extend(full_session());
     list.extend(lookups());
     list.push(word_lookups());
+    list.extend(chosen_lookups());
     list
 }

@@ -3,6 +3,7 @@ include!(concat!(env!("OUT_DIR"), "/monkey/lib.rs"));
 
 pub mod cases;
 pub mod check;
+pub mod chosen;
 pub mod damage;
 pub mod draw;
 pub mod edges;

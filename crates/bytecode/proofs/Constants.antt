@@ -1,5 +1,5 @@
 -- The content of a constant, by its tag.
-use Prim.Native.Nat.{ℕ, _+_, _≤_}
+use Prim.Native.Nat.{ℕ, _+_, _*_, _≤_}
 use mathlib.Core.Path.{_≡_, _∙_, ap, sym, refl}
 use mathlib.Core.Bool.{Bool, true, false}
 use mathlib.Core.List.{List}
@@ -8,11 +8,12 @@ use lib.Dec.{eqb}
 use lib.ListN.{length}
 use borrow.Author.Tests.{eq-eqb, ne-eqb, leb-true}
 use Rattle.definition.specs.Tag.{tagIntegerConst, tagStringConst}
-use Rattle.definition.specs.Decode.{Decoded, decoded, malformed, readCode, readFunction, readContent}
+use Rattle.definition.specs.Bytecode.{Code, Const}
+use Rattle.definition.specs.Decode.{Decoded, decoded, malformed, then, readCode, readFunction, readContent}
 use Rattle.bytecode.specs.declared.Form.{Form}
 use Rattle.bytecode.specs.declared.Form.the-variants.{Plain, Chin}
 use Rattle.bytecode.specs.Form.{tagFunctionIn}
-use Rattle.bytecode.specs.declared.Item.the-variants.{Next, Wrong as WrongItem}
+use Rattle.bytecode.specs.declared.Item.the-variants.{Next}
 use Rattle.bytecode.specs.declared.Checked.{Checked}
 use Rattle.bytecode.specs.declared.Checked.the-variants.{Good, Wrong}
 use Rattle.bytecode.specs.Checked.{headOf, isConstant, item, checked}
@@ -68,9 +69,9 @@ module _ (f : Form) (byte : ℕ → ℕ) (in₀ tag len : ℕ) (good : isConstan
     is-function = rw (integer-not, string-not)
 
     -- its code decides
-    module _ {r : Checked} (e : r ≡ checked (readCode byte len (in₀ + 3) (in₀ + len))) where
-      pub function-good : {k n : ℕ} → r ≡ Good k n → item (readContent byte (headOf tag len) in₀) ≡ Next n
-      function-good w = rw (is-function, checked-good (readCode byte len (in₀ + 3) (in₀ + len)) e w .1)
-
-      pub function-wrong : {p : ℕ} → r ≡ Wrong p → item (readContent byte (headOf tag len) in₀) ≡ WrongItem p
-      function-wrong w = rw (is-function, checked-wrong (readCode byte len (in₀ + 3) (in₀ + len)) e w)
+    pub function-item : item (readCode byte len (in₀ + 3) (in₀ + len)) ≡ item (readContent byte (headOf tag len) in₀)
+    function-item = kept (readCode byte len (in₀ + 3) (in₀ + len)) ∙ sym (ap item is-function)
+      where
+        kept : (d : Decoded Code) → item d ≡ item (then d (λ c. decoded (Const.function (byte in₀ * 256 + byte (in₀ + 1)) (byte (in₀ + 2)) c)))
+        kept (decoded c n) = refl
+        kept (malformed p) = refl

@@ -11,13 +11,15 @@ use Rattle.definition.specs.Decode.{Decoded, decoded, malformed, then, ending, 
 use Rattle.bytecode.specs.declared.Form.{Form}
 use Rattle.bytecode.specs.declared.Form.the-variants.{Plain}
 use Rattle.bytecode.specs.Form.{readPoolIn, mainHeadIn, readIn, readForm}
+use Rattle.bytecode.specs.declared.Item.{Item}
+use Rattle.bytecode.specs.declared.Item.the-variants.{Next, Wrong as WrongItem}
 use Rattle.bytecode.specs.declared.Checked.{Checked}
 use Rattle.bytecode.specs.declared.Checked.the-variants.{Good, Wrong}
 use Rattle.bytecode.specs.declared.ImageCheck.{ImageCheck}
 use Rattle.bytecode.specs.declared.ImageCheck.the-variants.{Sound}
-use Rattle.bytecode.specs.Checked.{checked, mainCode, refused, imageAnswer}
+use Rattle.bytecode.specs.Checked.{item, checked, mainCode, refused, imageAnswer}
 use Rattle.bytecode.proofs.Items.{ended}
-use Rattle.bytecode.proofs.Fields.{head-read, mainContent}
+use Rattle.bytecode.proofs.Fields.{item-next, item-wrong, head-read, mainContent}
 use Rattle.bytecode.proofs.Constants.{checked-good, checked-wrong}
 
 -- the plain form is read as the definition reads an image
@@ -68,13 +70,13 @@ module _ (f : Form) (b : Bytes) where
       image-longer q = image-after ∙ rw (e, ne-eqb n (length b) q)
 
   -- the same, from what the checks answered
-  module _ {r : Checked} (e : r ≡ checked (mainCode (byteAt b) f (length b))) where
-    pub main-wrong : {p : ℕ} {x : ImageCheck} → r ≡ Wrong p → x ≡ refused p → x ≡ imageAnswer (readForm f b)
-    main-wrong w q = q ∙ sym (ap imageAnswer (image-main-wrong (checked-wrong (mainCode (byteAt b) f (length b)) e w)))
+  module _ {r : Item} (e : r ≡ item (mainCode (byteAt b) f (length b))) where
+    pub main-wrong : {p : ℕ} {x : ImageCheck} → r ≡ WrongItem p → x ≡ refused p → x ≡ imageAnswer (readForm f b)
+    main-wrong w q = q ∙ sym (ap imageAnswer (image-main-wrong (item-wrong (mainCode (byteAt b) f (length b)) e w)))
 
-    module _ {k at : ℕ} (w : r ≡ Good k at) where
-      main-read : (c : Code) × (mainCode (byteAt b) f (length b) ≡ decoded c at) × (length c ≡ k)
-      main-read = checked-good (mainCode (byteAt b) f (length b)) e w
+    module _ {at : ℕ} (w : r ≡ Next at) where
+      main-read : (c : Code) × (mainCode (byteAt b) f (length b) ≡ decoded c at)
+      main-read = item-next (mainCode (byteAt b) f (length b)) e w
 
       pub main-within : at ≤ length b
       main-within = main-ends (main-read .1)

@@ -1,18 +1,17 @@
 -- The loop that reads code: one instruction a turn.
-use Prim.Native.Nat.{ℕ, _+_, _-_, _≤_, _<_}
-use mathlib.Core.Path.{_≡_, _∙_, sym, ap, refl}
+use Prim.Native.Nat.{ℕ, _+_, _≤_, _<_}
+use mathlib.Core.Path.{_≡_, sym, ap}
 use mathlib.Core.List.{[], _∷_}
 use native.Mathlib.Omega.{arith}
-use lib.ListN.{length}
 use Rattle.definition.specs.Opcode.{instrAt}
 use Rattle.definition.specs.Bytecode.{Code, sizeOf}
 use Rattle.definition.specs.Decode.{decoded, malformed, readInstr, readCode}
 use Rattle.definition.proofs.Instructions.{code-count}
 use Rattle.opcode.specs.Decoding.{sizeAt}
 use Rattle.opcode.proofs.Decoding.{stands, read-next, read-none}
-use Rattle.bytecode.specs.declared.Checked.{Checked}
-use Rattle.bytecode.specs.declared.Checked.the-variants.{Good, Wrong}
-use Rattle.bytecode.specs.Checked.{checked}
+use Rattle.bytecode.specs.declared.Item.{Item}
+use Rattle.bytecode.specs.declared.Item.the-variants.{Next, Wrong}
+use Rattle.bytecode.specs.Checked.{item}
 use Rattle.bytecode.proofs.Items.{Reading, begin, ends, wrong, again}
 
 module _ (byte : ℕ → ℕ) (start end : ℕ) where
@@ -45,38 +44,27 @@ module _ (byte : ℕ → ℕ) (start end : ℕ) where
           }
 
   -- what is answered is what is read, however many instructions are allowed, if they are as many as the bytes
-  abbrev pub Answers : Checked → Type 0
-  Answers r = (len : ℕ) → end ≤ start + len → r ≡ checked (readCode byte len start end)
+  abbrev pub Answers : Item → Type 0
+  Answers r = (len : ℕ) → end ≤ start + len → r ≡ item (readCode byte len start end)
 
-  -- the loop at an offset, after so many instructions
-  pub record CodeLoop (at count : ℕ) : Type 0 where
+  -- the loop at an offset
+  pub record CodeLoop (at : ℕ) : Type 0 where
     pub code : Code
     pub read : CodeRead at code
-    pub counted : length code ≡ count
-    pub order : at ≤ end
-    pub many : start + count ≤ at
 
-  pub code-begins : start ≤ end → CodeLoop start 0
-  code-begins h = record { code = []; read = reads-begin h; counted = refl; order = h; many = omega arith }
+  pub code-begins : start ≤ end → CodeLoop start
+  code-begins h = record { code = []; read = reads-begin h }
 
-  module _ {at count : ℕ} (h : CodeLoop at count) where
-    pub code-ends : end ≤ at → Answers (Good count at)
-    code-ends e len l = ap (λ (n : ℕ). Good n at) (sym (h .counted)) ∙ sym (ap checked (reads-end (h .read) e len l))
+  module _ {at : ℕ} (h : CodeLoop at) where
+    pub code-ends : end ≤ at → Answers (Next at)
+    code-ends e len l = sym (ap item (reads-end (h .read) e len l))
 
     module _ {size : ℕ} (b : at < end) (e : size ≡ sizeAt byte at end) where
       pub code-wrong : size ≡ 0 → Answers (Wrong at)
-      code-wrong z len l = sym (ap checked (reads-wrong (h .read) b e z len l))
+      code-wrong z len l = sym (ap item (reads-wrong (h .read) b e z len l))
 
       pub code-next : (size ≡ 0 → ⊥) → at + size ≤ end
       code-next n = stands byte at end e n .within
 
-      pub code-again : (size ≡ 0 → ⊥) → CodeLoop (at + size) (count + 1)
-      code-again n =
-          let k = stands byte at end e n in
-          record {
-            code = instrAt byte at ∷ h .code;
-            read = reads-again (h .read) b e n;
-            counted = omega (arith, h .counted);
-            order = k .within;
-            many = omega (arith, k .is, h .many);
-          }
+      pub code-again : (size ≡ 0 → ⊥) → CodeLoop (at + size)
+      code-again n = record { code = instrAt byte at ∷ h .code; read = reads-again (h .read) b e n }

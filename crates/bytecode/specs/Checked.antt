@@ -1,16 +1,16 @@
 -- What the checks of code, constants, images and sessions answer, from what the definition reads.
-use Prim.Native.Nat.{ℕ, _+_, _≤_}
+use Prim.Native.Nat.{ℕ, _+_, _-_, _≤_}
 use mathlib.Core.Bool.{Bool, true, false}
 use mathlib.Core.List.{List, []}
 use mathlib.Core.Path.{_≡_}
 use lib.ListN.{length}
-use Rattle.definition.specs.Basic.{Bytes, byteAt, pick}
+use Rattle.definition.specs.Basic.{Bytes, byteAt, pick, both}
 use Rattle.definition.specs.Limit.{constantsLimit}
 use Rattle.definition.specs.Number.{refusal, noSession, badImage}
 use Rattle.definition.specs.Field.{Head, fits, head, nameHead}
 use Rattle.definition.specs.Bytecode.{Code, Const, Image}
 use Rattle.definition.specs.Session.{Words, Session}
-use Rattle.definition.specs.Decode.{Decoded, decoded, malformed, then, items, readHead, poolHead, readCode, readConst, readNameField, readWords, readFront, readSession}
+use Rattle.definition.specs.Decode.{Decoded, decoded, malformed, then, items, allZero, readHead, poolHead, readCode, readConst, readNameField, readWords, readFront, readSession}
 use Rattle.bytecode.specs.Form.{constHeadIn, readConstIn, mainHeadIn}
 use Rattle.bytecode.specs.declared.Form.{Form}
 use Rattle.definition.specs.declared.Answer.{Answer}
@@ -30,6 +30,16 @@ use Rattle.bytecode.specs.declared.Layout.the-variants.{Sound as Laid, B
 pub record Part (b : Bytes) (at end : ℕ) : Type 0 where
   pub order : at ≤ end
   pub within : end ≤ length b
+
+-- four parts are equally long
+pub record Alike (a b c d : Bytes) : Type 0 where
+  pub two : length b ≡ length a
+  pub three : length c ≡ length a
+  pub four : length d ≡ length a
+
+-- and zero throughout
+abbrev pub fourZero : Bytes → Bytes → Bytes → Bytes → Bool
+fourZero a b c d = both (allZero a) (both (allZero b) (both (allZero c) (allZero d)))
 
 -- a head of a tag and a content length
 abbrev pub headOf : ℕ → ℕ → Head
@@ -68,6 +78,10 @@ isRead (decoded x n) = true
 isRead (malformed p) = false
 
 module _ (byte : ℕ → ℕ) where
+  -- code decodes from an offset up to an end
+  abbrev pub isCode : ℕ → ℕ → Bool
+  isCode end at = isRead (readCode byte (end - at) at end)
+
   -- the content of a pool
   abbrev pub constants : ℕ → ℕ → Decoded (List Const)
   constants start end = items (readConst byte) constantsLimit [] start end

@@ -1,17 +1,19 @@
 // Images and sessions on bytes: whether they are sound, and where a session's parts lie.
+mod code;
+mod zero;
+
+use code::check_code;
 use definition::Refusal;
 use definition::limit;
 use definition::number;
 use definition::tag;
 use field::length_at;
 use field::names::distinct_names;
-use opcode::size_by;
-use opcode::table::WIDTHS;
+use zero::all_zero;
 ghost use mathlib.Core.Path.{_≡_};
-ghost use Prim.Native.Nat.{ℕ, _+_, _≤_};
 ghost use lib.ListN.{length};
 ghost use Rattle.definition.specs.Basic.{byteAt};
-ghost use Rattle.definition.specs.Decode.{allZero, readCode, readImage, readNameField, readNameFields, readWords, readHanded};
+ghost use Rattle.definition.specs.Decode.{readImage, readNameField, readNameFields, readWords, readHanded};
 ghost use Rattle.bytecode.specs.Form.{tagMainIn, tagFunctionIn, readConstIn, readPoolIn, readForm};
 ghost use Rattle.bytecode.specs.Checked.{Part, headOf, isConstant, isPool, isMain, isName, headAnswer, item, checked, constantsIn, nameFields, mainCode, refused, imageAnswer, isRead, layoutOf, WordsEnd, LaysOut};
 
@@ -100,25 +102,6 @@ pub fn head_at(bytes: &[u8], at: usize, end: usize) -> FieldHead
     FieldHead::Whole(bytes[at], len)
 }
 
-// Check that code decodes from `start` up to `end`.
-fn check_code(bytes: &[u8], start: usize, end: usize) -> Checked
-    requires { ⌜ Part (now bytes) start end ⌝ }
-    ensures { λ r. ⌜ ((len : ℕ) → end ≤ start + len → r ≡ checked (readCode (byteAt (now (bytes .entry))) len start end)) ⌝ }
-{
-    let widths = WIDTHS;
-    let mut at = start;
-    let mut count = 0;
-    while at < end {
-        let size = size_by(&widths, bytes, at, end);
-        if size == 0 {
-            return Checked::Wrong(at);
-        }
-        at += size;
-        count += 1;
-    }
-    Checked::Good(count, at)
-}
-
 // Whether a head is a constant's.
 pub fn constant_head(form: Form, tag: u8, len: usize) -> bool
     ensures { λ r. ⌜ r ≡ isConstant form (headOf tag len) ⌝ }
@@ -149,10 +132,7 @@ fn check_constant(bytes: &[u8], at: usize, end: usize, form: Form) -> Item
             if tag != function_tag(form) {
                 return Item::Next(at + 3 + len);
             }
-            match check_code(bytes, at + 3 + 3, at + 3 + len) {
-                Checked::Good(_, next) => Item::Next(next),
-                Checked::Wrong(place) => Item::Wrong(place),
-            }
+            check_code(bytes, at + 3 + 3, at + 3 + len)
         }
     }
 }
@@ -216,14 +196,14 @@ pub fn main_head(form: Form, tag: u8, len: usize) -> bool
 }
 
 // Check an image's main code.
-fn check_main(image: &[u8], form: Form) -> Checked
-    ensures { λ r. ⌜ r ≡ checked (mainCode (byteAt (now (image .entry))) form (length (now (image .entry)))) ⌝ }
+fn check_main(image: &[u8], form: Form) -> Item
+    ensures { λ r. ⌜ r ≡ item (mainCode (byteAt (now (image .entry))) form (length (now (image .entry)))) ⌝ }
 {
     match head_at(image, 0, image.len()) {
-        FieldHead::Cut => Checked::Wrong(0),
+        FieldHead::Cut => Item::Wrong(0),
         FieldHead::Whole(tag, len) => {
             if !main_head(form, tag, len) {
-                return Checked::Wrong(0);
+                return Item::Wrong(0);
             }
             check_code(image, 3, 3 + len)
         }
@@ -245,8 +225,8 @@ pub fn check_form(image: &[u8], form: Form) -> ImageCheck
     ensures { λ r. ⌜ r ≡ imageAnswer (readForm form (now (image .entry))) ⌝ }
 {
     match check_main(image, form) {
-        Checked::Wrong(place) => bad_image(place),
-        Checked::Good(_, at) => match check_pool(image, at, image.len(), form) {
+        Item::Wrong(place) => bad_image(place),
+        Item::Next(at) => match check_pool(image, at, image.len(), form) {
             Checked::Wrong(place) => bad_image(place),
             Checked::Good(constants, next) => {
                 if next != image.len() {
@@ -362,19 +342,6 @@ pub fn words_stand(names: &[u8]) -> bool
         Checked::Wrong(_) => false,
         Checked::Good(_, end) => distinct_names(names, 0, end),
     }
-}
-
-// Whether all bytes are zero: no test in the loop, so that it runs at the speed of memory.
-fn all_zero(bytes: &[u8]) -> bool
-    ensures { λ r. ⌜ r ≡ allZero (now (bytes .entry)) ⌝ }
-{
-    let mut any: u8 = 0;
-    let mut i = 0;
-    while i < bytes.len() {
-        any |= bytes[i];
-        i += 1;
-    }
-    any == 0
 }
 
 // Read what is behind a session's words: its names, its pool, and zeros up to the end.

@@ -7,8 +7,7 @@ use bytecode::Form;
 use bytecode::function_tag;
 use field::length_at;
 use field::word;
-use opcode::size_by;
-use opcode::table::WIDTHS;
+use opcode::size_at;
 ghost use mathlib.Core.Path.{_≡_};
 ghost use mathlib.Core.List.{List};
 ghost use Prim.Native.Nat.{_+_, _<_};
@@ -70,10 +69,9 @@ pub fn turn_code(output: &mut [u8], image: &[u8], start: usize, end: usize, from
     requires { ⌜ HasCode (now image) start end ⌝ }
     ensures { λ r. ⌜ ((c : Code) → CodeAt (now (image .entry)) start end c → TurnsCode (jumpOf from) (now (image .entry)) start end c (now (output .entry)) (now (output .exit)) r) ⌝ }
 {
-    let widths = WIDTHS;
     let mut at = start;
     while at < end {
-        let size = size_by(&widths, image, at, end);
+        let size = size_at(image, at, end);
         if size == 0 {
             return Jumps::Fine;
         }

@@ -17,8 +17,7 @@ use definition::number;
 use definition::tag;
 use field::wide;
 use field::word;
-use opcode::size_by;
-use opcode::table::WIDTHS;
+use opcode::size_at;
 ghost use mathlib.Core.Path.{_≡_};
 ghost use mathlib.Core.Bool.{true};
 ghost use Prim.Native.Nat.{ℕ, _+_, _-_, _*_, _≤_};
@@ -54,12 +53,11 @@ fn measure_code(image: &[u8], start: usize, end: usize) -> Measured
     ensures is { λ r. ⌜ ((len : ℕ) → end ≤ start + len → r ≡ codeMeasured (readCode (byteAt (now (image .entry))) len start end)) ⌝ }
     ensures small { λ r. ⌜ textOf r ≤ perByte * (end - start) ⌝ }
 {
-    let widths = WIDTHS;
     let lengths = WORD_LENGTHS;
     let mut at = start;
     let mut text = 0;
     while at < end {
-        let size = size_by(&widths, image, at, end);
+        let size = size_at(image, at, end);
         if size == 0 {
             return Measured::Wrong(at);
         }

@@ -1,24 +1,39 @@
 -- The table's rule at every entry, and what it says of the definition's `width` and `whole`.
-use Prim.Native.Nat.{ℕ, _+_, _-_, _≤_, _<_}
-use mathlib.Core.Path.{_≡_, sym, refl}
+use Prim.Native.Nat.{ℕ, _+_, _-_, _*_, _/_, _%_, _^_, _≤_, _<_}
+use mathlib.Core.Path.{_≡_, _∙_, ap, sym, refl}
+use mathlib.Core.List.{List}
 use mathlib.Core.Bool.{Bool, true, false}
 use native.Mathlib.Omega.{arith}
+use lib.Bits.{bitOr}
 use lib.Dec.{leb, leb→le}
 use lib.ListN.{length, getD, List·getD-eq-default}
 use borrow.Author.Tests.{lt-leb, le-leb, leb-false}
-use Rattle.definition.specs.Basic.{both}
+use Rattle.definition.specs.Basic.{pick, both}
 use Rattle.definition.specs.Opcode.{opLast, widths, width}
-use Rattle.opcode.specs.Table.{entry, noInstruction, IsTable}
+use Rattle.opcode.specs.Table.{entry, noInstruction}
 use Rattle.opcode.specs.Decoding.{sizeAt}
 use Rattle.opcode.proofs.Tables.{tabulate, tabulated, every-at}
 
--- the whole table is its rule: antt computes all 256 entries, and each is right
-pub table : IsTable (tabulate entry 0 256)
-table = record { right = tabulated entry 256 }
+-- what `opcode::width` computes from two numbers: two bits of the first, and all eight of a byte that the second takes past 255
+module _ (p k : ℕ) where
+  abbrev packed : ℕ → ℕ
+  packed o = bitOr (p / 2 ^ (2 * o % 64) % 4) ((o + k) / 256 * noInstruction)
+
+  -- it is the table's rule, if it is at all 256 bytes, as antt computes
+  pub packed-entry : tabulate packed 0 256 ≡ tabulate entry 0 256 → (o : ℕ) {n : ℕ} → o < 256 → n ≡ o → packed n ≡ entry o
+  packed-entry t o h e = ap packed e ∙ sym (tabulated packed 256 o h) ∙ ap (λ (l : List ℕ). getD l o 0) t ∙ tabulated entry 256 o h
 
 -- at most three operand bytes
 pub width-small : (o : ℕ) → width o ≤ 3
 width-small o = leb→le (width o) 3 (every-at (λ w. leb w 3) widths tt tt o)
+
+-- an entry is a byte
+pub entry-small : (o : ℕ) → entry o < 256
+entry-small o = go (leb o opLast)
+  where
+    go : (b : Bool) → pick b (width o) noInstruction < 256
+    go true = omega (arith, width-small o)
+    go false = omega arith
 
 -- a known byte's entry is its width, and no other byte's entry is a width
 pub record Known (o w : ℕ) : Type 0 where
@@ -56,15 +71,18 @@ module _ (byte : ℕ → ℕ) (at end : ℕ) where
   pub size-end : end ≤ at → 0 ≡ sizeAt byte at end
   size-end h = rw (none-left h)
 
-  pub size-unknown : {w : ℕ} → w ≡ entry (byte at) → w ≡ noInstruction → 0 ≡ sizeAt byte at end
-  size-unknown e n = rw (unknown (byte at) e n)
+  pub size-unknown : {n : ℕ} → n ≡ byte at → opLast < n → 0 ≡ sizeAt byte at end
+  size-unknown i h = rw (lt-leb (byte at) opLast (omega arith))
 
-  pub size-cut : {w n : ℕ} → w ≡ entry (byte at) → (w ≡ noInstruction → ⊥) → n ≡ w → end - at ≤ n → 0 ≡ sizeAt byte at end
-  size-cut {w} e n i h =
-      let k = known (byte at) e n in
-      rw (k .known, k .is, lt-leb (at + 1 + w) end (omega arith))
+  module _ {n w : ℕ} (i : n ≡ byte at) (h : n ≤ opLast) (e : w ≡ entry (byte at)) where
+    is-known : Known (byte at) w
+    is-known =
+        let k = le-leb (byte at) opLast (omega arith) in
+        let j : width (byte at) ≡ w = sym (rw k at e) in
+        record { known = k; is = j; small = rw (← j) (width-small (byte at)) }
 
-  pub size-whole : {w n : ℕ} → w ≡ entry (byte at) → (w ≡ noInstruction → ⊥) → n ≡ w → n < end - at → 1 + n ≡ sizeAt byte at end
-  size-whole {w} e n i h =
-      let k = known (byte at) e n in
-      rw (k .known, k .is, le-leb (at + 1 + w) end (omega arith), i)
+    pub size-cut : {m : ℕ} → m ≡ w → end - at ≤ m → 0 ≡ sizeAt byte at end
+    size-cut j l = rw (is-known .known, is-known .is, lt-leb (at + 1 + w) end (omega arith))
+
+    pub size-whole : {m : ℕ} → m ≡ w → m < end - at → 1 + m ≡ sizeAt byte at end
+    size-whole j l = rw (is-known .known, is-known .is, le-leb (at + 1 + w) end (omega arith), j)

@@ -1,9 +1,6 @@
 -- The table of operand lengths: what it says of every first byte.
-use Prim.Native.Nat.{ℕ, _<_}
-use mathlib.Core.List.{List}
-use mathlib.Core.Path.{_≡_}
+use Prim.Native.Nat.{ℕ}
 use lib.Dec.{leb}
-use lib.ListN.{getD}
 use Rattle.definition.specs.Basic.{pick}
 use Rattle.definition.specs.Opcode.{opLast, width}
 
@@ -14,7 +11,3 @@ noInstruction = 255
 -- the entry of a first byte
 abbrev pub entry : ℕ → ℕ
 entry o = pick (leb o opLast) (width o) noInstruction
-
--- a list is the table
-pub record IsTable (l : List ℕ) : Type 0 where
-  pub right : (o : ℕ) → o < 256 → getD l o 0 ≡ entry o

@@ -7,8 +7,11 @@ use definition::Refusal;
 use definition::number;
 use field::wide;
 use field::word;
+use table::INSTRUCTIONS;
 use table::NO_INSTRUCTION;
+use table::PACKED_WIDTHS;
 use table::STARTS;
+use table::UNKNOWN_WIDTH;
 use table::WIDTHS;
 use table::WORDS;
 ghost use mathlib.Core.Path.{_≡_};
@@ -20,7 +23,7 @@ ghost use Rattle.definition.specs.Decode.{readInstr};
 ghost use Rattle.definition.specs.Output.{over};
 ghost use Rattle.definition.specs.Listing.{words};
 ghost use Rattle.definition.specs.Valid.{operandBound, capturesBound};
-ghost use Rattle.opcode.specs.Table.{entry, IsTable};
+ghost use Rattle.opcode.specs.Table.{entry};
 ghost use Rattle.opcode.specs.Decoding.{sizeAt, instruction, instrOf, readBefore, decodeAnswer};
 ghost use Rattle.opcode.specs.Words.{joined, startOf, wordAnswer, wordInto};
 ghost use Rattle.opcode.specs.Encoding.{valid, encodeAnswer, encodeInto, Ready};
@@ -38,20 +41,21 @@ pub enum Decoded {
     Refused(Refusal),
 }
 
-// The entry of a first byte in a table that is lent.
-fn entry_in(widths: &[u8; 256], op: u8) -> u8
-    requires { ⌜ IsTable (now widths) ⌝ }
+// The entry of a first byte in the table. A constant array is copied to the stack where it is read, so `width` stands in where speed matters.
+fn table_entry(op: u8) -> u8
     ensures { λ r. ⌜ r ≡ entry op ⌝ }
 {
-    widths[wide(op)]
+    WIDTHS[wide(op)]
 }
 
-// The operand length of an instruction with this first byte, or `NO_INSTRUCTION`.
+// The operand length of an instruction with this first byte, or `NO_INSTRUCTION`: the table's entry, computed without memory or a branch.
+// `past` is 1 for a byte that begins no instruction, else 0.
 pub fn width(op: u8) -> u8
     ensures { λ r. ⌜ r ≡ entry op ⌝ }
 {
-    let widths = WIDTHS;
-    entry_in(&widths, op)
+    let o = wide(op);
+    let past = (o + (256 - INSTRUCTIONS)) / 256;
+    ((PACKED_WIDTHS >> (2 * o % 64)) % 4 | past * UNKNOWN_WIDTH) as u8
 }
 
 // How many operand bytes follow a first byte; none after a byte that is no instruction's.
@@ -65,29 +69,20 @@ pub fn operand_length(op: u8) -> usize
     wide(w)
 }
 
-// The length of the instruction at `at`, if it stands whole before `end`; else 0.
-fn size_at(code: &[u8], at: usize, end: usize) -> usize
-    requires { ⌜ end ≤ length (now code) ⌝ }
-    ensures { λ r. ⌜ r ≡ sizeAt (byteAt (now (code .entry))) at end ⌝ }
-{
-    let widths = WIDTHS;
-    size_by(&widths, code, at, end)
-}
-
-// The same by a table that is lent, which a loop writes to its stack once.
-pub fn size_by(widths: &[u8; 256], code: &[u8], at: usize, end: usize) -> usize
-    requires { ⌜ IsTable (now widths) ⌝ }
+// The length of the instruction at `at`, if it stands whole before `end`; else 0. A byte that begins no instruction is tested for by itself, so that
+// the next offset of a loop waits for the two bits alone.
+pub fn size_at(code: &[u8], at: usize, end: usize) -> usize
     requires { ⌜ end ≤ length (now code) ⌝ }
     ensures { λ r. ⌜ r ≡ sizeAt (byteAt (now (code .entry))) at end ⌝ }
 {
     if end <= at {
         return 0;
     }
-    let w = entry_in(widths, code[at]);
-    if w == NO_INSTRUCTION {
+    let op = code[at];
+    if INSTRUCTIONS <= wide(op) {
         return 0;
     }
-    let n = wide(w);
+    let n = wide(width(op));
     if end - at <= n {
         return 0;
     }
@@ -205,7 +200,7 @@ fn captures_bound(w: u8) -> usize
 pub fn is_valid(i: Instruction) -> bool
     ensures { λ r. ⌜ r ≡ valid (instrOf i) ⌝ }
 {
-    let w = width(i.op);
+    let w = table_entry(i.op);
     if w == NO_INSTRUCTION {
         return false;
     }

@@ -263,6 +263,15 @@ pub const WIDTHS: [u8; 256] = [
     255,
 ];
 
+// How many bytes begin an instruction: those below this one.
+pub const INSTRUCTIONS: usize = 0x1E;
+
+// The mark of any other byte, as wide as the numbers of `PACKED_WIDTHS`.
+pub const UNKNOWN_WIDTH: usize = NO_INSTRUCTION as usize;
+
+// The table's entries for the bytes that begin an instruction, two bits for each, the first byte's lowest.
+pub const PACKED_WIDTHS: usize = 0x01D504AA28000002;
+
 // The words of the listing, one after the other.
 pub const WORDS: [u8; 193] =
     *b"ConstantAddPopSubMulDivTrueFalseEqualNotEqualGreaterThanMinusBangJumpNotTruthyJumpNullGetGlobalSetGlobalArrayHashIndexCallReturnValueReturnGetLocalSetLocalGetBuiltinClosureGetFreeCurrentClosure";

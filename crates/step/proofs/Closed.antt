@@ -39,7 +39,7 @@ module _ (tree : Bytes) (t : List ℕ) (o s : State) (l : s .level ≡ o .level 
 
   inner-good : (names : Bytes) → Good tree names (s .level) t → GoodTable tree r
   unfolding Good
-  inner-good names g = let h : Good tree names (suc (o .level)) t = rw (l, add-one (o .level)) at g in h .0
+  inner-good names g = let h : Good tree names (suc (o .level)) t = rw (l, add-one (o .level)) at g in h .0 .table
 
   outer-good : (names : Bytes) → Good tree names (s .level) t → Good tree names (o .level) t
   unfolding Good

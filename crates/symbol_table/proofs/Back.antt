@@ -9,10 +9,10 @@ use native.Mathlib.Nat.{eq-or-lt-of-le}
 use native.Mathlib.Omega.{arith}
 use lib.ListN.{length, getD}
 use Rattle.definition.specs.Basic.{Bytes}
-use Rattle.definition.specs.SymbolTable.{same, find, findGlobal}
+use Rattle.definition.specs.SymbolTable.{same, find}
 use Rattle.field.specs.Layout.{content}
 use Rattle.symbol_table.specs.Name.{hashOf}
-use Rattle.symbol_table.specs.Layout.{entriesAt, nameIn, codeIn, tagIn, entryOf, symbolOf, back, GoodEntry, globalName, Latest}
+use Rattle.symbol_table.specs.Layout.{entriesAt, nameIn, codeIn, tagIn, entryOf, symbolOf, back, GoodEntry}
 use Rattle.symbol_table.specs.Contract.{PassedOver}
 use Rattle.symbol_table.proofs.Names.{hash-differs}
 
@@ -95,32 +95,3 @@ passed-more r from tag k h d p =
       others = λ i l m q.
           ⊎-elim (λ (e : k - 1 ≡ i). d (ap (λ j. tagIn (getD r (entriesAt + j) 0)) e ∙ q)) (λ (b : k - 1 < i). p .others i (omega arith) m q) (eq-or-lt-of-le {n = k - 1} {m = i} l);
     }
-
--- the latest of k globals
-module _ (name : ℕ → Bytes) (g : List ℕ) (n : Bytes) where
-  pub global-none : (k : ℕ) → k ≤ 0 → findGlobal n (back name g 1 k) ≡ none
-  unfolding findGlobal
-  global-none k h = rw (back-none name g 1 k h)
-
-  module _ (k : ℕ) (h : 0 < k) where
-    pub global-hit : same n (name (getD g (1 + (k - 1)) 0)) ≡ true → findGlobal n (back name g 1 k) ≡ some (k - 1)
-    unfolding findGlobal
-    global-hit e = rw (back-more name g 1 k h, e, length-back name g 1 (k - 1))
-
-    pub global-miss : same n (name (getD g (1 + (k - 1)) 0)) ≡ false → findGlobal n (back name g 1 k) ≡ findGlobal n (back name g 1 (k - 1))
-    unfolding findGlobal
-    global-miss e = rw (back-more name g 1 k h, e)
-
-  -- those of other hashes are skipped
-  others-skipped : (hash p k : ℕ) → hash ≡ hashOf n → p ≤ k → ((i : ℕ) → p ≤ i → i < k → hashOf (name (getD g (1 + i) 0)) ≡ hash → ⊥) → findGlobal n (back name g 1 k) ≡ findGlobal n (back name g 1 p)
-  unfolding findGlobal back
-  others-skipped hash p zero is l other = let e : p ≡ 0 = omega arith in rw e
-  others-skipped hash p (suc k) is l other =
-      ⊎-elim (λ e. rw e)
-      (λ lt.
-      rw (hash-differs hashOf n (name (getD g (1 + k) 0)) (λ e. other k (omega arith) (omega arith) (sym e ∙ sym is)))
-      (others-skipped hash p k is (omega arith) (λ i a b. other i a (omega arith))))
-      (eq-or-lt-of-le {n = p} {m = suc k} l)
-
-  pub global-skip : (hash p k : ℕ) → hash ≡ hashOf n → Latest name g hash p k → findGlobal n (back name g 1 k) ≡ findGlobal n (back name g 1 p)
-  global-skip hash p k is x = others-skipped hash p k is (x .below) (x .other)

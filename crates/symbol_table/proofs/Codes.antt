@@ -1,10 +1,13 @@
 -- What a code stands for, and what an entry holds.
 use Prim.Native.Nat.{ℕ, _+_, _-_, _%_, _≤_, _<_}
-use mathlib.Core.Path.{_≡_}
+use mathlib.Core.Path.{_≡_, refl}
+use mathlib.Core.Bool.{Bool, true, false}
 use native.Mathlib.Omega.{arith}
-use borrow.Author.Tests.{lt-ltb, le-ltb}
+use lib.Dec.{ltb}
+use borrow.Author.Tests.{lt-ltb, le-ltb, ltb-true, ltb-false}
+use Rattle.definition.specs.Basic.{pick}
 use Rattle.definition.specs.SymbolTable.{Symbol}
-use Rattle.symbol_table.specs.Layout.{symbolOf, packed, nameIn, codeIn, tagIn}
+use Rattle.symbol_table.specs.Layout.{symbolOf, codeOf, packed, nameIn, codeIn, tagIn}
 
 pub symbol-local : (d : ℕ) → d < 256 → symbolOf (256 + d) ≡ Symbol.local d
 unfolding symbolOf
@@ -29,6 +32,25 @@ unfolding symbolOf
 symbol-builtin b h =
     let e : 768 + b - 768 ≡ b = omega arith in
     rw (le-ltb (768 + b) 256 (omega arith), le-ltb (768 + b) 512 (omega arith), le-ltb (768 + b) 768 (omega arith), lt-ltb (768 + b) 1024 (omega arith), e)
+
+-- the code of a builtin or a global; other symbols have none
+module _ (c : ℕ) where
+  pub code-far : 768 ≤ c → codeOf (symbolOf c) ≡ c
+  unfolding symbolOf
+  code-far h = rw (le-ltb c 256 (omega arith), le-ltb c 512 (omega arith), le-ltb c 768 h) (go (ltb c 1024) refl)
+    where
+      go : (t : Bool) → ltb c 1024 ≡ t → codeOf (pick t (Symbol.builtin (c - 768)) (Symbol.global (c - 1024))) ≡ c
+      go true p = omega (arith, ltb-true c 1024 p)
+      go false p = omega (arith, ltb-false c 1024 p)
+
+  pub code-near : c < 768 → codeOf (symbolOf c) ≡ 0
+  unfolding symbolOf
+  code-near h = rw (lt-ltb c 768 h) (go (ltb c 256) (ltb c 512))
+    where
+      go : (t u : Bool) → codeOf (pick t Symbol.function (pick u (Symbol.local (c - 256)) (Symbol.free (c - 512)))) ≡ 0
+      go true u = refl
+      go false true = refl
+      go false false = refl
 
 -- An entry as a number
 

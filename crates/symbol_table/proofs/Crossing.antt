@@ -18,7 +18,7 @@ use Rattle.symbol_table.specs.Contract.{Crosses}
 use Rattle.symbol_table.specs.declared.Lookup.the-variants.{Found, Undefined, Full}
 use Rattle.symbol_table.proofs.Back.{length-back}
 use Rattle.symbol_table.proofs.Codes.{symbol-free}
-use Rattle.symbol_table.proofs.Tables.{free-table, free-good}
+use Rattle.symbol_table.proofs.Tables.{free-table, free-part}
 
 module _ (n : Bytes) (t : Table) (ts : List Table) (x y : ℕ) where
   far : (b : Bool) → cross n t (Resolved.found (pick b (Symbol.builtin x) (Symbol.global y)) ts) ≡ Resolved.found (pick b (Symbol.builtin x) (Symbol.global y)) (t ∷ ts)
@@ -45,17 +45,17 @@ originals tree r = length-back symbolOf r originalsAt (getD r 2 0)
 
 module _ (r : List ℕ) (name hash : ℕ) where
   pub crosses-undefined : Crosses name hash Undefined Undefined r r
-  crosses-undefined = record { resolved = λ tree ts. refl; further = tt; good = λ tree n g. g }
+  crosses-undefined = record { resolved = λ tree ts. refl; further = tt; good = λ ws gs tree n g. g }
 
   pub crosses-full : Crosses name hash Full Full r r
-  crosses-full = record { resolved = λ tree ts. refl; further = tt; good = λ tree n g. g }
+  crosses-full = record { resolved = λ tree ts. refl; further = tt; good = λ ws gs tree n g. g }
 
   pub crosses-far : (c k : ℕ) → 768 ≤ c → Crosses name hash (Found c k) (Found c (k + 1)) r r
-  crosses-far c k h = record { further = refl; resolved = λ tree ts. sym (far-crosses (content tree name) (tableOf tree r) ts c h); good = λ tree n g. g }
+  crosses-far c k h = record { further = refl; resolved = λ tree ts. sym (far-crosses (content tree name) (tableOf tree r) ts c h); good = λ ws gs tree n g. g }
 
   pub crosses-none : (c j : ℕ) → c < 768 → freeLimit ≤ getD r 2 0 → Crosses name hash (Found c j) Full r r
   crosses-none c j k full =
-      record { further = tt; resolved = λ tree ts. sym (near-crosses (content tree name) (tableOf tree r) ts c k ∙ rw (originals tree r, le-leb freeLimit (getD r 2 0) full)); good = λ tree n g. g }
+      record { further = tt; resolved = λ tree ts. sym (near-crosses (content tree name) (tableOf tree r) ts c k ∙ rw (originals tree r, le-leb freeLimit (getD r 2 0) full)); good = λ ws gs tree n g. g }
 
   pub crosses-free : (c j : ℕ) → c < 768 → getD r 2 0 < freeLimit → Sized r → name < 32768 → Crosses name hash (Found c j) (Found (512 + getD r 2 0) (j + 1)) r (freeIn r name hash c)
   crosses-free c j k room s below =
@@ -69,5 +69,5 @@ module _ (r : List ℕ) (name hash : ℕ) where
               lt-leb freeLimit (getD r 2 0) room,
               symbol-free (getD r 2 0) (omega arith),
             );
-        good = free-good r name hash c s room below;
+        good = free-part r name hash c s room below;
       }

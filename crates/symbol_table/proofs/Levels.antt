@@ -48,7 +48,7 @@ module _ (tree names : Bytes) where
   good-agree (suc l) a a′ e g =
       let n : base (suc l) ≡ base l + partSize = omega arith in
       let e′ : take (base l + partSize) a ≡ take (base l + partSize) a′ = rw n at e in
-      (rw (← slice-agree (base l) partSize a a′ e′) (g .0), good-agree l a a′ (take-agree (base l) (base l + partSize) a a′ (omega arith) e′) (g .1))
+      (rw (← slice-agree (base l) partSize a a′ e′, ← take-agree globalsSize (base l + partSize) a a′ (omega arith) e′) (g .0), good-agree l a a′ (take-agree (base l) (base l + partSize) a a′ (omega arith) e′) (g .1))
 
 pub part-length : (l : ℕ) (a : List ℕ) → base l + partSize ≤ length a → length (part l a) ≡ partSize
 part-length l a h = simp (length-take, length-drop) (omega arith)

@@ -10,19 +10,23 @@ use Rattle.definition.specs.Basic.{Bytes}
 use Rattle.definition.specs.SymbolTable.{same}
 use Rattle.definition.proofs.Undefined.{same-equal}
 use Rattle.field.specs.Layout.{len, after, content}
-use Rattle.symbol_table.specs.Name.{buckets, hashFrom}
+use Rattle.symbol_table.specs.Name.{hashBound, hashFrom}
 use Rattle.symbol_table.proofs.Slices.{slice-take}
 
--- names of different hashes are not the same
-pub hash-differs : (f : Bytes → ℕ) (x y : Bytes) → (f x ≡ f y → ⊥) → same x y ≡ false
-hash-differs f x y h = go (same x y) refl
+-- different names are not the same
+pub differs : (x y : Bytes) → (x ≡ y → ⊥) → same x y ≡ false
+differs x y h = go (same x y) refl
   where
     go : (t : Bool) → same x y ≡ t → same x y ≡ false
-    go true p = absurd (h (ap f (same-equal x y p)))
+    go true p = absurd (h (same-equal x y p))
     go false p = p
 
+-- nor are names of different hashes
+pub hash-differs : (f : Bytes → ℕ) (x y : Bytes) → (f x ≡ f y → ⊥) → same x y ≡ false
+hash-differs f x y h = differs x y (λ e. h (ap f e))
+
 module _ (x : Bytes) (h i : ℕ) where
-  pub hash-step : i < length x → hashFrom h (drop i x) ≡ hashFrom ((h * 37 + getD x i 0) % buckets) (drop (i + 1) x)
+  pub hash-step : i < length x → hashFrom h (drop i x) ≡ hashFrom ((h * 2654440485 + getD x i 0) % hashBound) (drop (i + 1) x)
   unfolding hashFrom
   hash-step l = rw (drop-cons x i 0, add-one)
 

@@ -1,6 +1,6 @@
 -- A row of fields: what is left decides.
 use Prim.Native.Nat.{ℕ, zero, suc, _+_, _-_, _≤_, _<_}
-use mathlib.Core.Path.{_≡_}
+use mathlib.Core.Path.{_≡_, _∙_}
 use mathlib.Core.List.{List, [], _∷_}
 use native.Mathlib.Omega.{arith}
 use lib.ListN.{length, getD}
@@ -9,10 +9,10 @@ use Rattle.definition.specs.Limit.{treeLimit, localsLimit}
 use Rattle.definition.specs.SymbolTable.{withParams}
 use Rattle.field.specs.Layout.{after, content}
 use Rattle.symbol_table.specs.Name.{Stands, fields, Row, hashOf}
-use Rattle.symbol_table.specs.Layout.{tableOf, GoodTable}
+use Rattle.symbol_table.specs.Layout.{markedAt, tableOf, GoodTable}
 use Rattle.symbol_table.specs.Store.{localIn}
 use Rattle.symbol_table.specs.Contract.{Params}
-use Rattle.symbol_table.proofs.Tables.{local-table, local-good, local-count}
+use Rattle.symbol_table.proofs.Tables.{local-table, local-good, local-count, local-marked}
 
 module _ (tree : Bytes) where
   pub row-here : (n at : ℕ) → 0 < n → Row tree n at → Stands tree at
@@ -38,6 +38,7 @@ pub record Left (tree : Bytes) (r₀ : List ℕ) (row n : ℕ) (r : List ℕ) (a
   pub stands : Row tree left at
   pub table : withParams (fields tree left at) (tableOf tree r) ≡ withParams (fields tree n row) (tableOf tree r₀)
   pub good : GoodTable tree r
+  pub marked : getD r markedAt 0 ≡ getD r₀ markedAt 0
   pub room : getD r 1 0 + left ≤ localsLimit
 
 module _ (tree : Bytes) (r₀ : List ℕ) (row n : ℕ) (r : List ℕ) (at left : ℕ) (x : Left tree r₀ row n r at left) where
@@ -50,9 +51,10 @@ module _ (tree : Bytes) (r₀ : List ℕ) (row n : ℕ) (r : List ℕ) (at left 
         stands = row-next tree left at h (x .stands);
         table = rw (local-table r at hash (x .good .sized) room below tree) (rw (fields-next tree left at h) at (x .table));
         good = local-good r at hash (x .good .sized) room below tree (record { stands = here; is = is }) (x .good);
+        marked = local-marked r at hash (x .good .sized) room below ∙ x .marked;
         room = omega (arith, local-count r at hash (x .good .sized) room below);
       }
 
   pub left-none : left ≤ 0 → Params tree row n r₀ r
   unfolding fields
-  left-none h = record { table = (rw (fields-none tree left at h) at (x .table)); good = x .good }
+  left-none h = record { table = (rw (fields-none tree left at h) at (x .table)); good = x .good; marked = x .marked }

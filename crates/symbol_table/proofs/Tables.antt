@@ -1,5 +1,5 @@
 -- What a store in a function's part means: the table after it.
-use Prim.Native.Nat.{ℕ, zero, suc, _+_, _*_, _%_, _≤_, _<_, min}
+use Prim.Native.Nat.{ℕ, zero, suc, _+_, _*_, _/_, _%_, _≤_, _<_, min}
 use mathlib.Core.Path.{_≡_, refl, _∙_}
 use mathlib.Core.Logic.{_≢_}
 use mathlib.Core.List.{List, [], _∷_}
@@ -12,11 +12,12 @@ use Rattle.definition.specs.Limit.{localsLimit, freeLimit}
 use Rattle.definition.specs.SymbolTable.{Symbol, Entry, Table, withLocal, withFree, named}
 use Rattle.field.specs.Layout.{len, content}
 use Rattle.symbol_table.specs.Name.{Stands, hashOf}
-use Rattle.symbol_table.specs.Layout.{partSize, entriesAt, originalsAt, symbolOf, packed, nameIn, codeIn, tagIn, entryOf, back, entries, originalsOf, tableOf, Sized, GoodEntry, GoodTable}
+use Rattle.symbol_table.specs.Layout.{partSize, entriesAt, originalsAt, markedAt, marksAt, marksCount, symbolOf, packed, nameIn, codeIn, tagIn, entryOf, back, entries, originalsOf, tableOf, Sized, GoodEntry, GoodTable, GoodPart}
 use Rattle.symbol_table.specs.Store.{enteredIn, localIn, freeIn}
 use Rattle.symbol_table.specs.Contract.{IsName}
 use Rattle.symbol_table.proofs.Back.{last-or-before, back-same, length-back}
 use Rattle.symbol_table.proofs.Codes.{symbol-local, symbol-free, name-in, code-in, tag-in}
+use Rattle.symbol_table.proofs.Marking.{marked-kept}
 
 -- an entry more, the others as they were
 module _ (tree : Bytes) (name code hash : ℕ) (below : name < 32768) (small : code < 1024) where
@@ -80,6 +81,17 @@ module _ (r : List ℕ) (name hash : ℕ) (h : Sized r) (room : getD r 1 0 < loc
         each = entries-good tree name (256 + getD r 1 0) hash below (omega arith) r (localIn r name hash) local-more local-new (λ j a b. local-at j (omega arith) (omega arith)) (good .each) is;
       }
 
+  pub local-marked : getD (localIn r name hash) markedAt 0 ≡ getD r markedAt 0
+  local-marked = local-at markedAt (omega arith) (omega arith)
+
+  pub local-part : (ws gs : List Bytes) (tree : Bytes) → IsName tree name hash → GoodPart ws gs tree r → GoodPart ws gs tree (localIn r name hash)
+  local-part ws gs tree is g =
+      record {
+        table = local-good tree is (g .table);
+        marks = marked-kept ws gs tree r (localIn r name hash) (λ j a b. local-at j (omega arith) (omega arith)) (omega (arith, local-more)) local-marked
+            (λ c p k. rw (local-at (marksAt + c % marksCount / 32) (omega arith) (omega arith)) k) (g .marks);
+      }
+
 module _ (r : List ℕ) (name hash code : ℕ) (h : Sized r) (room : getD r 2 0 < freeLimit) (below : name < 32768) where
   free-at : (j : ℕ) → j ≢ 2 → j ≢ originalsAt + getD r 2 0 → j ≢ entriesAt + entries r → getD (freeIn r name hash code) j 0 ≡ getD r j 0
   unfolding freeIn
@@ -134,13 +146,34 @@ module _ (r : List ℕ) (name hash code : ℕ) (h : Sized r) (room : getD r 2 0 
         each = entries-good tree name (512 + getD r 2 0) hash below (omega arith) r (freeIn r name hash code) free-more free-new (λ j a b. free-at j (omega arith) (omega arith) (omega arith)) (good .each) is;
       }
 
-entered-is : (r : List ℕ) (name hash n : ℕ) → 4 ≤ length r → enteredIn r name hash n ≡ min n 1 ∷ 0 ∷ 0 ∷ packed name 0 hash ∷ drop 4 r
+  pub free-part : (ws gs : List Bytes) (tree : Bytes) → IsName tree name hash → GoodPart ws gs tree r → GoodPart ws gs tree (freeIn r name hash code)
+  free-part ws gs tree is g =
+      record {
+        table = free-good tree is (g .table);
+        marks = marked-kept ws gs tree r (freeIn r name hash code) (λ j a b. free-at j (omega arith) (omega arith) (omega arith)) (omega (arith, free-more)) (free-at markedAt (omega arith) (omega arith) (omega arith))
+            (λ c p k. rw (free-at (marksAt + c % marksCount / 32) (omega arith) (omega arith) (omega arith)) k) (g .marks);
+      }
+
+four-set : (r : List ℕ) (p q s v : ℕ) → 4 ≤ length r → set (set (set (set r 0 p) 1 q) 2 s) entriesAt v ≡ p ∷ q ∷ s ∷ v ∷ drop 4 r
+four-set [] p q s v h = absurd (omega arith)
+four-set (a ∷ []) p q s v h = absurd (omega arith)
+four-set (a ∷ b ∷ []) p q s v h = absurd (omega arith)
+four-set (a ∷ b ∷ c ∷ []) p q s v h = absurd (omega arith)
+four-set (a ∷ b ∷ c ∷ d ∷ t) p q s v h = refl
+
+entered-is : (r : List ℕ) (name hash n : ℕ) → 4 ≤ length r → enteredIn r name hash n ≡ min n 1 ∷ 0 ∷ 0 ∷ packed name 0 hash ∷ drop 4 (set r markedAt 0)
 unfolding enteredIn
-entered-is [] name hash n h = absurd (omega arith)
-entered-is (a ∷ []) name hash n h = absurd (omega arith)
-entered-is (a ∷ b ∷ []) name hash n h = absurd (omega arith)
-entered-is (a ∷ b ∷ c ∷ []) name hash n h = absurd (omega arith)
-entered-is (a ∷ b ∷ c ∷ d ∷ t) name hash n h = refl
+entered-is r name hash n h = four-set (set r markedAt 0) (min n 1) 0 0 (packed name 0 hash) (omega (arith, length-set r markedAt 0))
+
+pub entered-unmarked : (r : List ℕ) (name hash n : ℕ) → length r ≡ partSize → getD (enteredIn r name hash n) markedAt 0 ≡ 0
+unfolding enteredIn
+entered-unmarked r name hash n size =
+    let a : markedAt ≢ entriesAt = omega arith in
+    let b : markedAt ≢ 2 = omega arith in
+    let c : markedAt ≢ 1 = omega arith in
+    let d : markedAt ≢ 0 = omega arith in
+    let e : markedAt < length r = omega arith in
+    rw (getD-set-other, getD-set-other, getD-set-other, getD-set-other, getD-set-same)
 
 module _ (tree : Bytes) (name hash : ℕ) (below : name < 32768) (here : Stands tree name) where
   entered-by : (t : List ℕ) (n : ℕ) → len tree name ≡ n → tableOf tree (min n 1 ∷ 0 ∷ 0 ∷ packed name 0 hash ∷ t) ≡ named (take n (drop (name + 3) tree))
@@ -153,13 +186,13 @@ module _ (tree : Bytes) (name hash : ℕ) (below : name < 32768) (here : Stands 
 
   module _ (r : List ℕ) (size : length r ≡ partSize) where
     pub entered-table : tableOf tree (enteredIn r name hash (len tree name)) ≡ named (content tree name)
-    entered-table = rw (entered-is r name hash (len tree name) (omega arith)) (entered-by (drop 4 r) (len tree name) refl)
+    entered-table = rw (entered-is r name hash (len tree name) (omega arith)) (entered-by (drop 4 (set r markedAt 0)) (len tree name) refl)
 
     pub entered-good : hash ≡ hashOf (content tree name) → GoodTable tree (enteredIn r name hash (len tree name))
     entered-good is =
         rw (entered-is r name hash (len tree name) (omega arith))
         (record {
-          sized = omega (arith, length-drop 4 r);
+          sized = omega (arith, length-drop 4 (set r markedAt 0), length-set r markedAt 0);
           each = λ i l. let z : i ≡ 0 = omega arith in rw z (entry-good tree name 0 hash below (omega arith) (record { stands = here; is = is }));
         })
 

@@ -1,5 +1,6 @@
 -- What the functions promise: equations with the definition's tables, and what stays as it was.
-use Prim.Native.Nat.{ℕ, suc, _+_, _^_, _≤_, _<_}
+use Prim.Native.Nat.{ℕ, suc, _+_, _*_, _%_, _^_, _≤_, _<_}
+use mathlib.Core.Bool.{Bool, true}
 use mathlib.Core.Path.{_≡_}
 use mathlib.Core.List.{List, [], _∷_}
 use mathlib.Core.Option.{Option, none, some}
@@ -7,13 +8,15 @@ use lib.ListN.{length, getD, take, drop}
 use Rattle.definition.specs.Basic.{Bytes, byteAt}
 use Rattle.definition.specs.Number
 use Rattle.definition.specs.Opcode.{instr, opSetGlobal, opSetLocal}
-use Rattle.definition.specs.SymbolTable.{Symbol, Table, findGlobal, findBuiltin, Resolved, cross, resolve, crossed, Defined, place, named, withParams}
+use Rattle.definition.specs.SymbolTable.{Symbol, Table, find, findGlobal, findBuiltin, Resolved, cross, resolve, crossed, Defined, place, named, withParams}
 use Rattle.definition.specs.Session.{Words}
 use Rattle.definition.specs.Limit.{globalsLimit}
 use Rattle.definition.specs.Decode.{decoded, items, readNameField, readWords, readNames}
 use Rattle.field.specs.Layout.{after, content}
-use Rattle.symbol_table.specs.Name.{Stands, fields, hashOf}
-use Rattle.symbol_table.specs.Layout.{globalsSize, partSize, entriesAt, tagIn, base, part, symbolOf, tableOf, tablesOf, globalsOf, globalsIn, GoodTable, GoodGlobals, Good}
+use Rattle.symbol_table.specs.Name.{Stands, fields, buckets, hashOf}
+use Rattle.symbol_table.specs.Search.{Way, Goes}
+use Rattle.symbol_table.specs.Layout.{globalsSize, headsAt, headOf, partSize, entriesAt, tagIn, base, part, symbolOf, tableOf, tablesOf, globalsOf, globalsIn, GoodTable, GoodGlobals, Good, entries, markedAt, marksAt, codeOf, IsMarked, Marked, GoodPart}
+use Rattle.symbol_table.specs.Store.{globalIn}
 use Rattle.symbol_table.specs.declared.Hit.{Hit}
 use Rattle.symbol_table.specs.declared.Hit.the-variants.{At, Nothing}
 use Rattle.symbol_table.specs.declared.Lookup.{Lookup}
@@ -90,11 +93,52 @@ pub record Inside (P : List ℕ → List ℕ → Type 0) (l : ℕ) (a a′ : Lis
   pub below : take (base l) a′ ≡ take (base l) a
   pub above : drop (base l + partSize) a′ ≡ drop (base l + partSize) a
 
+-- the first so many numbers are the same
+abbrev pub SameBelow : ℕ → List ℕ → List ℕ → Type 0
+SameBelow k r r′ = (j : ℕ) → j < k → getD r′ j 0 ≡ getD r j 0
+
+-- marks before the first is set: what they were counts only where entries are marked
+pub record BeginsMarks (r r′ : List ℕ) : Type 0 where
+  pub same : SameBelow marksAt r r′
+  pub kept : (c : ℕ) → 0 < getD r markedAt 0 → IsMarked r c → IsMarked r′ c
+
+-- one entry more is marked, whose name is that of the builtin or the global of a code, if it has one
+pub record MarksNext (code : ℕ) (r r′ : List ℕ) : Type 0 where
+  pub same : SameBelow markedAt r r′
+  pub count : getD r′ markedAt 0 ≡ getD r markedAt 0 + 1
+  pub kept : (c : ℕ) → 0 < getD r markedAt 0 → IsMarked r c → IsMarked r′ c
+  pub new : 768 ≤ code → IsMarked r′ code
+
+-- a function's part with other marks that are right
+pub record Remarked (ws gs : List Bytes) (tree : Bytes) (r r′ : List ℕ) : Type 0 where
+  pub size : length r′ ≡ partSize
+  pub same : SameBelow markedAt r r′
+  pub marks : Marked ws gs tree r′
+
+-- a number that, where it is a code of a builtin or a global, is that of a name
+abbrev pub Known : List Bytes → List Bytes → Bytes → ℕ → Type 0
+Known ws gs n c = 768 ≤ c → resolve ws gs n [] ≡ Resolved.found (symbolOf c) []
+
+-- the code of the builtin or the global of a name, if there is one
+pub record Outermost (ws gs : List Bytes) (n : Bytes) (c : ℕ) : Type 0 where
+  pub known : Known ws gs n c
+  pub whole : (s : Symbol) → resolve ws gs n [] ≡ Resolved.found s [] → (768 ≤ c) × (codeOf s ≡ c)
+
+-- every entry of the function at a level is marked, and nothing else changed
+pub record MarksAll (ws gs : List Bytes) (tree : Bytes) (l : ℕ) (a a′ : List ℕ) : Type 0 where
+  pub remarked : Inside (Remarked ws gs tree) l a a′
+  pub all : getD (part l a′) markedAt 0 ≡ entries (part l a′)
+
+-- whether the function at a level has surely no entry of the name of a code
+pub record Absent (ws gs : List Bytes) (tree : Bytes) (l code : ℕ) (answer : Bool) (a a′ : List ℕ) : Type 0 where
+  pub absent : answer ≡ true → (n : Bytes) → Known ws gs n code → find n (tableOf tree (part l a) .entries) ≡ none
+  pub remarked : Inside (Remarked ws gs tree) l a a′
+
 -- a lookup comes back through a function's part
 pub record Crosses (name hash : ℕ) (outer answer : Lookup) (r r′ : List ℕ) : Type 0 where
   pub resolved : (tree : Bytes) (ts : List Table) → resolvedOf answer (tableOf tree r′ ∷ ts) ≡ cross (content tree name) (tableOf tree r) (resolvedOf outer ts)
   pub further : Further outer answer
-  pub good : (tree : Bytes) → IsName tree name hash → GoodTable tree r → GoodTable tree r′
+  pub good : (ws gs : List Bytes) (tree : Bytes) → IsName tree name hash → GoodPart ws gs tree r → GoodPart ws gs tree r′
 
 -- the bytes before a session's pool begin with words, or have document 01's
 pub record HasWords (names : Bytes) : Type 0 where
@@ -110,15 +154,31 @@ pub record Resolves (builtins : List Bytes) (tree names : Bytes) (level name : �
   pub globals : take globalsSize a′ ≡ take globalsSize a
   pub above : drop (base level) a′ ≡ drop (base level) a
 
+-- a global more can be added, of the session's on side 0 or of the tree's on side 1: its name is at an offset
+pub record Addable (bytes : Bytes) (side : ℕ) (g : List ℕ) (name hash : ℕ) : Type 0 where
+  pub size : length g ≡ globalsSize
+  pub room : getD g 0 0 < globalsLimit
+  pub named : IsName bytes name hash
+  pub within : name < 65536
+  pub found : Option ℕ
+  pub way : Way bytes side g (content bytes name) 0 (headOf g (content bytes name) side) found
+
+-- it is added where the search for its name ends
+pub record Adds (bytes : Bytes) (side name : ℕ) (g g′ : List ℕ) : Type 0 where
+  pub place : ℕ
+  pub number : ℕ
+  pub goes : Goes bytes side g (content bytes name) 0 (headsAt + hashOf (content bytes name) % buckets) side place number
+  pub is : g′ ≡ globalIn g (65536 * side + name) place number
+
 -- a definition among the globals
-pub record DefinesGlobal (name hash : ℕ) (answer : Definition) (g g′ : List ℕ) : Type 0 where
-  pub defined : (tree names : Bytes) → definedOf answer (globalsOf tree names g′) [] ≡ place (content tree name) (globalsOf tree names g) []
-  pub good : (tree names : Bytes) → IsName tree name hash → GoodGlobals tree names g → GoodGlobals tree names g′
+pub record DefinesGlobal (tree : Bytes) (name : ℕ) (answer : Definition) (g g′ : List ℕ) : Type 0 where
+  pub defined : (names : Bytes) → definedOf answer (globalsOf tree names g′) [] ≡ place (content tree name) (globalsOf tree names g) []
+  pub good : (names : Bytes) → GoodGlobals tree names g → GoodGlobals tree names g′
 
 -- a definition in a function's part
 pub record DefinesLocal (name hash : ℕ) (answer : Definition) (r r′ : List ℕ) : Type 0 where
   pub defined : (tree : Bytes) (gs : List Bytes) (ts : List Table) → definedOf answer gs (tableOf tree r′ ∷ ts) ≡ place (content tree name) gs (tableOf tree r ∷ ts)
-  pub good : (tree : Bytes) → IsName tree name hash → GoodTable tree r → GoodTable tree r′
+  pub good : (ws gs : List Bytes) (tree : Bytes) → IsName tree name hash → GoodPart ws gs tree r → GoodPart ws gs tree r′
 
 -- a definition in the innermost of so many open functions, or among the globals
 pub record Defines (tree : Bytes) (level name : ℕ) (answer : Definition) (a a′ : List ℕ) : Type 0 where
@@ -130,11 +190,13 @@ pub record Defines (tree : Bytes) (level name : ℕ) (answer : Definition) (a a�
 pub record Params (tree : Bytes) (row n : ℕ) (r r′ : List ℕ) : Type 0 where
   pub table : tableOf tree r′ ≡ withParams (fields tree n row) (tableOf tree r)
   pub good : GoodTable tree r′
+  pub marked : getD r′ markedAt 0 ≡ getD r markedAt 0
 
--- a function's part as it is opened: its name, then its parameters
+-- a function's part as it is opened: its name, then its parameters, with no entry marked
 pub record Opens (tree : Bytes) (name row n : ℕ) (r′ : List ℕ) : Type 0 where
   pub table : tableOf tree r′ ≡ withParams (fields tree n row) (named (content tree name))
   pub good : GoodTable tree r′
+  pub unmarked : getD r′ markedAt 0 ≡ 0
 
 -- a function is entered
 pub record Enters (tree : Bytes) (level name row n : ℕ) (a a′ : List ℕ) : Type 0 where

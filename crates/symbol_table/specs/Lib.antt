@@ -1,4 +1,5 @@
 pub mod Name
+pub mod Search
 pub mod Layout
 pub mod Store
 pub mod Contract

@@ -20,14 +20,18 @@ module _ (b : Bytes) where
   Row zero at = Unit {0}
   Row (suc n) at = Stands b at × Row n (after b at)
 
--- the number of hashes
+-- hashes are below this
+abbrev pub hashBound : ℕ
+hashBound = 4294967296
+
+-- a name's bucket is its hash modulo this
 abbrev pub buckets : ℕ
 buckets = 1024
 
 -- a name's hash, from that of the bytes before
 unfoldable pub hashFrom : ℕ → Bytes → ℕ
 hashFrom h [] = h
-hashFrom h (b ∷ bs) = hashFrom ((h * 37 + b) % buckets) bs
+hashFrom h (b ∷ bs) = hashFrom ((h * 2654440485 + b) % hashBound) bs
 
 abbrev pub hashOf : Bytes → ℕ
 hashOf n = hashFrom 0 n

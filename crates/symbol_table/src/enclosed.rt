@@ -9,9 +9,12 @@ use super::layout::CODES;
 use super::layout::ENTRIES_AT;
 use super::layout::FREE;
 use super::layout::FUNCTION;
+use super::layout::GLOBALS_SIZE;
 use super::layout::LOCAL;
 use super::layout::LOCALS;
+use super::layout::MARKED_AT;
 use super::layout::ORIGINALS_AT;
+use super::layout::PART_SIZE;
 use super::layout::TAG_UNIT;
 use super::name::hash_at;
 use super::name::name_at;
@@ -24,12 +27,21 @@ ghost use Rattle.definition.specs.Limit.{treeLimit, localsLimit, freeLimit, arg
 ghost use Rattle.definition.specs.SymbolTable.{find};
 ghost use Rattle.field.specs.Layout.{len, content};
 ghost use Rattle.symbol_table.specs.Name.{Stands, Row, hashOf};
-ghost use Rattle.symbol_table.specs.Layout.{partSize, entriesAt, packed, entries, tableOf, Sized, GoodTable};
+ghost use Rattle.symbol_table.specs.Layout.{partSize, entriesAt, base, part, packed, entries, tableOf, Sized, GoodTable};
 ghost use Rattle.symbol_table.specs.Store.{enteredIn, localIn, freeIn};
 ghost use Rattle.symbol_table.specs.Contract.{hitOf, PassedOver, Few, Crosses, DefinesLocal, Params, Opens};
 
+// A number of the part of the function at a level.
+pub fn number_at(table: &[u32], level: usize, i: usize) -> u32
+    requires { ⌜ base level + partSize ≤ length (now table) ⌝ }
+    requires { ⌜ i < partSize ⌝ }
+    ensures { λ r. ⌜ r ≡ getD (part level (now (table .entry))) i 0 ⌝ }
+{
+    table[GLOBALS_SIZE + PART_SIZE * level + i]
+}
+
 // How many entries a function's table has.
-fn count(part: &[u32]) -> usize
+pub fn count(part: &[u32]) -> usize
     requires { ⌜ Sized (now part) ⌝ }
     ensures { λ r. ⌜ r ≡ entries (now (part .entry)) ⌝ }
 {
@@ -52,14 +64,15 @@ fn tagged_below(part: &[u32], from: usize, tag: usize) -> usize
     k
 }
 
-// The latest entry of a name. The entries whose tag is another are passed over in a loop of their own, which looks at no name.
-pub fn find_in(tree: &[u8], part: &[u32], name: &[u8], hash: usize) -> Hit
+// The latest entry of a name, in a table of n entries. Those whose tag is another are passed over in a loop of their own, which looks at no name.
+pub fn find_in(tree: &[u8], part: &[u32], n: usize, name: &[u8], hash: usize) -> Hit
     requires { ⌜ GoodTable (now tree) (now part) ⌝ }
+    requires { ⌜ n ≡ entries (now part) ⌝ }
     requires { ⌜ hash ≡ hashOf (now name) ⌝ }
     ensures { λ r. ⌜ hitOf r ≡ find (now (name .entry)) (tableOf (now (tree .entry)) (now (part .entry)) .entries) ⌝ }
 {
     let tag = hash % 128;
-    let mut k = tagged_below(part, count(part), tag);
+    let mut k = tagged_below(part, n, tag);
     while k > 0 {
         k -= 1;
         let v = part[ENTRIES_AT + k];
@@ -96,6 +109,7 @@ fn enter_in(tree: &[u8], part: &mut [u32], name: usize, hash: usize)
 {
     let own = is_named(field::length_at(tree, name));
     let v = entry(name, FUNCTION, hash);
+    part[MARKED_AT] = 0;
     part[0] = own;
     part[1] = 0;
     part[2] = 0;

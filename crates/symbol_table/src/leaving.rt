@@ -1,22 +1,12 @@
 // What is read of a function's part of the area when the function is left.
-use super::layout::GLOBALS_SIZE;
+use super::enclosed::number_at;
 use super::layout::ORIGINALS_AT;
-use super::layout::PART_SIZE;
 use super::name::wide32;
 ghost use mathlib.Core.Path.{_≡_};
 ghost use Prim.Native.Nat.{_+_, _<_, _≤_};
 ghost use lib.ListN.{length, getD};
 ghost use Rattle.definition.specs.Limit.{freeLimit};
 ghost use Rattle.symbol_table.specs.Layout.{partSize, originalsAt, base, part};
-
-// A number of the part of the function at a level.
-fn number_at(table: &[u32], level: usize, i: usize) -> u32
-    requires { ⌜ base level + partSize ≤ length (now table) ⌝ }
-    requires { ⌜ i < partSize ⌝ }
-    ensures { λ r. ⌜ r ≡ getD (part level (now (table .entry))) i 0 ⌝ }
-{
-    table[GLOBALS_SIZE + PART_SIZE * level + i]
-}
 
 // The definitions of the function at a level.
 pub fn definitions(table: &[u32], level: usize) -> usize

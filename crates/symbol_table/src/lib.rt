@@ -3,6 +3,7 @@ mod enclosed;
 mod globals;
 pub mod layout;
 pub mod leaving;
+mod marks;
 mod name;
 mod words;
 
@@ -20,6 +21,10 @@ use layout::GLOBALS_SIZE;
 use layout::LOCAL;
 use layout::ORIGINALS_AT;
 use layout::PART_SIZE;
+use layout::SHORT;
+use marks::code_outermost;
+use marks::count_at;
+use marks::is_absent;
 use name::hash_at;
 use name::name_at;
 use name::wide32;
@@ -35,9 +40,9 @@ ghost use Rattle.definition.specs.Opcode.{instr, width};
 ghost use Rattle.definition.specs.SymbolTable.{find, loadOf};
 ghost use Rattle.definition.specs.Decode.{wordsIn};
 ghost use Rattle.field.specs.Layout.{after, content};
-ghost use Rattle.symbol_table.specs.Name.{Stands, Row, buckets};
-ghost use Rattle.symbol_table.specs.Layout.{globalsSize, partSize, originalsAt, base, part, symbolOf, tableOf, globalsIn, Sized, GoodTable, GoodGlobals, Good};
-ghost use Rattle.symbol_table.specs.Contract.{hitOf, resolvedOf, outermostOf, IsName, Inside, Few, Crossed, Crosses, Resolves, DefinesLocal, Defines, Enters, HasWords, HasNames, HasItems, StartsFrom, Starts};
+ghost use Rattle.symbol_table.specs.Name.{Stands, Row, hashBound};
+ghost use Rattle.symbol_table.specs.Layout.{globalsSize, partSize, originalsAt, base, part, symbolOf, tableOf, globalsIn, Sized, GoodTable, GoodGlobals, Good, entries, GoodPart};
+ghost use Rattle.symbol_table.specs.Contract.{hitOf, resolvedOf, outermostOf, IsName, Inside, Few, Crossed, Crosses, Resolves, DefinesLocal, Defines, Enters, HasWords, HasNames, HasItems, StartsFrom, Starts, Remarked, Known};
 
 // The code of a symbol that a table has for a name.
 pub enum Hit {
@@ -67,16 +72,17 @@ pub struct Load {
     pub operand: u32,
 }
 
-// The latest entry of a name in the table of the function at a level.
-fn find_at(tree: &[u8], table: &[u32], level: usize, name: usize, hash: usize) -> Hit
+// The latest entry of a name in the table of the function at a level, which has n entries.
+fn find_at(tree: &[u8], table: &[u32], level: usize, n: usize, name: usize, hash: usize) -> Hit
     requires { ⌜ base level + partSize ≤ length (now table) ⌝ }
     requires { ⌜ GoodTable (now tree) (part level (now table)) ⌝ }
+    requires { ⌜ n ≡ entries (part level (now table)) ⌝ }
     requires { ⌜ IsName (now tree) name hash ⌝ }
     ensures { λ r. ⌜ hitOf r ≡ find (content (now (tree .entry)) name) (tableOf (now (tree .entry)) (part level (now (table .entry))) .entries) ⌝ }
 {
     let start = GLOBALS_SIZE + PART_SIZE * level;
     let end = start + PART_SIZE;
-    find_in(tree, &table[start..end], name_at(tree, name), hash)
+    find_in(tree, &table[start..end], n, name_at(tree, name), hash)
 }
 
 // A lookup comes back through the function at a level.
@@ -98,7 +104,7 @@ fn find_outermost(tree: &[u8], names: &[u8], table: &[u32], name: usize, hash: u
     requires { ⌜ globalsSize ≤ length (now table) ⌝ }
     requires { ⌜ GoodGlobals (now tree) (now names) (take globalsSize (now table)) ⌝ }
     requires { ⌜ IsName (now tree) name hash ⌝ }
-    requires { ⌜ hash < buckets ⌝ }
+    requires { ⌜ hash < hashBound ⌝ }
     ensures { λ r. ⌜ resolvedOf r [] ≡ outermostOf (wordsIn (now (names .entry))) (globalsIn (now (tree .entry)) (now (names .entry)) (now (table .entry))) (content (now (tree .entry)) name) ⌝ }
     ensures { λ r. ⌜ Crossed 0 r ⌝ }
 {
@@ -112,6 +118,84 @@ fn find_outermost(tree: &[u8], names: &[u8], table: &[u32], name: usize, hash: u
     Lookup::Undefined
 }
 
+// The same, where the name's code may be known: 0 is a name not yet looked for, 1 one that is not there.
+fn resolve_outermost(
+    tree: &[u8],
+    names: &[u8],
+    table: &[u32],
+    name: usize,
+    hash: usize,
+    known: u32,
+) -> Lookup
+    requires { ⌜ HasWords (now names) ⌝ }
+    requires { ⌜ globalsSize ≤ length (now table) ⌝ }
+    requires { ⌜ GoodGlobals (now tree) (now names) (take globalsSize (now table)) ⌝ }
+    requires { ⌜ IsName (now tree) name hash ⌝ }
+    requires { ⌜ hash < hashBound ⌝ }
+    requires { ⌜ Known (wordsIn (now names)) (globalsIn (now tree) (now names) (now table)) (content (now tree) name) known ⌝ }
+    ensures { λ r. ⌜ resolvedOf r [] ≡ outermostOf (wordsIn (now (names .entry))) (globalsIn (now (tree .entry)) (now (names .entry)) (now (table .entry))) (content (now (tree .entry)) name) ⌝ }
+    ensures { λ r. ⌜ Crossed 0 r ⌝ }
+{
+    if BUILTIN <= known {
+        return Lookup::Found(known, 0);
+    }
+    find_outermost(tree, names, table, name, hash)
+}
+
+// The code of a name outside all functions, if it is known or is of use in a table of n entries.
+fn code_for(
+    tree: &[u8],
+    names: &[u8],
+    table: &[u32],
+    n: usize,
+    name: usize,
+    hash: usize,
+    known: u32,
+) -> u32
+    requires { ⌜ HasWords (now names) ⌝ }
+    requires { ⌜ globalsSize ≤ length (now table) ⌝ }
+    requires { ⌜ GoodGlobals (now tree) (now names) (take globalsSize (now table)) ⌝ }
+    requires { ⌜ IsName (now tree) name hash ⌝ }
+    requires { ⌜ hash < hashBound ⌝ }
+    requires { ⌜ Known (wordsIn (now names)) (globalsIn (now tree) (now names) (now table)) (content (now tree) name) known ⌝ }
+    ensures { λ r. ⌜ Known (wordsIn (now (names .entry))) (globalsIn (now (tree .entry)) (now (names .entry)) (now (table .entry))) (content (now (tree .entry)) name) r ⌝ }
+{
+    if known != 0 {
+        return known;
+    }
+    if n <= SHORT {
+        return known;
+    }
+    code_outermost(tree, names, table, name, hash)
+}
+
+// The same as `find_at`, but the table is passed over where its marks show that the name is not there.
+fn look_at(
+    tree: &[u8],
+    names: &[u8],
+    table: &mut [u32],
+    level: usize,
+    n: usize,
+    name: usize,
+    hash: usize,
+    code: u32,
+) -> Hit
+    requires { ⌜ HasWords (now names) ⌝ }
+    requires { ⌜ base level + partSize ≤ length (now table) ⌝ }
+    requires { ⌜ GoodGlobals (now tree) (now names) (take globalsSize (now table)) ⌝ }
+    requires { ⌜ GoodPart (wordsIn (now names)) (globalsIn (now tree) (now names) (now table)) (now tree) (part level (now table)) ⌝ }
+    requires { ⌜ n ≡ entries (part level (now table)) ⌝ }
+    requires { ⌜ IsName (now tree) name hash ⌝ }
+    requires { ⌜ Known (wordsIn (now names)) (globalsIn (now tree) (now names) (now table)) (content (now tree) name) code ⌝ }
+    ensures { λ r. ⌜ hitOf r ≡ find (content (now (tree .entry)) name) (tableOf (now (tree .entry)) (part level (now (table .entry))) .entries) ⌝ }
+    ensures { λ _. ⌜ Inside (Remarked (wordsIn (now (names .entry))) (globalsIn (now (tree .entry)) (now (names .entry)) (now (table .entry))) (now (tree .entry))) level (now (table .entry)) (now (table .exit)) ⌝ }
+{
+    if is_absent(tree, names, table, level, n, code) {
+        return Hit::Nothing;
+    }
+    find_at(tree, table, level, n, name, hash)
+}
+
 // A name's symbol, seen from inside so many open functions: outward one function at a time, capturing on the way back.
 fn resolve(
     tree: &[u8],
@@ -120,20 +204,24 @@ fn resolve(
     level: usize,
     name: usize,
     hash: usize,
+    known: u32,
 ) -> Lookup
     requires { ⌜ HasWords (now names) ⌝ }
     requires { ⌜ base level ≤ length (now table) ⌝ }
     requires { ⌜ Good (now tree) (now names) level (now table) ⌝ }
     requires { ⌜ IsName (now tree) name hash ⌝ }
     requires { ⌜ name < treeLimit ⌝ }
-    requires { ⌜ hash < buckets ⌝ }
+    requires { ⌜ hash < hashBound ⌝ }
+    requires { ⌜ Known (wordsIn (now names)) (globalsIn (now tree) (now names) (now table)) (content (now tree) name) known ⌝ }
     ensures { λ r. ⌜ Resolves (wordsIn (now (names .entry))) (now (tree .entry)) (now (names .entry)) level name r (now (table .entry)) (now (table .exit)) ⌝ }
 {
     if level == 0 {
-        return find_outermost(tree, names, table, name, hash);
+        return resolve_outermost(tree, names, table, name, hash, known);
     }
     let l = level - 1;
-    if let Hit::At(code) = find_at(tree, table, l, name, hash) {
+    let n = count_at(table, l);
+    let outside = code_for(tree, names, table, n, name, hash, known);
+    if let Hit::At(code) = look_at(tree, names, table, l, n, name, hash, outside) {
         return Lookup::Found(code, 0);
     }
     let outer = resolve(
@@ -143,6 +231,7 @@ fn resolve(
         l,
         name,
         hash,
+        outside,
     );
     cross_at(table, l, name, hash, outer)
 }
@@ -163,7 +252,10 @@ pub fn resolve_name(
     ensures { λ r. ⌜ Resolves (wordsIn (now (names .entry))) (now (tree .entry)) (now (names .entry)) level name r (now (table .entry)) (now (table .exit)) ⌝ }
 {
     let hash = hash_at(tree, name);
-    resolve(tree, names, table, level, name, hash)
+    if level == 0 {
+        return find_outermost(tree, names, table, name, hash);
+    }
+    resolve(tree, names, table, level, name, hash, 0)
 }
 
 // A definition in the table of the function at a level.
@@ -188,7 +280,7 @@ pub fn define(tree: &[u8], table: &mut [u32], level: usize, name: usize) -> Defi
 {
     let hash = hash_at(tree, name);
     if level == 0 {
-        return place_global(&mut table[..GLOBALS_SIZE], name, hash);
+        return place_global(tree, &mut table[..GLOBALS_SIZE], name, hash);
     }
     place_at(table, level - 1, name, hash)
 }

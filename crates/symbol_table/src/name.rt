@@ -1,9 +1,10 @@
 // Names: a name is known by the offset of its field.
-use super::layout::BUCKETS;
+use super::layout::FACTOR;
+use super::layout::HASHES;
 ghost use mathlib.Core.Path.{_≡_};
 ghost use Prim.Native.Nat.{_<_};
 ghost use Rattle.field.specs.Layout.{content};
-ghost use Rattle.symbol_table.specs.Name.{Stands, buckets, hashOf};
+ghost use Rattle.symbol_table.specs.Name.{Stands, hashBound, hashOf};
 
 // The content of the field at an offset.
 pub fn name_at(bytes: &[u8], at: usize) -> &[u8]
@@ -18,12 +19,12 @@ pub fn name_at(bytes: &[u8], at: usize) -> &[u8]
 // A name's hash.
 pub fn hash_name(name: &[u8]) -> usize
     ensures is { λ r. ⌜ r ≡ hashOf (now (name .entry)) ⌝ }
-    ensures small { λ r. ⌜ r < buckets ⌝ }
+    ensures small { λ r. ⌜ r < hashBound ⌝ }
 {
     let mut hash: usize = 0;
     let mut i = 0;
     while i < name.len() {
-        hash = (hash * 37 + field::wide(name[i])) % BUCKETS;
+        hash = (hash * FACTOR + field::wide(name[i])) % HASHES;
         i += 1;
     }
     hash
@@ -33,7 +34,7 @@ pub fn hash_name(name: &[u8]) -> usize
 pub fn hash_at(bytes: &[u8], at: usize) -> usize
     requires { ⌜ Stands (now bytes) at ⌝ }
     ensures is { λ r. ⌜ r ≡ hashOf (content (now (bytes .entry)) at) ⌝ }
-    ensures small { λ r. ⌜ r < buckets ⌝ }
+    ensures small { λ r. ⌜ r < hashBound ⌝ }
 {
     hash_name(name_at(bytes, at))
 }

@@ -12,8 +12,9 @@ use Rattle.definition.specs.Basic.{Bytes, pick}
 use Rattle.definition.specs.Limit.{globalsLimit, freeLimit}
 use Rattle.definition.specs.SymbolTable.{Symbol, Entry, Table, Resolved, same, find, findGlobal, findBuiltin, outermost, withFree, capture, cross, orOuter, resolve}
 use Rattle.definition.specs.Valid.{All}
-use Rattle.symbol_table.specs.Layout.{globalsSize, part, symbolOf, codeIn, entriesAt, entries, entryOf, back, tableOf, tablesOf, globalName, globalsOf, globalsIn, GoodGlobals, Good}
+use Rattle.symbol_table.specs.Layout.{globalsSize, part, symbolOf, codeIn, entriesAt, entries, entryOf, back, tableOf, tablesOf, globalName, globalsOf, globalsIn, Good}
 use Rattle.symbol_table.proofs.Back.{length-back}
+use Rattle.symbol_table.proofs.Resolving.{good-globals}
 
 -- a global's index is within the limit
 pub data Small : Symbol → Type 0 where
@@ -122,14 +123,9 @@ unfolding tablesOf tableOf
 tables-small tree zero t = All.none
 tables-small tree (suc level) t = All.more (entries-small tree (part level t) entriesAt (entries (part level t))) (tables-small tree level t)
 
-good-bottom : (tree names : Bytes) (level : ℕ) (t : List ℕ) → Good tree names level t → GoodGlobals tree names (take globalsSize t)
-unfolding Good
-good-bottom tree names zero t g = g
-good-bottom tree names (suc level) t g = good-bottom tree names level t (g .1)
-
 globals-few : (tree names : Bytes) (level : ℕ) (t : List ℕ) → Good tree names level t → length (globalsIn tree names t) ≤ globalsLimit
 unfolding globalsOf
-globals-few tree names level t g = omega (arith, length-back (globalName tree names) (take globalsSize t) 1 (getD (take globalsSize t) 0 0), good-bottom tree names level t g .count)
+globals-few tree names level t g = omega (arith, length-back (globalName tree names) (take globalsSize t) 1 (getD (take globalsSize t) 0 0), good-globals tree names t level g .count)
 
 -- a lookup in an area that stands well
 pub lookup-small : (ws : List Bytes) (tree names : Bytes) (level : ℕ) (t : List ℕ) (n : Bytes) → Good tree names level t → SmallResolved (resolve ws (globalsIn tree names t) n (tablesOf tree level t))

@@ -14,9 +14,8 @@ use Rattle.definition.specs.declared.Refusal.{Refusal}
 use Rattle.definition.proofs.ReadShape.{judged-seq, judged-met}
 use Rattle.definition.proofs.ReadShape as reading
 use Rattle.definition.proofs.Basic.{both-true}
-use Rattle.tree.specs.Grammar.{goodHead, goodOwn}
+use Rattle.tree.specs.Grammar.{Kind, goodHead, goodOwn}
 use Rattle.tree.specs.Check.{verdict, andThen, badTree, tooDeep, next, goodField}
-use Rattle.tree.specs.declared.grammar.Kind.{Kind}
 use Rattle.tree.specs.declared.Checked.{Checked}
 use Rattle.tree.specs.declared.Checked.the-variants.{Good, Refused}
 

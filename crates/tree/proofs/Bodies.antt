@@ -9,10 +9,8 @@ use Rattle.definition.specs.Basic.{pick}
 use Rattle.definition.specs.Tag.{tagExprStmt, tagReturn, tagIdentifier, tagBoolean, tagHash, tagMacro, tagParams}
 use Rattle.definition.specs.Syntax.{Stmt, Stmts, Else, Expr, Exprs}
 use Rattle.definition.specs.Tree.{Read, exprTag, stmtTag, stmtsOf, exprsOf, namesOf, readName, readOperator, readParams, exprBody, stmtBody}
-use Rattle.tree.specs.Grammar.{isLeaf, childKind, leastOf}
+use Rattle.tree.specs.Grammar.{Kind, Statement, Block, Expression, Name, Params, Operator, Nothing, isLeaf, childKind, leastOf}
 use Rattle.tree.specs.Check.{badTree, checkChildren}
-use Rattle.tree.specs.declared.grammar.Kind.{Kind}
-use Rattle.tree.specs.declared.grammar.Kind.the-variants.{Statement, Block, Expression, Name, Params, Operator, Nothing}
 use Rattle.tree.specs.declared.Checked.{Checked}
 use Rattle.tree.specs.declared.Checked.the-variants.{Good}
 use Rattle.tree.proofs.Agrees.{Agrees, agrees-good}

@@ -9,10 +9,8 @@ use Rattle.definition.specs.Basic.{pick}
 use Rattle.definition.specs.Tag.{tagHash}
 use Rattle.definition.specs.Syntax.{Expr, Exprs}
 use Rattle.definition.specs.Tree.{Read, seq, read, fault, child, last, many, pairOf, pairsOf}
-use Rattle.tree.specs.Grammar.{childKind, leastOf, enoughOf}
+use Rattle.tree.specs.Grammar.{Kind, Expression, Nothing, childKind, leastOf, enoughOf}
 use Rattle.tree.specs.Check.{andThen, badTree, next, ended, checkChildren}
-use Rattle.tree.specs.declared.grammar.Kind.{Kind}
-use Rattle.tree.specs.declared.grammar.Kind.the-variants.{Expression, Nothing}
 use Rattle.tree.specs.declared.Checked.{Checked}
 use Rattle.tree.proofs.Agrees.{Agrees, agrees-good, agrees-fault, agrees-seq, agrees-map, agrees-read, agrees-assoc}
 

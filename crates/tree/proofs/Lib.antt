@@ -6,6 +6,8 @@ pub mod Rows
 pub mod Children
 pub mod Inside
 pub mod Table
+pub mod Turns
+pub mod Numbered
 pub mod Agrees
 pub mod Checking
 pub mod Bodies

@@ -1,29 +1,12 @@
--- Laws of the grammar's tables.
+-- What holds of each of some numbers, by one test or one proof after the other.
 use Prim.Native.Nat.{ℕ, zero, suc, _+_, _≤_, _<_}
 use native.Mathlib.Omega.{arith}
 use mathlib.Core.Bool.{Bool, true, false}
-use mathlib.Core.List.{List, [], _∷_}
-use mathlib.Core.Logic.{inl, inr}
 use mathlib.Core.Path.{_≡_, refl}
 use lib.Dec.{eqb}
-use borrow.Author.Tests.{ne-eqb, eqb-true, eqb-false}
-use types.Run.{OneOf}
-use Rattle.tree.specs.Grammar.{nthOf, oneOf}
-use Rattle.tree.specs.declared.grammar.Kind.{Kind}
-use Rattle.tree.specs.declared.grammar.Kind.the-variants.{Nothing}
-
--- nothing after three
-pub nth-past : (a b c : Kind) (k : ℕ) → 2 < k → Nothing ≡ nthOf k a b c
-nth-past a b c zero h = absurd (omega arith)
-nth-past a b c (suc zero) h = absurd (omega arith)
-nth-past a b c (suc (suc zero)) h = absurd (omega arith)
-nth-past a b c (suc (suc (suc k))) h = refl
-
--- a tag that is none of an arm's
-pub none-of : (us : List ℕ) (t : ℕ) → (OneOf us t → ⊥) → oneOf us t ≡ false
-none-of [] t h = refl
-none-of (u ∷ []) t h = rw (ne-eqb t u h)
-none-of (u ∷ v ∷ us) t h = rw (ne-eqb t u (λ e. h (inl e))) (none-of (v ∷ us) t (λ r. h (inr r)))
+use borrow.Author.Tests.{eqb-true, eqb-false}
+use Rattle.definition.specs.Basic.{both}
+use Rattle.definition.proofs.Basic.{both-left, both-right}
 
 -- what holds of each of n numbers
 abbrev pub Each : (ℕ → Type 0) → ℕ → ℕ → Type 0
@@ -37,3 +20,17 @@ between P low (suc n) t ps l h = by (λ l₁. between P (low + 1) n t (ps .1) l�
     by : (low + 1 ≤ t → P t) → (b : Bool) → eqb t low ≡ b → P t
     by later true e = rw (eqb-true t low e) (ps .0)
     by later false e = let ne = eqb-false t low e in later (omega arith)
+
+-- a test of each number below a bound
+abbrev pub allBelow : ℕ → (ℕ → Bool) → Bool
+allBelow zero f = true
+allBelow (suc n) f = both (f n) (allBelow n f)
+
+-- what it says of one
+pub passes : (n : ℕ) (f : ℕ → Bool) (t : ℕ) → allBelow n f ≡ true → t < n → f t ≡ true
+passes zero f t e h = absurd (omega arith)
+passes (suc n) f t e h = by (λ l. passes n f t (both-right (f n) (allBelow n f) e) l) (eqb t n) refl
+  where
+    by : (t < n → f t ≡ true) → (b : Bool) → eqb t n ≡ b → f t ≡ true
+    by below true q = rw (eqb-true t n q) (both-left (f n) (allBelow n f) e)
+    by below false q = let ne = eqb-false t n q in below (omega arith)

@@ -6,7 +6,7 @@ use mathlib.Core.Option.{none}
 use mathlib.Core.Path.{_≡_, refl, sym, _∙_}
 use lib.ListN.{length}
 use lib.Dec.{leb, eqb}
-use borrow.Author.Tests.{leb-true, le-leb, lt-leb, eq-eqb, eqb-true, eqb-false, ne-eqb}
+use borrow.Author.Tests.{leb-true, le-leb, lt-leb, eq-eqb, eqb-true, eqb-false}
 use Rattle.definition.specs.Basic.{Bytes, byteAt, pick, both}
 use Rattle.definition.specs.Limit.{treeLimit}
 use Rattle.definition.specs.Tag.{tagExprStmt, tagBlock, tagReturn, tagIdentifier, tagBoolean, tagMacro, tagName, tagParams, tagOperator, tagProgram}
@@ -14,19 +14,14 @@ use Rattle.definition.specs.Syntax.{Expr}
 use Rattle.definition.specs.Field.{Head, tagged, fits, bytes, head}
 use Rattle.definition.specs.Tree.{Read, seq, read, fault, literal, plain, met, exprTag, stmtTag, exprLen, stmtsOf, namesOf, headAt, oneByte, readName, readOperator, readParams, exprBody, stmtBody, readStmt, readBlock, readExpr, readProgram, readTree, judged}
 use Rattle.definition.proofs.Basic.{both-true}
-use Rattle.tree.specs.Grammar.{goodHead, goodOwn}
+use Rattle.tree.specs.Grammar.{Kind, Statement, Block, Expression, Name, Params, Operator, Nothing, goodHead, goodOwn}
 use Rattle.tree.specs.Check.{verdict, badTree, next, checkChildren, checkContent, checkInside, checkField, checkAll}
-use Rattle.tree.specs.declared.grammar.Kind.{Kind}
-use Rattle.tree.specs.declared.grammar.Kind.the-variants.{Statement, Block, Expression, Name, Params, Operator, Nothing}
 use Rattle.tree.specs.declared.Checked.{Checked}
 use Rattle.tree.specs.declared.Checked.the-variants.{Good}
 use Rattle.tree.proofs.Agrees.{Agrees, agrees-good, agrees-fault, agrees-within, agrees-read, agrees-verdict, Inside, deep, room, agrees-met, agrees-field}
 use Rattle.tree.proofs.Checking.{Reads}
+use Rattle.tree.proofs.Numbered.{own-other}
 use Rattle.tree.proofs.Bodies.{Readers, whole, params-inside, stmts-inside, stmt-inside, expr-inside}
-
--- no other tag has own bytes that are tested
-own-other : (t first : ℕ) → (t ≡ tagBoolean → ⊥) → (t ≡ tagOperator → ⊥) → goodOwn t first ≡ true
-own-other t first b o = rw (ne-eqb t tagBoolean b, ne-eqb t tagOperator o)
 
 -- what a tree's head must be
 abbrev programHead : ℕ → Head → Bool

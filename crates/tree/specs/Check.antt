@@ -1,5 +1,5 @@
 -- The tree check as the code does it: by the grammar, up to the first refusal, with nothing built.
-use Prim.Native.Nat.{ℕ, zero, suc, _+_, _-_}
+use Prim.Native.Nat.{ℕ, zero, suc, _+_, _-_, _/_, _%_}
 use mathlib.Core.Bool.{Bool}
 use lib.Dec.{eqb}
 use Rattle.definition.specs.Basic.{pick, both}
@@ -7,8 +7,8 @@ use Rattle.definition.specs.Number
 use Rattle.definition.specs.Number.{refusal}
 use Rattle.definition.specs.Field.{fits, head}
 use Rattle.definition.specs.Tree.{Parsed}
-use Rattle.tree.specs.Grammar.{goodHead, goodOwn, isLeaf, childKind, enoughOf}
-use Rattle.tree.specs.declared.grammar.Kind.{Kind}
+use Rattle.tree.specs.Grammar.{Kind, goodHead, goodOwn, isLeaf, childKind, enoughOf}
+use Rattle.tree.specs.Kinds.{goodTag, goodContent}
 use Rattle.tree.specs.declared.Checked.{Checked}
 use Rattle.tree.specs.declared.Checked.the-variants.{Good, Refused}
 
@@ -30,6 +30,10 @@ badTree p = Refused (refusal Number.badTree p)
 abbrev pub tooDeep : ℕ → Checked
 tooDeep p = Refused (refusal Number.tooDeep p)
 
+-- what a number says of a check: 0 that it is good, else twice the place, and 1 more or 2 more
+abbrev pub outcomeOf : ℕ → Checked
+outcomeOf n = pick (eqb n 0) Good (pick (eqb (n % 2) 1) (badTree (n / 2)) (tooDeep (n / 2 - 1)))
+
 -- the content of a field of a tag at `parent` has ended after k children
 abbrev pub ended : ℕ → ℕ → ℕ → Checked
 ended t parent k = pick (enoughOf t k) Good (badTree parent)
@@ -42,6 +46,10 @@ module _ (byte : ℕ → ℕ) where
   -- a whole field of a kind, before `end`: its tag, its length and its own bytes
   abbrev pub goodField : Kind → ℕ → ℕ → Bool
   goodField kind at end = both (fits at end (head byte at)) (both (goodHead kind (head byte at)) (goodOwn (byte at) (byte (at + 3))))
+
+  -- the same of a kind that is a number
+  abbrev pub goodNumbered : ℕ → ℕ → ℕ → Bool
+  goodNumbered kind at end = both (fits at end (head byte at)) (both (goodTag kind (byte at)) (goodContent kind (byte at) (head byte at .len) (byte (at + 3))))
 
   module _ (check : Kind → ℕ → ℕ → Checked) where
     -- the children of the field of a tag at `parent`, from child k on, which stands at `at`; there are no more than `fuel`

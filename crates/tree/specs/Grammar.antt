@@ -7,8 +7,16 @@ use Rattle.definition.specs.Basic.{pick, both}
 use Rattle.definition.specs.Tag.{tagProgram, tagExprStmt, tagBlock, tagLet, tagReturn, tagIdentifier, tagPrefix, tagInfix, tagIf, tagFunction, tagCall, tagInteger, tagBoolean, tagString, tagArray, tagIndex, tagHash, tagMacro, tagName, tagParams, tagOperator}
 use Rattle.definition.specs.Field.{Head, tagged, nameHead}
 use Rattle.definition.specs.Tree.{exprHead, stmtHead, operatorHead}
-use Rattle.tree.specs.declared.grammar.Kind.{Kind}
-use Rattle.tree.specs.declared.grammar.Kind.the-variants.{Statement, Block, Expression, Name, Params, Operator, Nothing}
+
+-- what a field must be: a statement, a block, an expression, a name of at least so many bytes, parameters, an operator; or that none may stand there
+pub data Kind : Type 0 where
+  Statement : Kind
+  Block : Kind
+  Expression : Kind
+  Name : ℕ → Kind
+  Params : Kind
+  Operator : Kind
+  Nothing : Kind
 
 -- one test or the other
 abbrev pub either : Bool → Bool → Bool

@@ -10,19 +10,21 @@ use field::wide;
 
 mod grammar;
 
-use grammar::Kind;
-use grammar::child_kind;
-use grammar::enough;
-use grammar::good_head;
-use grammar::good_own;
+use grammar::child_kinds;
+use grammar::first_kind;
+use grammar::good_content;
+use grammar::good_tag;
 use grammar::is_leaf;
+use grammar::may_end;
+use grammar::turn;
 ghost use mathlib.Core.Path.{_≡_};
 ghost use Prim.Native.Nat.{_+_, _≤_, _<_};
 ghost use lib.ListN.{length};
 ghost use Rattle.definition.specs.Basic.{byteAt};
+ghost use Rattle.definition.specs.Limit.{treeLimit};
 ghost use Rattle.definition.specs.Tree.{readTree};
 ghost use Rattle.tree.specs.Reads.{Some, InRow, Counted};
-ghost use Rattle.tree.specs.Check.{verdict, next, goodField, checkField, checkAll};
+ghost use Rattle.tree.specs.Check.{verdict, badTree, tooDeep, outcomeOf, next, goodNumbered, checkAll};
 
 // What the check of a tree, of a field or of its children comes to.
 pub enum Checked {
@@ -40,13 +42,6 @@ fn refused(number: usize, place: usize) -> Checked
     })
 }
 
-// The byte at an offset, 0 past the end.
-fn byte_at(tree: &[u8], at: usize) -> usize
-    ensures { λ r. ⌜ r ≡ byteAt (now (tree .entry)) at ⌝ }
-{
-    if at < tree.len() { wide(tree[at]) } else { 0 }
-}
-
 // The offset after the field at `at`.
 fn after_at(tree: &[u8], at: usize) -> usize
     requires { ⌜ at + 2 < length (now tree) ⌝ }
@@ -55,59 +50,87 @@ fn after_at(tree: &[u8], at: usize) -> usize
     at + 3 + length_at(tree, at)
 }
 
+// A refusal 3 at a place as a number; 0 stands for none.
+fn bad(at: usize) -> usize
+    requires { ⌜ at ≤ treeLimit ⌝ }
+    ensures { λ r. ⌜ outcomeOf r ≡ badTree at ⌝ }
+{
+    2 * at + 1
+}
+
+// A refusal 4 at a place as a number.
+fn deep(at: usize) -> usize
+    requires { ⌜ at ≤ treeLimit ⌝ }
+    ensures { λ r. ⌜ outcomeOf r ≡ tooDeep at ⌝ }
+{
+    2 * at + 2
+}
+
+// What a number says.
+fn outcome(n: usize) -> Checked
+    ensures { λ r. ⌜ r ≡ outcomeOf n ⌝ }
+{
+    if n == 0 {
+        return Checked::Good;
+    }
+    if n % 2 == 1 {
+        return refused(BAD_TREE, n / 2);
+    }
+    refused(TOO_DEEP, n / 2 - 1)
+}
+
 // Whether a whole field of a kind stands at `at`, before `end`: its tag, its length and its own bytes.
-fn good_field(tree: &[u8], kind: Kind, at: usize, end: usize) -> bool
+fn good_field(tree: &[u8], kind: usize, at: usize, end: usize) -> bool
     requires { ⌜ (at ≤ end) × (end ≤ length (now tree)) ⌝ }
-    ensures { λ r. ⌜ r ≡ goodField (byteAt (now (tree .entry))) kind at end ⌝ }
+    ensures { λ r. ⌜ r ≡ goodNumbered (byteAt (now (tree .entry))) kind at end ⌝ }
 {
     if end < at + 3 {
         return false;
     }
-    let t = byte_at(tree, at);
-    let own = good_head(kind, t, length_at(tree, at)) & good_own(t, byte_at(tree, at + 3));
-    (after_at(tree, at) <= end) & own
+    let len = length_at(tree, at);
+    if end < at + 3 + len {
+        return false;
+    }
+    let t = wide(tree[at]);
+    if !good_tag(kind, t) {
+        return false;
+    }
+    good_content(tree, kind, t, at + 3, len)
 }
 
-// The field of a kind at `at`, with so many levels left: its tag, length and own bytes, then its level, then its children.
-fn check_field(tree: &[u8], kind: Kind, levels: usize, at: usize, end: usize) -> Checked
-    requires { ⌜ (at ≤ end) × (end ≤ length (now tree)) ⌝ }
-    ensures { λ r. ⌜ r ≡ checkField (byteAt (now (tree .entry))) levels kind at end ⌝ }
+// The children of the field at `parent`, whose content goes up to `end`, in order; then whether one is missing. The answer is a refusal's number.
+fn check_children(tree: &[u8], levels: usize, parent: usize, end: usize) -> usize
+    requires { ⌜ (parent + 3 ≤ end) × (end ≤ length (now tree)) × (end ≤ treeLimit) ⌝ }
+    ensures { λ r. ⌜ outcomeOf r ≡ checkAll (byteAt (now (tree .entry))) levels parent end ⌝ }
 {
-    if !good_field(tree, kind, at, end) {
-        return refused(BAD_TREE, at);
-    }
-    if levels == 0 {
-        return refused(TOO_DEEP, at);
-    }
-    if is_leaf(byte_at(tree, at)) {
-        return Checked::Good;
-    }
-    check_children(tree, levels - 1, at, after_at(tree, at))
-}
-
-// The children of the field at `parent`, whose content goes up to `end`, in order; then whether one is missing.
-fn check_children(tree: &[u8], levels: usize, parent: usize, end: usize) -> Checked
-    requires { ⌜ (parent + 3 ≤ end) × (end ≤ length (now tree)) ⌝ }
-    ensures { λ r. ⌜ r ≡ checkAll (byteAt (now (tree .entry))) levels parent end ⌝ }
-{
-    let t = byte_at(tree, parent);
+    let t = wide(tree[parent]);
     let mut at = parent + 3;
-    let mut k = 0;
+    if (at == end) && (t == tag::CALL) {
+        return bad(parent);
+    }
+    let mut kinds = child_kinds(t);
     while at != end {
-        let found = check_field(tree, child_kind(t, k), levels, at, end);
-        match found {
-            Checked::Refused(r) => {
-                return Checked::Refused(r);
-            }
-            Checked::Good => {}
+        if !good_field(tree, first_kind(kinds), at, end) {
+            return bad(at);
         }
-        at = after_at(tree, at);
-        k += 1;
+        if levels == 0 {
+            return deep(at);
+        }
+        let next = after_at(tree, at);
+        if !is_leaf(wide(tree[at])) {
+            let found = check_children(tree, levels - 1, at, next);
+            if found != 0 {
+                return found;
+            }
+        }
+        kinds = turn(kinds);
+        at = next;
     }
-    if !enough(t, k) {
-        return refused(BAD_TREE, parent);
+    if may_end(first_kind(kinds)) {
+        0
+    } else {
+        bad(parent)
     }
-    Checked::Good
 }
 
 // A whole tree: one Program, as long as the tree.
@@ -121,13 +144,13 @@ pub fn check(tree: &[u8]) -> Checked
     if TREE_LIMIT < n {
         return refused(BAD_TREE, 0);
     }
-    if byte_at(tree, 0) != tag::PROGRAM {
+    if wide(tree[0]) != tag::PROGRAM {
         return refused(BAD_TREE, 0);
     }
     if after_at(tree, 0) != n {
         return refused(BAD_TREE, 0);
     }
-    check_children(tree, LEVEL_LIMIT - 1, 0, n)
+    outcome(check_children(tree, LEVEL_LIMIT - 1, 0, n))
 }
 
 // How many fields stand in a row, from an offset up to an end.

@@ -8,6 +8,7 @@ use oracle::compiler::{Compiler, SymbolTable};
 use oracle::inputs::{self, Input};
 use oracle::parser::ast::Program;
 use oracle::port::{self, Answer, CODE_SIZE, SESSION_SIZE, TABLE_SIZE};
+use oracle::random::Random;
 use oracle::reference::{self, Outcome, State};
 use oracle::tree;
 use oracle::vm::bytecode::Bytecode;
@@ -22,6 +23,27 @@ struct Memory {
     output: Vec<u8>,
     code: Vec<u8>,
     table: Vec<u32>,
+}
+
+impl Memory {
+    fn new() -> Memory {
+        Memory {
+            session: vec![0; SESSION_SIZE],
+            output: vec![0; 65_536],
+            code: vec![0; CODE_SIZE],
+            table: vec![0; TABLE_SIZE],
+        }
+    }
+
+    /// The proved compiler on a copy of a session: the whole call.
+    fn call(&mut self, session: &[u8], tree: &[u8]) -> Duration {
+        self.session.copy_from_slice(session);
+        let start = Instant::now();
+        let answer = port::compile(&mut self.session, tree, &mut self.output, &mut self.code, &mut self.table);
+        let time = start.elapsed();
+        assert!(matches!(answer, Answer::Length(_)), "{answer:?}");
+        time
+    }
 }
 
 /// One input on both sides, with the session before it.
@@ -74,12 +96,7 @@ impl Subject {
         }
         let mut session = state.session();
         session.resize(SESSION_SIZE, 0);
-        let memory = Memory {
-            session: session.clone(),
-            output: vec![0; 65_536],
-            code: vec![0; CODE_SIZE],
-            table: vec![0; TABLE_SIZE],
-        };
+        let memory = Memory::new();
         let mut subject = Subject { tree: input.tree.clone(), state, session, memory };
         subject.check(&input.name);
         subject
@@ -100,13 +117,7 @@ impl Subject {
 
     /// The proved compiler: the whole call.
     fn port(&mut self) -> Duration {
-        self.memory.session.copy_from_slice(&self.session);
-        let m = &mut self.memory;
-        let start = Instant::now();
-        let answer = port::compile(&mut m.session, &self.tree, &mut m.output, &mut m.code, &mut m.table);
-        let time = start.elapsed();
-        assert!(matches!(answer, Answer::Length(_)), "{answer:?}");
-        time
+        self.memory.call(&self.session, &self.tree)
     }
 
     /// The Rust: building the tree, and compiling it.
@@ -231,9 +242,67 @@ fn load(seeds: u32) {
     println!("{seeds} trees, {bytes} bytes: {:.0} made a second, {:.0} compiled a second", rate(making), rate(compiling));
 }
 
+/// A field: tag, length, content.
+fn field(tag: u8, content: Vec<u8>) -> Vec<u8> {
+    [&[tag], &(content.len() as u16).to_be_bytes()[..], &content].concat()
+}
+
+/// How many operand bytes an instruction has.
+fn operands(op: u8) -> usize {
+    match op {
+        0x1B => 3,
+        0x00 | 0x0D | 0x0E | 0x10..=0x13 => 2,
+        0x15 | 0x18..=0x1A | 0x1C => 1,
+        _ => 0,
+    }
+}
+
+/// A session of three functions of 9,000 bytes, whose instructions `next` draws.
+fn stored(random: &mut Random, next: fn(&mut Random, usize) -> u8) -> Vec<u8> {
+    let mut pool = Vec::new();
+    for _ in 0..3 {
+        let mut content = vec![0; 3];
+        for number in 0.. {
+            let op = next(random, number);
+            if content.len() + 1 + operands(op) > 9_000 {
+                break;
+            }
+            content.push(op);
+            content.extend(random.bytes(operands(op)));
+        }
+        pool.extend(field(0x62, content));
+    }
+    let mut session = [field(0x40, Vec::new()), field(0x51, pool)].concat();
+    session.resize(SESSION_SIZE, 0);
+    session
+}
+
+/// The empty tree in sessions that hold much code: one again and again, and 48 in turn, which no branch predictor learns by heart.
+fn code() {
+    const EIGHT: [u8; 8] = [0x00, 0x01, 0x10, 0x18, 0x15, 0x1B, 0x06, 0x0D];
+    let rows: [(&str, fn(&mut Random, usize) -> u8); 7] = [
+        ("True and Pop in turn", |_, number| [0x06, 0x02][number % 2]),
+        ("random ones without operands", |random, _| *random.pick(&[0x01, 0x02, 0x03, 0x04, 0x06, 0x08, 0x0F, 0x14])),
+        ("random ones of all 30", |random, _| random.below(30) as u8),
+        ("random ones of eight", |random, _| *random.pick(&EIGHT)),
+        ("the eight in a pattern", |_, number| EIGHT[(number * 5 + number / 8) % 8]),
+        ("True or GetLocal at random", |random, _| *random.pick(&[0x06, 0x18])),
+        ("lengths 1 to 4 at random", |random, _| *random.pick(&[0x06, 0x18, 0x10, 0x1B])),
+    ];
+    println!("| Instructions | One session, µs | 48 in turn, µs |\n|---|---|---|");
+    let mut memory = Memory::new();
+    for (name, next) in rows {
+        let mut random = Random::new(1);
+        let sessions: Vec<_> = (0..48).map(|_| stored(&mut random, next)).collect();
+        let one = median(|| memory.call(&sessions[0], &[0x10, 0, 0]));
+        let mut turn = sessions.iter().cycle();
+        let many = median(|| memory.call(turn.next().expect("a session"), &[0x10, 0, 0]));
+        println!("| {name} | {one:.1} | {many:.1} |");
+    }
+}
+
 /// An image of so many times `part` in main, and so many functions of one Return.
 fn image(part: &[u8], times: usize, functions: usize) -> Vec<u8> {
-    let field = |tag: u8, content: Vec<u8>| [&[tag], &(content.len() as u16).to_be_bytes()[..], &content].concat();
     let pool = field(0x62, vec![0, 0, 0, 0x17]).repeat(functions);
     [field(0x50, part.repeat(times)), field(0x51, pool)].concat()
 }
@@ -297,6 +366,7 @@ fn main() {
         None => table(true),
         Some("load") => load(words.get(1).and_then(|n| n.parse().ok()).unwrap_or(1_000)),
         Some("heights") => heights(),
-        Some(_) => eprintln!("bench [times | heights | load SEEDS | once NUMBER port|rust|floor COUNT]"),
+        Some("code") => code(),
+        Some(_) => eprintln!("bench [times | heights | code | load SEEDS | once NUMBER port|rust|floor COUNT]"),
     }
 }

@@ -9,7 +9,7 @@ use Rattle.definition.specs.Basic.{byteAt}
 use Rattle.definition.specs.Decode.{readContent}
 use Rattle.bytecode.specs.Checked.{item, isConstant}
 use Rattle.bytecode.proofs.Heads.{fitting, after-cut, after-bad, after-good}
-use Rattle.bytecode.proofs.Constants.{plain-constant, function-long, function-good, function-wrong}
+use Rattle.bytecode.proofs.Constants.{plain-constant, function-long, function-item}
 use Rattle.bytecode.proofs.check_constant.Statement.{statement}
 use Rattle.bytecode.proofs.check_constant.Tie as tie
 
@@ -22,8 +22,8 @@ returns c =
     let if1 = c .if1 in
     sym (ap item (after-bad (byteAt (now (start .args .bytes))) (start .args .at) (start .args .end) (isConstant (start .args .form)) (readContent (byteAt (now (start .args .bytes)))) (head-at .ensures) (tag .given .1) (constant-head .ensures) (not-true _ (if1 .taken))))
 
-add-t15 : tie.Need-add-t15
-add-t15 c =
+add-t13 : tie.Need-add-t13
+add-t13 c =
     let start = c .before .before .before .before .before .before .before .before .before in
     let head-at = c .before .before .before .before .before .before .before .head-at in
     let tag = c .before .before .before .before .before .tag in
@@ -71,29 +71,15 @@ returns-3 c =
 
 returns-4 : tie.Need-returns-4
 returns-4 c =
-    let start = c .before .before .before .before .before .before .before .before .before .before .before .before .before in
-    let head-at = c .before .before .before .before .before .before .before .before .before .before .before .head-at in
-    let tag = c .before .before .before .before .before .before .before .before .before .tag in
-    let constant-head = c .before .before .before .before .before .before .before .constant-head in
-    let if1 = c .before .before .before .before .before .before .if1 in
-    let if2 = c .before .before .before .before .if2 in
-    let function = c .before .before .before .before .before .function-tag in
-    let check-code = c .before .before .before .check-code in
-    let next = c .before .next in
-    sym (ap item (after-good (byteAt (now (start .args .bytes))) (start .args .at) (start .args .end) (isConstant (start .args .form)) (readContent (byteAt (now (start .args .bytes)))) (head-at .ensures) (tag .given .1) (constant-head .ensures) (not-false _ (if1 .left))) ∙ function-good (start .args .form) (byteAt (now (start .args .bytes))) (start .args .at + 3) (tag .given .0 .0) (tag .given .0 .1 .0) (sym (constant-head .ensures) ∙ not-false _ (if1 .left)) (if2 .left ∙ function .ensures) (check-code .ensures (tag .given .0 .1 .0) (omega arith)) (next .given .1))
-
-returns-5 : tie.Need-returns-5
-returns-5 c =
-    let start = c .before .before .before .before .before .before .before .before .before .before .before .before .before in
-    let head-at = c .before .before .before .before .before .before .before .before .before .before .before .head-at in
-    let tag = c .before .before .before .before .before .before .before .before .before .tag in
-    let constant-head = c .before .before .before .before .before .before .before .constant-head in
-    let if1 = c .before .before .before .before .before .before .if1 in
-    let if2 = c .before .before .before .before .if2 in
-    let function = c .before .before .before .before .before .function-tag in
-    let check-code = c .before .before .before .check-code in
-    let place = c .before .place in
-    sym (ap item (after-good (byteAt (now (start .args .bytes))) (start .args .at) (start .args .end) (isConstant (start .args .form)) (readContent (byteAt (now (start .args .bytes)))) (head-at .ensures) (tag .given .1) (constant-head .ensures) (not-false _ (if1 .left))) ∙ function-wrong (start .args .form) (byteAt (now (start .args .bytes))) (start .args .at + 3) (tag .given .0 .0) (tag .given .0 .1 .0) (sym (constant-head .ensures) ∙ not-false _ (if1 .left)) (if2 .left ∙ function .ensures) (check-code .ensures (tag .given .0 .1 .0) (omega arith)) (place .given .1))
+    let start = c .before .before .before .before .before .before .before .before .before .before in
+    let head-at = c .before .before .before .before .before .before .before .before .head-at in
+    let tag = c .before .before .before .before .before .before .tag in
+    let constant-head = c .before .before .before .before .constant-head in
+    let if1 = c .before .before .before .if1 in
+    let if2 = c .before .if2 in
+    let function = c .before .before .function-tag in
+    let check-code = c .check-code in
+    check-code .ensures (tag .given .0 .1 .0) (omega arith) ∙ function-item (start .args .form) (byteAt (now (start .args .bytes))) (start .args .at + 3) (tag .given .0 .0) (tag .given .0 .1 .0) (sym (constant-head .ensures) ∙ not-false _ (if1 .left)) (if2 .left ∙ function .ensures) ∙ sym (ap item (after-good (byteAt (now (start .args .bytes))) (start .args .at) (start .args .end) (isConstant (start .args .form)) (readContent (byteAt (now (start .args .bytes)))) (head-at .ensures) (tag .given .1) (constant-head .ensures) (not-false _ (if1 .left))))
 
 pub check-constant-spec : {M : Type 1} → statement M
 check-constant-spec =
@@ -106,15 +92,12 @@ check-constant-spec =
     returns
     (λ c κs. search needs)
     (λ c. search needs)
-    add-t15
+    add-t13
     returns-2
     (λ c. search needs)
     (λ c. search needs)
     (λ c. search needs)
     add-check-code-4
     check-code-requires
-    (λ c. search needs)
-    (λ c. search needs)
     returns-3
-    returns-4
-    returns-5)
+    returns-4)

@@ -16,18 +16,18 @@ slice-aggregate-place-global c = sym (length-take-le globalsSize (c .before .bef
 place-global-requires : tie.Need-place-global-requires
 place-global-requires c κs =
     let p = c .before .before .before .before .before .pre .1 in
-    (good-globals _ _ _ _ (p .0 .1) (c .before .if1 .taken) .size, (p .1 .1, c .before .before .hash-at .ensures .1))
+    ((p .0 .0, good-globals _ _ _ _ (p .0 .1)), (record { stands = p .1 .0; is = c .before .before .hash-at .ensures .0 }, p .1 .1))
 
 returns : tie.Need-returns
 returns c =
     let s = c .before .before .before .before .before .before .before .before in
     defined-global _ _ _ _ _ (record { stands = s .pre .1 .1 .0; is = c .before .before .before .before .before .hash-at .ensures .0 }) _ _ (c .before .before .before .before .if1 .taken)
-    (c .before .before .place-global .kept .0 ∙ length-take-le globalsSize (s .args .table .now) (omega arith)) (c .before .before .place-global .ensures)
+    (c .before .before .place-global .kept .1 .0 ∙ length-take-le globalsSize (s .args .table .now) (omega arith)) (c .before .before .place-global .ensures)
 
 place-at-requires : tie.Need-place-at-requires
 place-at-requires c κs =
     let s = c .before .before .before .before .before in
-    (omega arith, (good-here _ _ _ _ (s .pre .1 .0 .1) (s .args .level - 1) (omega arith) .sized, s .pre .1 .1 .1))
+    (omega arith, (good-here _ _ _ _ (s .pre .1 .0 .1) (s .args .level - 1) (omega arith) .table .sized, s .pre .1 .1 .1))
 
 returns-2 : tie.Need-returns-2
 returns-2 c = defined-local _ _ _ _ _ (record { stands = c .before .before .before .before .before .before .before .before .pre .1 .1 .0; is = c .before .before .before .before .before .hash-at .ensures .0 }) _ _ _ (omega arith) (c .before .before .place-at .ensures)

@@ -9,7 +9,7 @@ use Rattle.symbol_table.proofs.find_at.Tie as tie
 find-in-requires : tie.Need-find-in-requires
 find-in-requires c κs =
     let s = c .before .before .before .before in
-    (rw (width (base (s .args .level))) (s .pre .1 .0), s .pre .1 .1 .is ∙ rw (c .name-at .ensures))
+    (rw (width (base (s .args .level))) (s .pre .1 .0), (rw (width (base (s .args .level))) (s .pre .1 .1 .0), s .pre .1 .1 .1 .is ∙ rw (c .name-at .ensures)))
 
 returns : tie.Need-returns
 returns c = c .find-in .ensures ∙ rw (c .before .name-at .ensures, width (base (c .before .before .before .before .before .args .level)))

@@ -7,7 +7,7 @@ use Rattle.symbol_table.proofs.find_outermost.Statement.{statement}
 use Rattle.symbol_table.proofs.find_outermost.Tie as tie
 
 find-global-requires : tie.Need-find-global-requires
-find-global-requires c κs = let p = c .before .before .before .before .before .pre .1 in (p .1 .0, (p .1 .1 .0 .is ∙ rw (c .before .name-at .ensures), p .1 .1 .1))
+find-global-requires c κs = let p = c .before .before .before .before .before .pre .1 in (p .1 .0, p .1 .1 .0 .is ∙ rw (c .before .name-at .ensures))
 
 returns : tie.Need-returns
 returns c = (rw (← c .before .before .before .before .before .name-at .ensures) (global-first _ _ _ _ (ap hitOf (sym (c .before .code .given .1)) ∙ c .before .before .before .find-global .ensures)), refl)

@@ -13,17 +13,18 @@ returns-2 : tie.Need-returns-2
 returns-2 c = c .refused2 .ensures ∙ program-bad _ (λ _ long _ _. omega arith)
 
 returns-3 : tie.Need-returns-3
-returns-3 c = c .refused3 .ensures ∙ program-bad _ (λ _ _ t _. c .before .if3 .taken (c .before .before .byte-at .ensures ∙ t))
+returns-3 c = c .refused3 .ensures ∙ program-bad _ (λ _ _ t _. c .before .if3 .taken (c .before .before .wide .ensures .0 ∙ t))
 
 returns-4 : tie.Need-returns-4
 returns-4 c = c .refused4 .ensures ∙ program-bad _ (λ _ _ _ n. omega (arith, c .before .before .after-at .ensures))
 
 returns-5 : tie.Need-returns-5
 returns-5 c =
-    c .check-children .ensures
-    ∙ program-good _ (c .before .before .before .before .before .before .if1 .left) (c .before .before .before .before .before .if2 .left)
-    (sym (c .before .before .before .before .byte-at .ensures) ∙ c .before .before .before .if3 .left)
-    (omega (arith, c .before .before .after-at .ensures))
+    c .outcome .ensures
+    ∙ c .before .check-children .ensures
+    ∙ program-good _ (c .before .before .before .before .before .before .before .before .if1 .left) (c .before .before .before .before .before .before .before .if2 .left)
+    (sym (c .before .before .before .before .before .wide .ensures .0) ∙ c .before .before .before .before .if3 .left)
+    (omega (arith, c .before .before .before .after-at .ensures))
 
 pub check-spec : {M : Type 1} → statement M
 check-spec =
@@ -33,6 +34,7 @@ check-spec =
     returns
     (λ c κs. search needs)
     returns-2
+    (λ c. search needs)
     (λ c κs. search needs)
     (λ c κs. search needs)
     returns-3
@@ -40,5 +42,6 @@ check-spec =
     (λ c κs. search needs)
     returns-4
     (λ c. search needs)
+    (λ c κs. search needs)
     (λ c κs. search needs)
     returns-5)

@@ -2,83 +2,82 @@
 use Prim.Native.Nat.{_-_}
 use native.Mathlib.Omega.{arith}
 use denote.Ref.{now}
-use Rattle.opcode.proofs.Widths.{table}
 use Rattle.listing.proofs.TextLengths.{lengths}
 use Rattle.listing.proofs.Measures.{CodeLoop, code-begins, code-ends, code-wrong, code-within, code-instr, code-again}
 use Rattle.listing.proofs.measure.measure_code.Statement.{statement}
 use Rattle.listing.proofs.measure.measure_code.Tie as tie
 
 abbrev Inv-loop : tie.InvT-loop
-Inv-loop image start end widths lengths at₀ text₀ at text = CodeLoop image start end at text
+Inv-loop image start end lengths at₀ text₀ at text = CodeLoop image start end at text
 
 abbrev μ-loop : tie.MeasureT-loop
-μ-loop image start end widths lengths at₀ text₀ at text = end - at
+μ-loop image start end lengths at₀ text₀ at text = end - at
 
 loop-holds : tie.Need-loop-holds Inv-loop μ-loop
 loop-holds c =
     let start = c .before in
     code-begins (now (start .args .image)) (start .args .start) (start .args .end) (start .pre .order)
 
-size-by-requires : tie.Need-size-by-requires Inv-loop μ-loop
-size-by-requires c κs =
-    let start = c .before .before .before .before in
-    (table, start .pre .within)
+size-at-requires : tie.Need-size-at-requires Inv-loop μ-loop
+size-at-requires c κs =
+    let start = c .before .before .before in
+    start .pre .within
 
 returns : tie.Need-returns Inv-loop μ-loop
 returns c =
     let if1 = c .if1 in
-    let size-by = c .before .size-by in
-    let loop-test = c .before .before .before .loop-test in
-    let loop = c .before .before .before .before .loop in
-    let start = c .before .before .before .before .before .before in
-    (code-wrong (now (start .args .image)) (start .args .start) (start .args .end) (loop .inv) (loop-test .taken) (size-by .ensures) (if1 .taken), omega arith)
+    let size-at = c .before .size-at in
+    let loop-test = c .before .before .loop-test in
+    let loop = c .before .before .before .loop in
+    let start = c .before .before .before .before .before in
+    (code-wrong (now (start .args .image)) (start .args .start) (start .args .end) (loop .inv) (loop-test .taken) (size-at .ensures) (if1 .taken), omega arith)
 
 sub-line-length : tie.Need-sub-line-length Inv-loop μ-loop
 sub-line-length c =
-    let loop = c .before .before .before .before .before .loop in
+    let loop = c .before .before .before .before .loop in
     omega (arith, loop .inv .from)
 
 line-length-requires : tie.Need-line-length-requires Inv-loop μ-loop
 line-length-requires c κs =
     let if1 = c .before .if1 in
-    let size-by = c .before .before .size-by in
-    let loop-test = c .before .before .before .before .loop-test in
-    let loop = c .before .before .before .before .before .loop in
-    let start = c .before .before .before .before .before .before .before in
-    (lengths, code-instr (now (start .args .image)) (start .args .start) (start .args .end) (loop .inv) (loop-test .taken) (size-by .ensures) (if1 .left) (start .pre .within))
+    let size-at = c .before .before .size-at in
+    let loop-test = c .before .before .before .loop-test in
+    let loop = c .before .before .before .before .loop in
+    let start = c .before .before .before .before .before .before in
+    (lengths, code-instr (now (start .args .image)) (start .args .start) (start .args .end) (loop .inv) (loop-test .taken) (size-at .ensures) (if1 .left) (start .pre .within))
 
 add-text : tie.Need-add-text Inv-loop μ-loop
 add-text c =
     let line-length = c .line-length in
-    let loop = c .before .before .before .before .before .before .loop in
-    let start = c .before .before .before .before .before .before .before .before in
+    let loop = c .before .before .before .before .before .loop in
+    let start = c .before .before .before .before .before .before .before in
     omega (arith, loop .inv .short, line-length .ensures .1, start .pre .few, loop .inv .order)
 
 add-at : tie.Need-add-at Inv-loop μ-loop
 add-at c =
     let if1 = c .before .before .if1 in
-    let size-by = c .before .before .before .size-by in
-    let loop-test = c .before .before .before .before .before .loop-test in
-    let loop = c .before .before .before .before .before .before .loop in
-    let start = c .before .before .before .before .before .before .before .before in
-    let w = code-within (now (start .args .image)) (start .args .start) (start .args .end) (loop .inv) (loop-test .taken) (size-by .ensures) (if1 .left) in
+    let size-at = c .before .before .before .size-at in
+    let loop-test = c .before .before .before .before .loop-test in
+    let loop = c .before .before .before .before .before .loop in
+    let start = c .before .before .before .before .before .before .before in
+    let w = code-within (now (start .args .image)) (start .args .start) (start .args .end) (loop .inv) (loop-test .taken) (size-at .ensures) (if1 .left) in
     omega arith
 
 loop-less : tie.Need-loop-less Inv-loop μ-loop
 loop-less c =
     let if1 = c .before .before .if1 in
-    let loop-test = c .before .before .before .before .before .loop-test in
+    let loop-test = c .before .before .before .before .loop-test in
     omega (arith, if1 .left, loop-test .taken)
 
 loop-again : tie.Need-loop-again Inv-loop μ-loop
 loop-again c =
     let line-length = c .line-length in
     let if1 = c .before .before .if1 in
-    let size-by = c .before .before .before .size-by in
-    let loop-test = c .before .before .before .before .before .loop-test in
-    let loop = c .before .before .before .before .before .before .loop in
-    let start = c .before .before .before .before .before .before .before .before in
-    code-again (now (start .args .image)) (start .args .start) (start .args .end) (loop .inv) (loop-test .taken) (size-by .ensures) (if1 .left) (line-length .ensures .0) (line-length .ensures .1)
+    let size-at = c .before .before .before .size-at in
+    let loop-test = c .before .before .before .before .loop-test in
+    let loop = c .before .before .before .before .before .loop in
+    let start = c .before .before .before .before .before .before .before in
+    code-again (now (start .args .image)) (start .args .start) (start .args .end) (loop .inv) (loop-test .taken) (size-at .ensures) (if1 .left) (line-length .ensures .0) (line-length .ensures .1)
 
 returns-2 : tie.Need-returns-2 Inv-loop μ-loop
 returns-2 c =
@@ -94,7 +93,7 @@ measure-code-spec =
     Inv-loop
     μ-loop
     loop-holds
-    size-by-requires
+    size-at-requires
     returns
     sub-line-length
     line-length-requires

@@ -13,7 +13,7 @@ abbrev μ-loop : tie.MeasureT-loop
 μ-loop tree part₀ row n at₀ left₀ part at left = left
 
 loop-holds : tie.Need-loop-holds Inv-loop μ-loop
-loop-holds c = let p = c .before .before .pre .1 in record { stands = p .1 .1; table = refl; good = p .0; room = p .1 .0 }
+loop-holds c = let p = c .before .before .pre .1 in record { stands = p .1 .1; table = refl; good = p .0; marked = refl; room = p .1 .0 }
 
 hash-at-requires : tie.Need-hash-at-requires Inv-loop μ-loop
 hash-at-requires c κs = row-here _ _ _ (omega arith) (c .before .loop .inv .stands)

@@ -9,9 +9,6 @@ use Rattle.symbol_table.proofs.globals.push_global.Tie as tie
 slice-write-globals-2 : tie.Need-slice-write-globals-2
 slice-write-globals-2 c = simp length-set (omega arith)
 
-slice-write-globals-3 : tie.Need-slice-write-globals-3
-slice-write-globals-3 c = simp length-set (omega arith)
-
 returns : tie.Need-returns
 unfolding globalIn
 returns c = rw (c .wide32 .ensures)
@@ -19,4 +16,4 @@ returns c = rw (c .wide32 .ensures)
 pub push-global-spec : {M : Type 1} → statement M
 push-global-spec =
     tie.close
-    (tie.spec (λ c. search needs) (λ c. search needs) (λ c. search needs) (λ c. search needs) (λ c κs. search needs) (λ c. search needs) (λ c. search needs) (λ c. search needs) (λ c. search needs) (λ c. search needs) slice-write-globals-2 (λ c. search needs) (λ c. search needs) (λ c. search needs) slice-write-globals-3 (λ c. search needs) (λ c. search needs) (λ c. search needs) returns)
+    (tie.spec (λ c. search needs) (λ c κs. search needs) (λ c. search needs) (λ c. search needs) (λ c. search needs) (λ c. search needs) (λ c. search needs) (λ c. search needs) slice-write-globals-2 (λ c. search needs) (λ c. search needs) (λ c. search needs) (λ c. search needs) (λ c. search needs) returns)

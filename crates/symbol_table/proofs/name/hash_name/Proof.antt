@@ -3,14 +3,14 @@ use Prim.Native.Nat.{_≤_, _<_, _-_}
 use mathlib.Core.Path.{_≡_, refl, sym, _∙_}
 use lib.ListN.{length, drop}
 use native.Mathlib.Omega.{arith}
-use Rattle.symbol_table.specs.Name.{buckets, hashFrom, hashOf}
+use Rattle.symbol_table.specs.Name.{hashBound, hashFrom, hashOf}
 use Rattle.symbol_table.proofs.Names.{hash-step, hash-none}
 use borrow.Author.Needs.{needs}
 use Rattle.symbol_table.proofs.name.hash_name.Statement.{statement}
 use Rattle.symbol_table.proofs.name.hash_name.Tie as tie
 
 abbrev Inv-loop : tie.InvT-loop
-Inv-loop name hash₀ i₀ hash i = (i ≤ length name) × (hash < buckets) × (hashOf name ≡ hashFrom hash (drop i name))
+Inv-loop name hash₀ i₀ hash i = (i ≤ length name) × (hash < hashBound) × (hashOf name ≡ hashFrom hash (drop i name))
 
 abbrev μ-loop : tie.MeasureT-loop
 μ-loop name hash₀ i₀ hash i = length name - i
