@@ -15,7 +15,7 @@ use Rattle.definition.proofs.Undefined.{same-equal, same-self}
 use Rattle.field.specs.Layout.{content}
 use Rattle.symbol_table.specs.Name.{Stands, buckets, hashOf}
 use Rattle.symbol_table.specs.Search.{childOf, withChild, Way, Goes, hangs}
-use Rattle.symbol_table.specs.Layout.{globalsSize, headsAt, headOf, firstFound, globalName, globalsOf, GlobalStands, GoodGlobals}
+use Rattle.symbol_table.specs.Layout.{globalsSize, headsAt, headOf, firstFound, globalName, globalsOf, GlobalStands, Finds, GoodGlobals}
 use Rattle.symbol_table.specs.Store.{globalIn}
 use Rattle.symbol_table.specs.Contract.{IsName, Addable, Adds}
 use Rattle.symbol_table.proofs.Back.{last-or-before}
@@ -89,11 +89,16 @@ module _ (tree names : Bytes) (g : List ℕ) (v at number : ℕ) (size : length 
   unfolding findGlobal
   latest-more m n e = rw (globals-more g v at number size room inside tree names, e, globals-length g tree names)
 
-  pub stands-more : GlobalStands tree names v → ((i : ℕ) → i < getD g 0 0 → GlobalStands tree names (getD g (1 + i) 0))
-      → (i : ℕ) → i < getD (globalIn g v at number) 0 0 → GlobalStands tree names (getD (globalIn g v at number) (1 + i) 0)
-  stands-more s old i l =
-      last-or-before (λ k. GlobalStands tree names (getD (globalIn g v at number) (1 + k) 0)) (getD g 0 0) i (omega (arith, global-count g v at number size room inside)) (rw (global-new g v at number size room inside) s)
-      (λ lt. rw (global-name g v at number size room inside (1 + i) (omega arith) (omega arith)) (old i lt))
+  pub good-more : GoodGlobals tree names g → GlobalStands tree names v → ((n : Bytes) → Finds tree names (globalIn g v at number) n) → GoodGlobals tree names (globalIn g v at number)
+  good-more x s finds =
+      record {
+        size = global-size g v at number size room inside;
+        count = omega (arith, global-count g v at number size room inside);
+        stands = λ i l.
+            last-or-before (λ k. GlobalStands tree names (getD (globalIn g v at number) (1 + k) 0)) (getD g 0 0) i (omega (arith, global-count g v at number size room inside)) (rw (global-new g v at number size room inside) s)
+            (λ lt. rw (global-name g v at number size room inside (1 + i) (omega arith) (omega arith)) (x .stands i lt));
+        finds = finds;
+      }
 
 -- from what is to be added to what is added
 module _ {bytes : Bytes} {side : ℕ} {g : List ℕ} {name hash : ℕ} (a : Addable bytes side g name hash) where
@@ -139,23 +144,20 @@ module _ (tree names : Bytes) (g g′ : List ℕ) (name : ℕ) (room : getD g 0 
   pub new-good : Stands tree name → Adds tree 1 name g g′ → GoodGlobals tree names g′
   new-good whole a =
       let v = 65536 * 1 + name in
+      let m = content tree name in
       let e : v % 65536 ≡ name = omega arith in
-      let i = inside tree 1 g (content tree name) v (a .place) (a .number) (x .size) room (a .goes) in
       let z : v - 65536 ≡ name = omega arith in
-      let is = new-name tree names g g′ name (x .size) room small in
+      let i = inside tree 1 g m v (a .place) (a .number) (x .size) room (a .goes) in
       rw (a .is)
-      (record {
-        size = global-size g v (a .place) (a .number) (x .size) room i;
-        count = omega (arith, global-count g v (a .place) (a .number) (x .size) room i);
-        stands = stands-more tree names g v (a .place) (a .number) (x .size) room i (record { old = λ h. absurd (omega arith); new = λ h. rw z whole }) (x .stands);
-        finds = λ n. record {
-          new = pick (same n (content tree name)) (some (getD g 0 0)) (x .finds n .new);
-          old = x .finds n .old;
-          belowNew = own-side tree 1 g (content tree name) v (a .place) (a .number) (x .size) room (a .goes) (rw e whole) (omega arith) (rw e) n (x .finds n .belowNew);
-          belowOld = other-side tree 1 g (content tree name) v (a .place) (a .number) (x .size) room (a .goes) 0 refl names n (x .finds n .belowOld);
-          latest = latest-more tree names g v (a .place) (a .number) (x .size) room i (content tree name) n is ∙ first-new (same n (content tree name)) (x .finds n .new) (x .finds n .old) (x .finds n .latest);
-        };
-      })
+      (good-more tree names g v (a .place) (a .number) (x .size) room i x (record { old = λ h. absurd (omega arith); new = λ h. rw z whole }) (λ n.
+      let f = x .finds n in
+      record {
+        new = pick (same n m) (some (getD g 0 0)) (f .new);
+        old = f .old;
+        belowNew = own-side tree 1 g m v (a .place) (a .number) (x .size) room (a .goes) (rw e whole) (omega arith) (rw e) n (f .belowNew);
+        belowOld = other-side tree 1 g m v (a .place) (a .number) (x .size) room (a .goes) 0 refl names n (f .belowOld);
+        latest = latest-more tree names g v (a .place) (a .number) (x .size) room i m n (new-name tree names g g′ name (x .size) room small) ∙ first-new (same n m) (f .new) (f .old) (f .latest);
+      }))
     where
       first-new : (b : Bool) (o p : Option ℕ) {f : Option ℕ} → f ≡ firstFound o p → pick b (some (getD g 0 0)) f ≡ firstFound (pick b (some (getD g 0 0)) o) p
       first-new true o p h = refl
@@ -166,24 +168,21 @@ module _ (tree names : Bytes) (g g′ : List ℕ) (name : ℕ) (room : getD g 0 
     pub old-good : Stands names name → Adds names 0 name g g′ → GoodGlobals tree names g′
     old-good whole a =
         let v = 65536 * 0 + name in
+        let m = content names name in
         let e : v % 65536 ≡ name = omega arith in
-        let y : v ≡ name = omega arith in
-        let i = inside names 0 g (content names name) v (a .place) (a .number) (x .size) room (a .goes) in
-        let is = old-name tree names g g′ name (x .size) room small in
+        let z : v ≡ name = omega arith in
+        let i = inside names 0 g m v (a .place) (a .number) (x .size) room (a .goes) in
         rw (a .is)
-        (record {
-          size = global-size g v (a .place) (a .number) (x .size) room i;
-          count = omega (arith, global-count g v (a .place) (a .number) (x .size) room i);
-          stands = stands-more tree names g v (a .place) (a .number) (x .size) room i (record { old = λ h. rw y whole; new = λ h. absurd (omega arith) }) (x .stands);
-          finds = λ n. record {
-            new = x .finds n .new;
-            old = pick (same n (content names name)) (some (getD g 0 0)) (x .finds n .old);
-            belowNew = other-side names 0 g (content names name) v (a .place) (a .number) (x .size) room (a .goes) 1 refl tree n (x .finds n .belowNew);
-            belowOld = own-side names 0 g (content names name) v (a .place) (a .number) (x .size) room (a .goes) (rw e whole) (omega arith) (rw e) n (x .finds n .belowOld);
-            latest = latest-more tree names g v (a .place) (a .number) (x .size) room i (content names name) n is
-                ∙ first-old (same n (content names name)) (x .finds n .new) (x .finds n .old) (way-none (x .finds n .belowNew) (none (hashOf n % buckets) (omega arith))) (x .finds n .latest);
-          };
-        })
+        (good-more tree names g v (a .place) (a .number) (x .size) room i x (record { old = λ h. rw z whole; new = λ h. absurd (omega arith) }) (λ n.
+        let f = x .finds n in
+        record {
+          new = f .new;
+          old = pick (same n m) (some (getD g 0 0)) (f .old);
+          belowNew = other-side names 0 g m v (a .place) (a .number) (x .size) room (a .goes) 1 refl tree n (f .belowNew);
+          belowOld = own-side names 0 g m v (a .place) (a .number) (x .size) room (a .goes) (rw e whole) (omega arith) (rw e) n (f .belowOld);
+          latest = latest-more tree names g v (a .place) (a .number) (x .size) room i m n (old-name tree names g g′ name (x .size) room small)
+              ∙ first-old (same n m) (f .new) (f .old) (way-none (f .belowNew) (none (hashOf n % buckets) (omega arith))) (f .latest);
+        }))
       where
         first-old : (b : Bool) (o p : Option ℕ) {f : Option ℕ} → o ≡ Option.none → f ≡ firstFound o p → pick b (some (getD g 0 0)) f ≡ firstFound o (pick b (some (getD g 0 0)) p)
         first-old true o p z h = rw z
