@@ -1,4 +1,6 @@
 // Images and sessions on bytes: whether they are sound, and where a session's parts lie.
+#![tactic(auto)]
+
 mod code;
 mod zero;
 

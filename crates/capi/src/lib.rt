@@ -1,4 +1,6 @@
 // What a C program links: each function answers one 64-bit number. include/monkey.h declares them.
+#![tactic(auto)]
+
 ghost use Rattle.std.specs.Prelude.{◌≡◌, ◌<◌};
 ghost use Rattle.compiler.specs.Stage.{lent_of};
 ghost use Rattle.capi.specs.Packed.{Fits, Packs, MakesPacked, WordsPacked, CompilesPacked, ListsPacked, LoadsPacked, ReadsPacked, half_bound};

@@ -1,4 +1,6 @@
 // Runs the tree check on recorded cases, and prints for each topic how many agree and how many differ.
+#![tactic(auto)]
+
 use field::{wide, word};
 use libc::STDOUT_FILENO;
 use tree::Checked;

@@ -1,4 +1,6 @@
 // Images in the chin unit's form, and back.
+#![tactic(auto)]
+
 mod operand;
 mod row;
 

@@ -1,5 +1,7 @@
 // Reads a tree from standard input, compiles it in a fresh session, and writes the image to standard output. A refusal is a sentence on
 // standard error, and standard output stays empty.
+#![tactic(auto)]
+
 use definition::Answer;
 use definition::limit::{CODE_SIZE, TABLE_SIZE, TREE_LIMIT};
 use libc::{STDERR_FILENO, STDIN_FILENO};

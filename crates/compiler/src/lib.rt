@@ -1,4 +1,6 @@
 // Compiling in a session: the public functions.
+#![tactic(auto)]
+
 mod names;
 mod translate;
 

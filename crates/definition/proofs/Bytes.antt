@@ -69,17 +69,17 @@ module _ {byte : ℕ → ℕ} where
   -- the first of two parts
   pub stands_left : {at : ℕ} (xs ys : Bytes) → Stands byte at (xs ++ ys) → Stands byte at xs
   stands_left {at} [] ys s = stands_nil at
-  stands_left (x ∷ xs) ys s = stands_cons (stands_head s) (stands_left xs ys (stands_tail s))
+  stands_left {at = at} (x ∷ xs) ys s = stands_cons (stands_head s) (stands_left {at = at + 1} xs ys (stands_tail s))
 
   -- the second of two parts, behind the first
   pub stands_right : {at : ℕ} (xs ys : Bytes) → Stands byte at (xs ++ ys) → Stands byte (at + length xs) ys
   stands_right [] ys s = stands_at (omega arith) s
-  stands_right (x ∷ xs) ys s = stands_at (omega arith) (stands_right xs ys (stands_tail s))
+  stands_right {at = at} (x ∷ xs) ys s = stands_at (omega arith) (stands_right {at = at + 1} xs ys (stands_tail s))
 
   -- two parts
   pub stands_append : {at : ℕ} {xs ys : Bytes} → Stands byte at xs → Stands byte (at + length xs) ys → Stands byte at (xs ++ ys)
   stands_append {xs = []} s t = stands_at (omega arith) t
-  stands_append {xs = x ∷ xs} s t = stands_cons (stands_head s) (stands_append (stands_tail s) (stands_at (omega arith) t))
+  stands_append {at = at} {xs = x ∷ xs} s t = stands_cons (stands_head s) (stands_append {at = at + 1} {xs = xs} (stands_tail s) (stands_at (omega arith) t))
 
   -- a number of two bytes that stands, the second of them at `next`
   pub stands_number : {at : ℕ} (next n : ℕ) {xs : Bytes} → at + 1 ≡ next → n < 65536 → Stands byte at (n / 256 % 256 ∷ n % 256 ∷ xs) → byte at * 256 + byte next ≡ n

@@ -14,7 +14,8 @@ use Rattle.definition.specs.Session.{Words, Session, begun, session_fields}
 use Rattle.definition.specs.Decode.{decoded, read_image, read_session}
 use Rattle.definition.specs.Compile.{Outcome, Request, image_of, session_of, compile, steps}
 use Rattle.definition.specs.Call.{Called, request}
-use Rattle.definition.specs.Series.{Start, Call, lent, calls}
+use Rattle.definition.specs.Call.{call}
+use Rattle.definition.specs.Series.{Start, Call, lent, session_after, calls}
 use Rattle.definition.specs.Valid.{All, ValidImage, ValidWords, ValidSession}
 use Rattle.definition.specs.Trusted.{Stands, constant_at, Chunk, Lands, TrustedChunk, Trusted, TrustedOutput, TrustedCall, TrustedStep}
 use Rattle.definition.specs.declared.Answer.TheVariants.{Length}
@@ -166,7 +167,7 @@ calls_trusted s z h f [] = All.none
 calls_trusted s z h f (c ∷ cs) =
     let d = call_does s z h c in
     let q = request (lent s c) c.tree in
-    All.more (wrote d (λ m e. (trusted_step z h.valid f q).image m e)) (calls_trusted _ (compile z q).session d.holds (keeps_compile fitting z f q).session cs)
+    All.more (wrote d (λ m e. (trusted_step z h.valid f q).image m e)) (calls_trusted (session_after s (call c.tree (lent s c)).lent.session) (compile z q).session d.holds (keeps_compile fitting z f q).session cs)
 
 -- P2, on lent memory: in every series of calls on a session that was made in a buffer, with either call
 pub trusted_calls : {s : Bytes} {w : Words} → Start s w → (cs : List Call) → All TrustedCall (calls s cs)

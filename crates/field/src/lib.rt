@@ -1,4 +1,6 @@
 // Reading and writing the parts of a field: a tag, a two-byte length, the content.
+#![tactic(auto)]
+
 pub mod names;
 
 ghost use Rattle.std.specs.Prelude.{◌≡◌, ◌+◌, ◌*◌, ◌<◌, length};

@@ -1,4 +1,6 @@
 // Frames: an image cut into parts of one size, and the shorter part that is left.
+#![tactic(auto)]
+
 ghost use Rattle.std.specs.Prelude.{◌≡◌, ◌*◌, ◌<◌};
 ghost use Rattle.frames.specs.Frames.{size_in_range, count_frames, place_in, find_frame, IsFrame, frame_refusal};
 

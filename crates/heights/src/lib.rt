@@ -1,4 +1,6 @@
 // Stack heights of an image: offered by a proposer that nobody trusts, checked here.
+#![tactic(auto)]
+
 pub mod chunk;
 pub mod effect;
 pub mod image;

@@ -1,5 +1,7 @@
 // Reads an image from standard input and writes the greatest height of the stack in each chunk, a line each: `main 3`, and `function 4 2` for the function
 // at index 4 of the pool. The heights are proposed here and then checked. A refusal is a sentence on standard error, and standard output stays empty.
+#![tactic(auto)]
+
 use definition::{Answer, number, tag};
 use field::length_at;
 use libc::{STDERR_FILENO, STDIN_FILENO, STDOUT_FILENO};

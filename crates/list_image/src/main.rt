@@ -1,4 +1,6 @@
 // Reads an image from standard input and writes its listing; or only `refused`, the number and the place.
+#![tactic(auto)]
+
 use definition::Answer;
 use libc::{STDIN_FILENO, STDOUT_FILENO};
 

@@ -1,4 +1,6 @@
 // The listing of an image as text.
+#![tactic(auto)]
+
 mod code;
 mod lengths;
 mod measure;

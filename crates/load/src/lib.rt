@@ -1,4 +1,6 @@
 // A repeatable load of scripts: the tree of a seed, by the list of choices.
+#![tactic(auto)]
+
 mod draw;
 mod leaf;
 

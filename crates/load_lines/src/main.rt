@@ -1,5 +1,7 @@
 // Makes the tree of each seed from 0 to 999, compiles each in a fresh session, and writes a line for each: the seed, the length of its
 // tree, and the number of the refusal, 0 where the tree is accepted.
+#![tactic(auto)]
+
 use definition::Answer;
 use definition::limit::{CODE_SIZE, TABLE_SIZE};
 use libc::STDOUT_FILENO;

@@ -1,4 +1,6 @@
 // Compiling in a session with a record for each Identifier, for a caller that lends numbers: four for each record.
+#![tactic(auto)]
+
 ghost use Rattle.std.specs.Prelude.{◌≡◌, ◌+◌, ◌*◌, ◌≤◌, length};
 ghost use Rattle.std.proofs.lemmas.List.Edits.{sets};
 ghost use Rattle.compiler.specs.Stage.{lent_of};

@@ -1,4 +1,6 @@
 // Instructions on bytes: the operand length of every first byte, decoding, encoding, and the words of the listing.
+#![tactic(auto)]
+
 pub mod opcodes;
 pub mod table;
 

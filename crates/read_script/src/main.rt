@@ -1,5 +1,7 @@
 // Reads a script in text form from standard input and writes its tree to standard output. A refusal is a sentence on standard error, with line
 // and column, and standard output stays empty.
+#![tactic(auto)]
+
 ghost use Rattle.std.specs.Prelude.{◌≤◌, length};
 
 use definition::Answer;

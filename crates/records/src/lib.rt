@@ -1,4 +1,6 @@
 // The records that a caller lends, one for each Identifier: a slice of structs, and the one function that writes there.
+#![tactic(auto)]
+
 ghost use Rattle.std.specs.Prelude.{◌≡◌, ◌<◌, length, set};
 
 // What a name stands for, in document 02's order.

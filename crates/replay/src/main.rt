@@ -1,4 +1,6 @@
 // Replays recorded compile calls: series over one session, compared byte by byte with what was recorded.
+#![tactic(auto)]
+
 ghost use Rattle.std.specs.Prelude.{◌≤◌, ◌<◌};
 
 use check::same;

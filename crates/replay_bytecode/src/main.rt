@@ -4,6 +4,8 @@
 // (list) stands behind the length of its output in three bytes; the listing follows its answer. Frames are counted (count) in an image behind
 // a size in four bytes, and found (part) in one behind size and number. An image (turn) or a chin form (unturn) behind the length of its output in three
 // bytes is translated, and the answer has the bytes.
+#![tactic(auto)]
+
 ghost use Rattle.std.specs.Prelude.{◌≤◌, ◌<◌};
 
 use bytecode::Layout;

@@ -1,4 +1,6 @@
 // What the programs that take scripts and trees say of a refusal: words for numbers, and the line and column of a place in a text.
+#![tactic(auto)]
+
 ghost use Rattle.std.specs.Prelude.{◌+◌, ◌≤◌, length};
 
 use definition::number;

@@ -1,6 +1,8 @@
 // Reads an image from standard input, runs its main code with all globals unset, and writes a line for each global up to the highest index that main names:
 // its index, its kind and its value, as `0 integer -3`, `1 boolean true`, `2 null`, `3 unset`. The heights are proposed here. A refusal or a stop is a
 // sentence on standard error, and standard output stays empty.
+#![tactic(auto)]
+
 use definition::{Answer, number};
 use libc::{STDERR_FILENO, STDIN_FILENO, STDOUT_FILENO};
 use listing::text::eight_bytes;

@@ -1,5 +1,7 @@
 // The open chunks in the code area, as the Rust's CompilationScope has them: the chunk in work is a record, by value in the state, and
 // lent to emission and patching.
+#![tactic(auto)]
+
 ghost use Rattle.std.specs.Prelude.{◌≡◌, ◌+◌, ◌≤◌, length, get_or};
 ghost use Rattle.std.proofs.Math.Option.{none};
 ghost use Rattle.definition.specs.Opcode.{instr, plain, width, op_closure};

@@ -1,4 +1,6 @@
 // A whole series of compile calls: a session is made, and a row of trees compiled in it.
+#![tactic(auto)]
+
 ghost use Rattle.std.specs.Prelude.{◌≡◌, leb};
 ghost use Rattle.definition.specs.Basic.{pick};
 ghost use Rattle.compiler.specs.Stage.{lent_of};

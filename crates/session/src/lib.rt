@@ -1,4 +1,6 @@
 // Writing the session and the image, and zeroing lent memory. Each contract is one equation on the lent lists.
+#![tactic(auto)]
+
 pub mod image;
 pub mod words;
 pub mod write;

@@ -1,4 +1,6 @@
 // The steps of the compiler on session and table area.
+#![tactic(auto)]
+
 mod closing;
 mod pool;
 

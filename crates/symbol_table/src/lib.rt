@@ -1,4 +1,6 @@
 // The symbol tables of the open functions, in the table area: what a name stands for.
+#![tactic(auto)]
+
 mod enclosed;
 mod globals;
 pub mod layout;

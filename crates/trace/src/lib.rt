@@ -1,4 +1,6 @@
 // Compiling in a session with a record for each Identifier: all but the caller's records themselves.
+#![tactic(auto)]
+
 pub mod log;
 mod pass;
 

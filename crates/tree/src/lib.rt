@@ -1,4 +1,6 @@
 // The tree check: a tree is good, or refused 3 or 4 at its place; and the readers of fields that the compiler uses afterwards.
+#![tactic(auto)]
+
 use definition::limit::{LEVEL_LIMIT, TREE_LIMIT};
 use definition::number::{BAD_TREE, TOO_DEEP};
 use definition::{Refusal, tag};

@@ -1,4 +1,6 @@
 // A trial run of an image's main code: its globals afterwards, or why it stops.
+#![tactic(auto)]
+
 mod arithmetic;
 mod cells;
 mod machine;

@@ -1,5 +1,7 @@
 // Reads an image from standard input and writes its chin form to standard output; or reads a chin form, which begins with 58, and writes its image. A
 // refusal is a sentence on standard error, and standard output stays empty.
+#![tactic(auto)]
+
 use bytecode::CHIN_MAIN;
 use definition::{Answer, number};
 use libc::{STDERR_FILENO, STDIN_FILENO, STDOUT_FILENO};

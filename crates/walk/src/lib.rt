@@ -1,4 +1,6 @@
 // The walk over a tree that reads: statements, blocks and expressions compile each other.
+#![tactic(auto)]
+
 ghost use Rattle.std.specs.Prelude.{◌+◌};
 ghost use Rattle.definition.specs.Walk.{walk_stmt, walk_stmts, walk_expr, walk_exprs};
 ghost use Rattle.field.specs.Layout.{Whole, after};
