@@ -9,5 +9,5 @@ pub returns : goal.returns
 returns c =
     let first = c in
     let zeroed = first in
-    let entry = zeroed.before.before.before.before in
-    made-fresh entry.args.session.now zeroed.before.before.if1.false zeroed.restore.ensures first.put_head.ensures c.put_head-2.ensures
+    let entry = zeroed in
+    made-fresh entry.args.session.now zeroed.if-session-lt-SESSION_SIZE.false zeroed.restore.ensures first.put_head.ensures c.put_head-2.ensures

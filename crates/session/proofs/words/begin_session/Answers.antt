@@ -7,6 +7,6 @@ pub returns : goal.returns
 returns c =
     let head = c in
     let first = head in
-    let zeroed = first.before.before.before.before in
-    let start = zeroed.before.before.before.before in
-    begun_session start.args.session.now start.args.words.now start.requires.0 start.requires.1 refl zeroed.restore.ensures first.put-field.ensures head.put_head.ensures c.put_head-2.ensures
+    let zeroed = first in
+    let start = zeroed in
+    begun_session start.args.session.now start.args.words.now start.requires.0 start.requires.1 refl zeroed.restore.ensures first.put_field.ensures head.put_head.ensures c.put_head-2.ensures

@@ -8,4 +8,4 @@ use Rattle.session.proofs.write.copy.Goals as goal
 pub returns : goal.returns
 returns c =
     let a = c.args in
-    part_copied a.out.now a.at (a.at + length a.from.now - a.at) (omega arith) a.from.now (omega arith) c.copy.ensures.1
+    part_copied a.out.now a.at (a.at + length a.from.now - a.at) (omega arith) a.from.now (omega arith) c.copy_from_slice.ensures.after
