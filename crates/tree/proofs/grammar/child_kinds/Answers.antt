@@ -3,62 +3,61 @@ use mathlib.Core.Logic.{⊎_elim, inl, inr}
 use borrow.Author.Tests.{ne_eqb}
 use Rattle.definition.specs.Tag.{tag_program, tag_block, tag_expr_stmt, tag_return, tag_let, tag_prefix, tag_infix, tag_if, tag_function, tag_call, tag_array, tag_index, tag_hash, tag_macro, tag_params}
 use Rattle.tree.specs.Kinds.{wanted, kinds_of}
-use Rattle.tree.proofs.grammar.child_kinds.Statement.{statement}
-use Rattle.tree.proofs.grammar.child_kinds.Tie as tie
+use Rattle.tree.proofs.grammar.child_kinds.Goals as goal
 
-returns : tie.Need-returns
+pub returns-in-16 : goal.returns-in-16
 unfolding wanted kinds_of
-returns c = ⊎_elim (λ e. rw e) (λ e. rw e) c.match.keys1
+returns-in-16 c = ⊎_elim (λ e. rw e) (λ e. rw e) c.in-16.is
 
-returns-2 : tie.Need-returns-2
+pub returns-in-17 : goal.returns-in-17
 unfolding wanted kinds_of
-returns-2 c = ⊎_elim (λ e. rw e) (λ e. rw e) c.match.keys2
+returns-in-17 c = ⊎_elim (λ e. rw e) (λ e. rw e) c.in-17.is
 
-returns-3 : tie.Need-returns-3
+pub returns-in-19 : goal.returns-in-19
 unfolding wanted kinds_of
-returns-3 c = rw c.match.keys3
+returns-in-19 c = rw c.in-19.is
 
-returns-4 : tie.Need-returns-4
+pub returns-in-33 : goal.returns-in-33
 unfolding wanted kinds_of
-returns-4 c = rw c.match.keys4
+returns-in-33 c = rw c.in-33.is
 
-returns-5 : tie.Need-returns-5
+pub returns-in-34 : goal.returns-in-34
 unfolding wanted kinds_of
-returns-5 c = rw c.match.keys5
+returns-in-34 c = rw c.in-34.is
 
-returns-6 : tie.Need-returns-6
+pub returns-in-35 : goal.returns-in-35
 unfolding wanted kinds_of
-returns-6 c = rw c.match.keys6
+returns-in-35 c = rw c.in-35.is
 
-returns-7 : tie.Need-returns-7
+pub returns-in-36 : goal.returns-in-36
 unfolding wanted kinds_of
-returns-7 c = rw c.match.keys7
+returns-in-36 c = rw c.in-36.is
 
-returns-8 : tie.Need-returns-8
+pub returns-in-37 : goal.returns-in-37
 unfolding wanted kinds_of
-returns-8 c = ⊎_elim (λ e. rw e) (λ e. rw e) c.match.keys8
+returns-in-37 c = ⊎_elim (λ e. rw e) (λ e. rw e) c.in-37.is
 
-returns-9 : tie.Need-returns-9
+pub returns-in-42 : goal.returns-in-42
 unfolding wanted kinds_of
-returns-9 c = rw c.match.keys9
+returns-in-42 c = rw c.in-42.is
 
-returns-10 : tie.Need-returns-10
+pub returns-in-43 : goal.returns-in-43
 unfolding wanted kinds_of
-returns-10 c = rw c.match.keys10
+returns-in-43 c = rw c.in-43.is
 
-returns-11 : tie.Need-returns-11
+pub returns-in-44 : goal.returns-in-44
 unfolding wanted kinds_of
-returns-11 c = rw c.match.keys11
+returns-in-44 c = rw c.in-44.is
 
-returns-12 : tie.Need-returns-12
+pub returns-in-49 : goal.returns-in-49
 unfolding wanted kinds_of
-returns-12 c = rw c.match.keys12
+returns-in-49 c = rw c.in-49.is
 
-returns-13 : tie.Need-returns-13
+pub returns-in_default : goal.returns-in_default
 unfolding wanted kinds_of
-returns-13 c =
-    let t = c.before.args.t in
-    let r = c.match.rest in
+returns-in_default c =
+    let t = c.args.t in
+    let r = c.in_default.in_default-own.rest in
     rw (
       ne_eqb t tag_program (λ e. r.0.0.0.0.0.0.0.0.0.0.0.1 (inl e)),
       ne_eqb t tag_block (λ e. r.0.0.0.0.0.0.0.0.0.0.0.1 (inr e)),
@@ -76,21 +75,3 @@ returns-13 c =
       ne_eqb t tag_macro r.0.1,
       ne_eqb t tag_params r.1,
     )
-
-pub child-kinds-spec : {M : Type 1} → statement M
-child-kinds-spec =
-    tie.close
-    (tie.spec
-    returns
-    returns-2
-    returns-3
-    returns-4
-    returns-5
-    returns-6
-    returns-7
-    returns-8
-    returns-9
-    returns-10
-    returns-11
-    returns-12
-    returns-13)
