@@ -1,5 +1,4 @@
 -- `put_names` meets its contract: name by name.
-use Prim.Native.Nat.{◌-◌}
 use Rattle.text.proofs.Contents.{sees_on}
 use Rattle.text.proofs.Larger.{larger_is}
 use Rattle.text.proofs.Looping.{looping_begins, names_name, names-comma, names-end}

@@ -1,5 +1,4 @@
 -- `skip_groups` meets its contract: each parenthesis passed opens a group.
-use Prim.Native.Nat.{◌-◌}
 use Rattle.text.proofs.Climbing.{skips_on, skips_end}
 use Rattle.text.proofs.RowAt.{sees_ahead, end_early}
 use mathlib.Core.Path.{refl}

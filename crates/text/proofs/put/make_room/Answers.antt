@@ -1,8 +1,7 @@
 -- `make_room` meets its contract: the last byte first.
-use Prim.Native.Nat.{◌-◌}
 use Rattle.text.proofs.Storing.{moves_begin, moves_on, moves_end}
 use borrow.Author.Tests.{lt-ltb}
-use mathlib.Core.Path.{refl, ap}
+use mathlib.Core.Path.{refl}
 use native.Mathlib.Omega.{arith}
 use Rattle.text.proofs.put.make_room.Goals as goal
 

@@ -1,5 +1,4 @@
 -- `put_bytes` meets its contract: what is left decides.
-use Prim.Native.Nat.{◌-◌}
 use Rattle.text.proofs.Storing.{copies_on, copied}
 use mathlib.Core.Path.{refl}
 use native.Mathlib.Omega.{arith}

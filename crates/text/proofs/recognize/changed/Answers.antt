@@ -1,5 +1,4 @@
 -- `changed` meets its contract, by the change.
-use Prim.Native.Nat.{◌-◌}
 use native.Mathlib.Omega.{arith}
 use mathlib.Core.Path.{sym, ap, ◌∙◌}
 use lib.ListN.{length-set}

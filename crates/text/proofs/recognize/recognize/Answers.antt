@@ -1,5 +1,4 @@
 -- `recognize` meets its contract: what is left of the text decides.
-use Prim.Native.Nat.{◌-◌}
 use native.Mathlib.Omega.{arith}
 use mathlib.Core.Path.{refl, ◌∙◌}
 use Rattle.text.proofs.Turns.{begins, at-end, at_broken, at-large, token_seen, at_stuck, goes-on}

@@ -1,5 +1,5 @@
 -- `mark_kind` meets its contract: the table, entry by entry.
-use mathlib.Core.Path.{sym}
+use native.Mathlib.Omega.{arith}
 use borrow.Author.Tests.{ne_eqb}
 use Rattle.definition.specs.SymbolTable.{same}
 use Rattle.text.specs.Scan.{kind_in}
@@ -76,23 +76,22 @@ returns-in-59 c = rw c.in-59.is
 pub returns-in_default : goal.returns-in_default
 unfolding kind_in same
 returns-in_default c =
-    let r = c.in_default.in_default-own.rest in
     rw (
-      ne_eqb 61 _ (λ e. r.0.0.0.0.0.0.0.0.0.0.0.0.0.0.0.0.1 (sym e)),
-      ne_eqb 33 _ (λ e. r.0.0.0.0.0.0.0.0.0.0.0.0.0.0.0.1 (sym e)),
-      ne_eqb 60 _ (λ e. r.0.0.0.0.0.0.0.0.0.0.0.0.0.0.1 (sym e)),
-      ne_eqb 62 _ (λ e. r.0.0.0.0.0.0.0.0.0.0.0.0.0.1 (sym e)),
-      ne_eqb 43 _ (λ e. r.0.0.0.0.0.0.0.0.0.0.0.0.1 (sym e)),
-      ne_eqb 45 _ (λ e. r.0.0.0.0.0.0.0.0.0.0.0.1 (sym e)),
-      ne_eqb 42 _ (λ e. r.0.0.0.0.0.0.0.0.0.0.1 (sym e)),
-      ne_eqb 47 _ (λ e. r.0.0.0.0.0.0.0.0.0.1 (sym e)),
-      ne_eqb 40 _ (λ e. r.0.0.0.0.0.0.0.0.1 (sym e)),
-      ne_eqb 41 _ (λ e. r.0.0.0.0.0.0.0.1 (sym e)),
-      ne_eqb 91 _ (λ e. r.0.0.0.0.0.0.1 (sym e)),
-      ne_eqb 93 _ (λ e. r.0.0.0.0.0.1 (sym e)),
-      ne_eqb 123 _ (λ e. r.0.0.0.0.1 (sym e)),
-      ne_eqb 125 _ (λ e. r.0.0.0.1 (sym e)),
-      ne_eqb 44 _ (λ e. r.0.0.1 (sym e)),
-      ne_eqb 58 _ (λ e. r.0.1 (sym e)),
-      ne_eqb 59 _ (λ e. r.1 (sym e)),
+      ne_eqb 61 c.args.b (λ e. omega arith),
+      ne_eqb 33 c.args.b (λ e. omega arith),
+      ne_eqb 60 c.args.b (λ e. omega arith),
+      ne_eqb 62 c.args.b (λ e. omega arith),
+      ne_eqb 43 c.args.b (λ e. omega arith),
+      ne_eqb 45 c.args.b (λ e. omega arith),
+      ne_eqb 42 c.args.b (λ e. omega arith),
+      ne_eqb 47 c.args.b (λ e. omega arith),
+      ne_eqb 40 c.args.b (λ e. omega arith),
+      ne_eqb 41 c.args.b (λ e. omega arith),
+      ne_eqb 91 c.args.b (λ e. omega arith),
+      ne_eqb 93 c.args.b (λ e. omega arith),
+      ne_eqb 123 c.args.b (λ e. omega arith),
+      ne_eqb 125 c.args.b (λ e. omega arith),
+      ne_eqb 44 c.args.b (λ e. omega arith),
+      ne_eqb 58 c.args.b (λ e. omega arith),
+      ne_eqb 59 c.args.b (λ e. omega arith),
     )

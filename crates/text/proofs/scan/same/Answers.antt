@@ -1,9 +1,6 @@
 -- `same` meets its contract. What is left of the two words decides.
-use Prim.Native.Nat.{◌-◌}
 use native.Mathlib.Omega.{arith}
 use mathlib.Core.Path.{sym, ◌∙◌}
-use lib.ListN.{length}
-use Rattle.definition.specs.SymbolTable.{same}
 use Rattle.text.proofs.Skips.{same_lengths, same_step, same_differ, same_none}
 use Rattle.text.proofs.scan.same.Goals as goal
 

@@ -1,7 +1,5 @@
 -- `skip` meets its contract. What is left of the run decides.
-use Prim.Native.Nat.{◌-◌}
 use mathlib.Core.Path.{refl, sym, ◌∙◌}
-use Rattle.text.specs.Scan.{skip}
 use Rattle.text.proofs.Skips.{skip_step, skip_stop, skip_done}
 use Rattle.text.proofs.scan.skip.Goals as goal
 

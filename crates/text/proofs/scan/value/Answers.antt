@@ -1,8 +1,6 @@
 -- `value` meets its contract. What is left of the digits decides.
-use Prim.Native.Nat.{◌-◌}
 use native.Mathlib.Omega.{arith}
 use mathlib.Core.Path.{refl, sym, ap, ◌∙◌}
-use Rattle.text.specs.Scan.{value}
 use Rattle.text.specs.Seen.{capped}
 use Rattle.text.proofs.Skips.{value-step, value_done, capped_above, capped_within}
 use Rattle.text.proofs.scan.value.Goals as goal

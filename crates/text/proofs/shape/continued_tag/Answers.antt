@@ -1,4 +1,5 @@
 -- `continued_tag` meets its contract: the table, entry by entry.
+use native.Mathlib.Omega.{arith}
 use borrow.Author.Tests.{ne_eqb}
 use Rattle.text.specs.Kind.{open_paren, open_bracket}
 use Rattle.text.specs.Shape.{continued_tag}
@@ -15,8 +16,7 @@ returns-in-12 c = rw c.in-12.is
 pub returns-in_default : goal.returns-in_default
 unfolding continued_tag
 returns-in_default c =
-    let r = c.in_default.in_default-own.rest in
     rw (
-      ne_eqb _ open_paren r.0.1,
-      ne_eqb _ open_bracket r.1,
+      ne_eqb c.args.k open_paren (λ e. omega arith),
+      ne_eqb c.args.k open_bracket (λ e. omega arith),
     )

@@ -1,4 +1,5 @@
 -- `operand_tag` meets its contract: the table, entry by entry.
+use native.Mathlib.Omega.{arith}
 use borrow.Author.Tests.{ne_eqb}
 use Rattle.text.specs.Kind.{a_name, an_integer, a_string, true_word, false_word, open_bracket, open_brace, if_word, fn_word}
 use Rattle.text.specs.Shape.{operand_tag}
@@ -43,15 +44,14 @@ returns-in-8 c = rw c.in-8.is
 pub returns-in_default : goal.returns-in_default
 unfolding operand_tag
 returns-in_default c =
-    let r = c.in_default.in_default-own.rest in
     rw (
-      ne_eqb _ a_name r.0.0.0.0.0.0.0.0.1,
-      ne_eqb _ an_integer r.0.0.0.0.0.0.0.1,
-      ne_eqb _ a_string r.0.0.0.0.0.0.1,
-      ne_eqb _ true_word r.0.0.0.0.0.1,
-      ne_eqb _ false_word r.0.0.0.0.1,
-      ne_eqb _ open_bracket r.0.0.0.1,
-      ne_eqb _ open_brace r.0.0.1,
-      ne_eqb _ if_word r.0.1,
-      ne_eqb _ fn_word r.1,
+      ne_eqb c.args.k a_name (λ e. omega arith),
+      ne_eqb c.args.k an_integer (λ e. omega arith),
+      ne_eqb c.args.k a_string (λ e. omega arith),
+      ne_eqb c.args.k true_word (λ e. omega arith),
+      ne_eqb c.args.k false_word (λ e. omega arith),
+      ne_eqb c.args.k open_bracket (λ e. omega arith),
+      ne_eqb c.args.k open_brace (λ e. omega arith),
+      ne_eqb c.args.k if_word (λ e. omega arith),
+      ne_eqb c.args.k fn_word (λ e. omega arith),
     )

@@ -1,4 +1,5 @@
 -- `operator_of` meets its contract: the table, entry by entry.
+use native.Mathlib.Omega.{arith}
 use borrow.Author.Tests.{ne_eqb}
 use Rattle.text.specs.Kind.{plus, minus, bang, star, slash, equal, unequal, less}
 use Rattle.text.specs.Shape.{operator_of}
@@ -39,14 +40,13 @@ returns-in-17 c = rw c.in-17.is
 pub returns-in_default : goal.returns-in_default
 unfolding operator_of
 returns-in_default c =
-    let r = c.in_default.in_default-own.rest in
     rw (
-      ne_eqb _ plus r.0.0.0.0.0.0.0.1,
-      ne_eqb _ minus r.0.0.0.0.0.0.1,
-      ne_eqb _ bang r.0.0.0.0.0.1,
-      ne_eqb _ star r.0.0.0.0.1,
-      ne_eqb _ slash r.0.0.0.1,
-      ne_eqb _ equal r.0.0.1,
-      ne_eqb _ unequal r.0.1,
-      ne_eqb _ less r.1,
+      ne_eqb c.args.k plus (λ e. omega arith),
+      ne_eqb c.args.k minus (λ e. omega arith),
+      ne_eqb c.args.k bang (λ e. omega arith),
+      ne_eqb c.args.k star (λ e. omega arith),
+      ne_eqb c.args.k slash (λ e. omega arith),
+      ne_eqb c.args.k equal (λ e. omega arith),
+      ne_eqb c.args.k unequal (λ e. omega arith),
+      ne_eqb c.args.k less (λ e. omega arith),
     )

@@ -1,4 +1,5 @@
 -- `statement_tag` meets its contract: the table, entry by entry.
+use native.Mathlib.Omega.{arith}
 use borrow.Author.Tests.{ne_eqb}
 use Rattle.text.specs.Kind.{let_word, return_word}
 use Rattle.text.specs.Shape.{statement_tag}
@@ -15,8 +16,7 @@ returns-in-1 c = rw c.in-1.is
 pub returns-in_default : goal.returns-in_default
 unfolding statement_tag
 returns-in_default c =
-    let r = c.in_default.in_default-own.rest in
     rw (
-      ne_eqb _ let_word r.0.1,
-      ne_eqb _ return_word r.1,
+      ne_eqb c.args.k let_word (λ e. omega arith),
+      ne_eqb c.args.k return_word (λ e. omega arith),
     )

@@ -1,4 +1,5 @@
 -- `block_end` meets its contract, by the innermost context.
+use native.Mathlib.Omega.{arith}
 use Rattle.text.proofs.Moves.{no_block}
 use Rattle.text.proofs.step.block_end.Goals as goal
 
@@ -9,4 +10,4 @@ pub returns-in-2 : goal.returns-in-2
 returns-in-2 c = λ s. rw c.in-2.is
 
 pub returns-in_default : goal.returns-in_default
-returns-in_default c = λ s. no_block _ s c.in_default.in_default-own.rest.0.1 c.in_default.in_default-own.rest.1
+returns-in_default c = λ s. no_block c.args.top s (λ e. omega arith) (λ e. omega arith)

@@ -1,5 +1,4 @@
--- The cycle of calls that writes a script.
-use Prim.Native.Nat.{◌-◌}
+-- The cycle of calls that writes a script: each function meets its contract, with calls below its measure.
 use Rattle.text.proofs.Ahead.{item_on, item-ahead, expression-on, operator-ahead, group_ahead, statement-ahead}
 use Rattle.text.proofs.Climbing.{climb_begins, climb_closes, climb_ended, climb_goes}
 use Rattle.text.proofs.Contents.{sees_on}

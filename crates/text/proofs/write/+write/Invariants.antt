@@ -1,4 +1,4 @@
--- The measures: 16 for each byte that is left of the text, and the order of the calls; the loops.
+-- The measures of the cycle: 16 for each byte that is left of the text, and the order of the calls; and its loops.
 use Prim.Native.Nat.{◌+◌, ◌*◌, ◌-◌}
 use Rattle.definition.specs.Basic.{Bytes}
 use Rattle.text.proofs.Climbing.{Climbing}
