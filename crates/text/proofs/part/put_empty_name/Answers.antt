@@ -8,6 +8,6 @@ use Rattle.text.proofs.part.put_empty_name.Goals as goal
 
 pub returns : goal.returns
 returns c = record {
-      part = refl;
-      stored = field_stored tag_name [] c.args.to c.args.output.now refl (omega arith) c.put_head.ensures;
-    }
+  part = refl;
+  stored = field_stored tag_name [] c.args.to c.args.output.now refl (omega arith) c.put_head.ensures;
+}

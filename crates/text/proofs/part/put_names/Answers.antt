@@ -38,9 +38,9 @@ shape_of-output-then-token-ne-COMMA c = (c.loop-output.invariant.0 0).bounds.len
 
 pub returns-then-token-ne-COMMA : goal.returns-then-token-ne-COMMA
 returns-then-token-ne-COMMA c = record {
-      writes = λ left. names-end (c.loop-output.invariant.0 left) c.token_at-token.ensures c.if-token-eq-NAME.false c.if-token-ne-COMMA.true (sees_on c.token_at-token.ensures) c.moved_on-so_far.ensures;
-      flat = omega (arith, ap (λ p. p.levels) c.moved_on-so_far.ensures, c.loop-output.invariant.1);
-    }
+  writes = λ left. names-end (c.loop-output.invariant.0 left) c.token_at-token.ensures c.if-token-eq-NAME.false c.if-token-ne-COMMA.true (sees_on c.token_at-token.ensures) c.moved_on-so_far.ensures;
+  flat = omega (arith, ap (λ p. p.levels) c.moved_on-so_far.ensures, c.loop-output.invariant.1);
+}
 
 pub loop-output-smaller : goal.loop-output-smaller
 loop-output-smaller c =

@@ -8,6 +8,6 @@ use Rattle.text.proofs.part.put_operator.Goals as goal
 
 pub returns : goal.returns
 returns c = record {
-      part = refl;
-      stored = field_stored tag_operator (_ ∷ []) c.args.to c.args.output.now c.put.ensures (omega arith) c.put_head.ensures;
-    }
+  part = refl;
+  stored = field_stored tag_operator (_ ∷ []) c.args.to c.args.output.now c.put.ensures (omega arith) c.put_head.ensures;
+}

@@ -79,8 +79,8 @@ pub write_clause-returns : goal.write_clause-returns
 write_clause-returns t c =
     let p = c.requires in
     record {
-    writes = clause_expression p.1 c.if-token-eq-LET.false c.if-token-eq-RETURN.false c.write_expression-2.ensures.writes;
-    spares = c.write_expression-2.ensures.spares;
+      writes = clause_expression p.1 c.if-token-eq-LET.false c.if-token-eq-RETURN.false c.write_expression-2.ensures.writes;
+      spares = c.write_expression-2.ensures.spares;
     }
 
 pub write_continued-deep-requires : goal.write_continued-deep-requires
@@ -140,8 +140,8 @@ pub write_expression-returns-then-left-eq0 : goal.write_expression-returns-then-
 write_expression-returns-then-left-eq0 t c =
     let r = c.requires.ready in
     record {
-    writes = deep_node _ _ _ r.within c.if-left-eq0.true c.deep.ensures;
-    spares = λ h. omega (arith, ap (λ p. p.at) c.deep.ensures, ap (λ p. p.to) c.deep.ensures);
+      writes = deep_node _ _ _ r.within c.if-left-eq0.true c.deep.ensures;
+      spares = λ h. omega (arith, ap (λ p. p.at) c.deep.ensures, ap (λ p. p.to) c.deep.ensures);
     }
 
 pub write_expression-skip_groups-first-requires : goal.write_expression-skip_groups-first-requires
@@ -182,8 +182,8 @@ write_expression-shape_of-output-then-ends_at t c =
 pub write_expression-returns-then-ends_at : goal.write_expression-returns-then-ends_at
 write_expression-returns-then-ends_at t c =
     record {
-    writes = climb_ended (c.loop-opened.invariant _ (climb_begins c.skip_groups-first.ensures c.write_operand-so_far.ensures.writes c.write_operand-so_far.ensures.spares)) c.token_at-token.ensures (sym c.closes_group.ensures ∙ c.if-closes_group.false) (sym c.ends_at.ensures ∙ c.if-ends_at.true);
-    spares = (c.loop-opened.invariant _ (climb_begins c.skip_groups-first.ensures c.write_operand-so_far.ensures.writes c.write_operand-so_far.ensures.spares)).spares;
+      writes = climb_ended (c.loop-opened.invariant _ (climb_begins c.skip_groups-first.ensures c.write_operand-so_far.ensures.writes c.write_operand-so_far.ensures.spares)) c.token_at-token.ensures (sym c.closes_group.ensures ∙ c.if-closes_group.false) (sym c.ends_at.ensures ∙ c.if-ends_at.true);
+      spares = (c.loop-opened.invariant _ (climb_begins c.skip_groups-first.ensures c.write_operand-so_far.ensures.writes c.write_operand-so_far.ensures.spares)).spares;
     }
 
 pub write_expression-write_continued-so_far-requires : goal.write_expression-write_continued-so_far-requires
@@ -378,8 +378,8 @@ write_one-deep-requires t c =
 pub write_one-returns-then-left-eq0 : goal.write_one-returns-then-left-eq0
 write_one-returns-then-left-eq0 t c =
     record {
-    writes = deep_node _ _ _ c.requires.0.within c.if-left-eq0.true c.deep.ensures;
-    onward = omega (arith, ap (λ p. p.at) c.deep.ensures, c.requires.2);
+      writes = deep_node _ _ _ c.requires.0.within c.if-left-eq0.true c.deep.ensures;
+      onward = omega (arith, ap (λ p. p.at) c.deep.ensures, c.requires.2);
     }
 
 pub write_one-overflow_add-to : goal.write_one-overflow_add-to
@@ -407,8 +407,8 @@ write_one-returns t c =
     let g = c.statement_tag.ensures in
     let w = c.write_clause-inside.ensures in
     record {
-    writes = one_writes (omega arith) c.requires.1 c.requires.2 c.write_clause-inside.ensures.writes c.write_clause-inside.ensures.spares (rw g at c.close-whole.ensures.part) (rw g at c.close-whole.ensures.stored) c.past_semicolon.ensures;
-    onward = omega (arith, c.past_semicolon.ensures.onward, ap (λ p. p.at) c.close-whole.ensures.part, w.writes.bounds.behind, w.spares c.requires.2);
+      writes = one_writes (omega arith) c.requires.1 c.requires.2 c.write_clause-inside.ensures.writes c.write_clause-inside.ensures.spares (rw g at c.close-whole.ensures.part) (rw g at c.close-whole.ensures.stored) c.past_semicolon.ensures;
+      onward = omega (arith, c.past_semicolon.ensures.onward, ap (λ p. p.at) c.close-whole.ensures.part, w.writes.bounds.behind, w.spares c.requires.2);
     }
 
 pub write_operand-token_at-token-requires : goal.write_operand-token_at-token-requires
