@@ -17,7 +17,7 @@ use Rattle.definition.specs.Decode.{read_session}
 use Rattle.definition.specs.Compile.{Step, Request, turned_down, enough, compile}
 use Rattle.definition.specs.Call.{Lent, Called, request}
 use Rattle.definition.specs.Valid.{All, ValidSession}
-use Rattle.definition.specs.Series.{Call, Start, lent, Alike as AlikeCalls, shaped, ReadsBack}
+use Rattle.definition.specs.Series.{Call, Start, lent, Alike as AlikeCalls, shaped, ReadsBack, session_after}
 use Rattle.definition.specs.Trusted.{TrustedCall, TrustedStep}
 use Rattle.definition.specs.declared.Refusal.{Refusal}
 use Rattle.definition.specs.declared.Answer.TheVariants.{Refused}
@@ -121,7 +121,7 @@ reads_back s z h (t ∷ ts) =
     let n = (traced_turn s z t).step.session in
     All.more
     (record { session = n; end = length (session_fields n); reads = λ room. ap read_session (front d room) ∙ read-session n v.session; valid = v.session; sound = answer_sound d.gave (λ r e. not_session (v.number r e)) })
-    (reads_back _ n d.holds ts)
+    (reads_back (session_after s (turn s t).called.lent.session) n d.holds ts)
 
 -- A session that calls of either kind alone have written always reads back
 pub turns-read_back : {s : Bytes} {w : Words} → Start s w → (ts : List Turn) → All (λ (x : Recorded). ReadsBack x.called) (turns s ts)
@@ -143,7 +143,7 @@ turns_trusted s z h f (t ∷ ts) =
     let d = (turn_does s z h t).call in
     let q = asked s t in
     All.more (wrote d (step_trusted (turn_step s z t) (trusted_step z h.valid f q)).image)
-    (turns_trusted _ (traced_turn s z t).step.session d.holds (step_fits f (turn_step s z t) (keeps_compile fitting z f q).session) ts)
+    (turns_trusted (session_after s (turn s t).called.lent.session) (traced_turn s z t).step.session d.holds (step_fits f (turn_step s z t) (keeps_compile fitting z f q).session) ts)
 
 -- P2 on lent memory, where each call is of either kind
 pub trusted_turns : {s : Bytes} {w : Words} → Start s w → (ts : List Turn) → All (λ (x : Recorded). TrustedCall x.called) (turns s ts)
