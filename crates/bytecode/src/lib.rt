@@ -22,7 +22,7 @@ pub const CHIN_MAIN: u8 = 0x58;
 pub const CHIN_FUNCTION: u8 = 0x63;
 
 // The forms of an image: document 01's, and the chin unit's.
-#[derive(Drop)]
+#[derive(Clone, Copy)]
 pub enum Form {
     Plain,
     Chin,
@@ -49,35 +49,35 @@ pub fn function_tag(form: Form) -> u8
 }
 
 // A field's tag and content length, where the whole field stands before an end.
-#[derive(Drop)]
+#[derive(Clone, Copy)]
 pub enum FieldHead {
     Whole(u8, usize),
     Cut,
 }
 
 // What reading one item finds: the offset after it, or that of what is wrong.
-#[derive(Drop)]
+#[derive(Clone, Copy)]
 pub enum Item {
     Next(usize),
     Wrong(usize),
 }
 
 // What reading items finds: how many there are and the offset after them, or the offset of what is wrong.
-#[derive(Drop)]
+#[derive(Clone, Copy)]
 pub enum Checked {
     Good(usize, usize),
     Wrong(usize),
 }
 
 // What the check of an image answers: how many constants a sound one has, or its refusal.
-#[derive(Drop)]
+#[derive(Clone, Copy)]
 pub enum ImageCheck {
     Sound(usize),
     Refused(Refusal),
 }
 
 // Where a session's parts lie: its words end, its names end, its pool ends, and how many names and constants there are.
-#[derive(Drop)]
+#[derive(Clone, Copy)]
 pub struct SessionLayout {
     pub words_end: usize,
     pub names_end: usize,
@@ -87,7 +87,7 @@ pub struct SessionLayout {
 }
 
 // What reading a session's layout answers.
-#[derive(Drop)]
+#[derive(Clone, Copy)]
 pub enum Layout {
     Sound(SessionLayout),
     Broken,

@@ -6,7 +6,7 @@ use libc::STDOUT_FILENO;
 use tree::Checked;
 
 // A case as it came out, or the end of the cases.
-#[derive(Drop)]
+#[derive(Clone, Copy)]
 enum Case {
     Agrees,
     Differs,
@@ -14,7 +14,7 @@ enum Case {
 }
 
 // How many cases of a topic agree, and how many differ.
-#[derive(Drop)]
+#[derive(Clone, Copy)]
 struct Counts {
     agree: u64,
     differ: u64,

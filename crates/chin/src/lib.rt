@@ -45,7 +45,7 @@ fn write_form(image: &[u8], output: &mut [u8], from: Form) -> Answer
             place: 0,
         });
     }
-    bytes::copy(image, output);
+    output[..len].copy_from_slice(image);
     put_form(output, image, from);
     Answer::Length(len)
 }

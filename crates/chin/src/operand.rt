@@ -7,14 +7,14 @@ use bytecode::Form;
 use opcode::opcodes::{JUMP, JUMP_NOT_TRUTHY};
 
 // An operand in the other form, or that there is none.
-#[derive(Drop)]
+#[derive(Clone, Copy)]
 pub enum Operand {
     Is(usize),
     Lacking,
 }
 
 // Whether jumps have operands in the other form: all do, or the offset of the first that has none.
-#[derive(Drop)]
+#[derive(Clone, Copy)]
 pub enum Jumps {
     Fine,
     Bad(usize),

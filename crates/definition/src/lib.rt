@@ -7,14 +7,14 @@ pub mod number;
 pub mod tag;
 
 // Why a call was refused: document 01's number, and the place, an offset.
-#[derive(Drop)]
+#[derive(Clone, Copy)]
 pub struct Refusal {
     pub number: usize,
     pub place: usize,
 }
 
 // What a call answers: the length of what it wrote, or its refusal.
-#[derive(Drop)]
+#[derive(Clone, Copy)]
 pub enum Answer {
     Length(usize),
     Refused(Refusal),

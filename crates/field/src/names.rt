@@ -6,7 +6,7 @@ ghost use Rattle.field.specs.Row.{HasRow, found_of};
 use super::{after_at, content_at};
 
 // The index of a name, if it is there.
-#[derive(Drop)]
+#[derive(Clone, Copy)]
 pub enum Found {
     At(usize),
     Nothing,

@@ -18,14 +18,14 @@ pub const BAD_SIZE: usize = 23;
 pub const NO_FRAME: usize = 24;
 
 // How many whole frames an image has, and the bytes behind them; or the refusal.
-#[derive(Drop)]
+#[derive(Clone, Copy)]
 pub enum FrameCount {
     Counted(usize, usize),
     Refused(Refusal),
 }
 
 // Where a frame lies in its image, and its length; or the refusal.
-#[derive(Drop)]
+#[derive(Clone, Copy)]
 pub enum FramePlace {
     At(usize, usize),
     Refused(Refusal),

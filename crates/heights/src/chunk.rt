@@ -13,7 +13,7 @@ use crate::effect::{falls, gives, leaps, takes};
 use opcode::{Decoded, Instruction, decode_at};
 
 // What the pass over a chunk finds: its greatest height and how many heights were read so far, or that it fails.
-#[derive(Drop)]
+#[derive(Clone, Copy)]
 pub enum ChunkCheck {
     Top(u32, usize),
     Fails,

@@ -12,21 +12,21 @@ use definition::tag;
 use field::length_at;
 
 // How far the chunks were judged: how many passed, and how many heights were read.
-#[derive(Drop)]
+#[derive(Clone, Copy)]
 pub struct Progress {
     pub chunks: usize,
     pub heights: usize,
 }
 
 // What judging a chunk or a constant behind others finds.
-#[derive(Drop)]
+#[derive(Clone, Copy)]
 pub enum ConstantCheck {
     On(Progress),
     Fails,
 }
 
 // What judging all chunks finds: how many there are, or the place of the first that fails.
-#[derive(Drop)]
+#[derive(Clone, Copy)]
 pub enum PoolCheck {
     Tops(usize),
     Fails(usize),

@@ -16,21 +16,21 @@ use field::{wide, word};
 use opcode::size_at;
 
 // What reading code or a constant finds: the length of its text and the offset after it, or the offset of what is wrong.
-#[derive(Drop)]
+#[derive(Clone, Copy)]
 pub enum Measured {
     Good(usize, usize),
     Wrong(usize),
 }
 
 // What reading constants finds: how many there are, the length of their lines and the offset after them, or the offset of what is wrong.
-#[derive(Drop)]
+#[derive(Clone, Copy)]
 pub enum MeasuredPool {
     Constants(usize, usize, usize),
     Wrong(usize),
 }
 
 // What reading an image answers: how many constants a sound one has and the length of its listing, or its refusal.
-#[derive(Drop)]
+#[derive(Clone, Copy)]
 pub enum MeasuredImage {
     Sound(usize, usize),
     Refused(Refusal),

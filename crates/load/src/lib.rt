@@ -29,7 +29,7 @@ const BLOCK_NEED: usize = 39;
 const STATEMENT_LEVELS: usize = 10;
 
 // What was written at the start of what was lent, and the state after it.
-#[derive(Drop)]
+#[derive(Clone, Copy)]
 pub struct Grown {
     pub len: usize,
     pub state: u32,

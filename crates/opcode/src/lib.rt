@@ -21,7 +21,7 @@ use field::{wide, word};
 use table::{INSTRUCTIONS, NO_INSTRUCTION, PACKED_WIDTHS, STARTS, UNKNOWN_WIDTH, WIDTHS, WORDS};
 
 // An instruction: its byte, its operand, and the captures of a Closure.
-#[derive(Drop)]
+#[derive(Clone, Copy)]
 pub struct Instruction {
     pub op: u8,
     pub operand: u16,
@@ -29,7 +29,7 @@ pub struct Instruction {
 }
 
 // What decoding answers: the instruction and the offset after it, or its refusal.
-#[derive(Drop)]
+#[derive(Clone, Copy)]
 pub enum Decoded {
     Instr(Instruction, usize),
     Refused(Refusal),

@@ -4,7 +4,7 @@
 ghost use Rattle.std.specs.Prelude.{◌≡◌, ◌<◌, length, set};
 
 // What a name stands for, in document 02's order.
-#[derive(Drop)]
+#[derive(Clone, Copy)]
 pub enum Kind {
     Global,
     Local,
@@ -14,7 +14,7 @@ pub enum Kind {
 }
 
 // How an Identifier was resolved: its tree offset, kind and index (0 for a function), and the functions crossed.
-#[derive(Drop)]
+#[derive(Clone, Copy)]
 pub struct Record {
     pub offset: usize,
     pub kind: Kind,

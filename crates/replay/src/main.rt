@@ -10,7 +10,7 @@ use field::{wide, word};
 use libc::STDOUT_FILENO;
 
 // What a record came to: a call that agrees or differs, something between two calls, or the end.
-#[derive(Drop)]
+#[derive(Clone, Copy)]
 enum Record {
     Agrees,
     Differs,
@@ -19,7 +19,7 @@ enum Record {
 }
 
 // The lengths of the session's buffer and of the work areas that are lent.
-#[derive(Drop)]
+#[derive(Clone, Copy)]
 struct Sizes {
     session: usize,
     code: usize,

@@ -16,7 +16,7 @@ use opcode::{Decoded, Instruction};
 
 // Where reading stands in a line: its first letter, whether its bytes have begun, how many there are, the digit that waits for a
 // second one, where the last group began, and how often it is to stand.
-#[derive(Drop)]
+#[derive(Clone, Copy)]
 struct Reading {
     kind: u8,
     begun: bool,
@@ -446,7 +446,7 @@ fn read_part(bytes: &mut [u8], s: Reading, part: &[u8]) -> Reading {
 }
 
 // What reading a file on gives: where reading stands, or nothing more.
-#[derive(Drop)]
+#[derive(Clone, Copy)]
 enum Step {
     More(Reading),
     Done,

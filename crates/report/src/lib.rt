@@ -57,7 +57,7 @@ pub fn print_in_tree(number: usize, place: usize) {
 }
 
 // A line and a column, both from 1.
-#[derive(Drop)]
+#[derive(Clone, Copy)]
 pub struct Position {
     pub line: usize,
     pub column: usize,

@@ -8,7 +8,7 @@ use super::instruction::{Instruction, write_instruction, write_word};
 use definition::limit::CODE_SIZE;
 
 // What emission and patching answer: the chunk afterwards, and whether there was room.
-#[derive(Drop)]
+#[derive(Clone, Copy)]
 pub struct Emitted {
     pub chunk: Chunk,
     pub room: bool,

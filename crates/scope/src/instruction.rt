@@ -4,7 +4,7 @@ ghost use Rattle.std.proofs.lemmas.List.Edits.{sets};
 ghost use Rattle.definition.specs.Opcode.{instr, size, width, operands, bytes_of};
 
 // An instruction to emit: its byte, the number of its operand bytes, and what they are made of.
-#[derive(Drop)]
+#[derive(Clone, Copy)]
 pub struct Instruction {
     pub op: u8,
     pub operands: usize,

@@ -22,7 +22,7 @@ use opcode::table::NO_INSTRUCTION;
 const UNPATCHED: usize = 9999;
 
 // The chunk in work: where it starts in the code area, its length, and in it the positions of its last and its previous instruction.
-#[derive(Drop)]
+#[derive(Clone, Copy)]
 pub struct Chunk {
     pub start: u32,
     pub len: u32,
@@ -32,7 +32,7 @@ pub struct Chunk {
 
 // The compiler's state beside the lent memory: the chunk in work, the number of open functions, the number of constants, and in the
 // session the offsets where the names and the constants end.
-#[derive(Drop)]
+#[derive(Clone, Copy)]
 pub struct State {
     pub chunk: Chunk,
     pub level: u32,
@@ -42,14 +42,14 @@ pub struct State {
 }
 
 // The walk so far: it goes on in a state, or has stopped at a refusal, in the state where it stopped.
-#[derive(Drop)]
+#[derive(Clone, Copy)]
 pub enum Walked {
     On(State),
     Stop(definition::Refusal, State),
 }
 
 // A jump that was emitted, and its position in its chunk.
-#[derive(Drop)]
+#[derive(Clone, Copy)]
 pub struct Jumped {
     pub walked: Walked,
     pub at: usize,

@@ -25,7 +25,5 @@ module _ (l : Bytes) (i k : ℕ) (h : i + k ≤ length l) where
   part_zeroed e = ap (put_mid i k l) (e ∙ ap (λ n. replicate n 0) part_length) ∙ part-stored (replicate k 0) (length-replicate k 0)
 
   -- they come back as a copy
-  pub part_copied : (xs : Bytes) {last : Bytes} → length xs ≡ k → last ≡ take (length xs) xs ++ drop (length xs) (take k (drop i l)) → put_mid i k l last ≡ sets l i xs
-  part_copied xs s e =
-      let none = drop_of_length-le (take k (drop i l)) {i = length xs} (omega (arith, part_length)) in
-      ap (put_mid i k l) (e ∙ (λ j. take-length xs j ++ none j) ∙ append-nil xs) ∙ part-stored xs s
+  pub part_copied : (xs : Bytes) {last : Bytes} → length xs ≡ k → last ≡ xs → put_mid i k l last ≡ sets l i xs
+  part_copied xs s e = ap (put_mid i k l) e ∙ part-stored xs s

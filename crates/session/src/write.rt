@@ -10,7 +10,7 @@ pub fn copy(out: &mut [u8], at: usize, from: &[u8])
     ensures { out.new ≡ sets out.old at from.now }
 {
     let end = at + from.len();
-    bytes::copy(from, &mut out[at..end]);
+    out[at..end].copy_from_slice(from);
 }
 
 // Writes a field's head: its tag, and the length of its content in two bytes.

@@ -26,7 +26,7 @@ use symbol_table::{Definition, Lookup, load_of, resolve_name};
 const NESTING_LIMIT: u32 = limit::NESTING_LIMIT as u32;
 
 // A definition: the walk, and the instruction that will set it.
-#[derive(Drop)]
+#[derive(Clone, Copy)]
 pub struct Defining {
     pub walked: Walked,
     pub op: u8,
@@ -34,7 +34,7 @@ pub struct Defining {
 }
 
 // A constant that was added, and its index.
-#[derive(Drop)]
+#[derive(Clone, Copy)]
 pub struct Added {
     pub walked: Walked,
     pub index: usize,

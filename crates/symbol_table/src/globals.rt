@@ -20,7 +20,7 @@ use super::{Definition, Hit};
 use field::names::same_name;
 
 // Where a global more goes: an index of the area, and the number that is to stand there.
-#[derive(Drop)]
+#[derive(Clone, Copy)]
 struct Place {
     at: usize,
     number: u32,

@@ -29,14 +29,14 @@ use opcode::opcodes;
 use words::find_builtin;
 
 // The code of a symbol that a table has for a name.
-#[derive(Drop)]
+#[derive(Clone, Copy)]
 pub enum Hit {
     At(u32),
     Nothing,
 }
 
 // What a lookup gives: the code of the symbol and the functions crossed, an undefined name, or a table with no room for a free symbol.
-#[derive(Drop)]
+#[derive(Clone, Copy)]
 pub enum Lookup {
     Found(u32, usize),
     Undefined,
@@ -44,7 +44,7 @@ pub enum Lookup {
 }
 
 // Where a definition goes: its index, or the table that is full.
-#[derive(Drop)]
+#[derive(Clone, Copy)]
 pub enum Definition {
     Global(u32),
     Local(u32),
@@ -53,7 +53,7 @@ pub enum Definition {
 }
 
 // An instruction with at most one operand, and the number of its operand bytes.
-#[derive(Drop)]
+#[derive(Clone, Copy)]
 pub struct Load {
     pub op: u8,
     pub operands: usize,

@@ -17,7 +17,7 @@ use crate::shape::{operand_tag, separating};
 use definition::tag;
 
 // The offset behind it in the text and in the output, its levels of fields, and its tag if it is one field.
-#[derive(Drop)]
+#[derive(Clone, Copy)]
 pub struct Part {
     pub at: usize,
     pub to: usize,
@@ -26,7 +26,7 @@ pub struct Part {
 }
 
 // Where an operand stands, behind so many parentheses.
-#[derive(Drop)]
+#[derive(Clone, Copy)]
 pub struct Groups {
     pub at: usize,
     pub opened: usize,

@@ -23,14 +23,14 @@ use pass::name_tree;
 use tree::Checked;
 
 // What a call with records gives: the answer, and how many records are in the log.
-#[derive(Drop)]
+#[derive(Clone, Copy)]
 pub struct CallTrace {
     pub answer: Answer,
     pub count: usize,
 }
 
 // What is known before the tree is compiled: how many records there will be, and the length of the session's names.
-#[derive(Drop)]
+#[derive(Clone, Copy)]
 pub struct Outlook {
     pub count: usize,
     pub names: usize,

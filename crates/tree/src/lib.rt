@@ -18,7 +18,7 @@ ghost use Rattle.tree.specs.Check.{verdict, bad_tree, too_deep, outcome_of, next
 use grammar::{child_kinds, first_kind, good_content, good_tag, is_leaf, may_end, turn};
 
 // What the check of a tree, of a field or of its children comes to.
-#[derive(Drop)]
+#[derive(Clone, Copy)]
 pub enum Checked {
     Good,
     Refused(Refusal),

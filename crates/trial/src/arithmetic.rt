@@ -4,7 +4,7 @@ ghost use Rattle.trial.specs.Words.{natural, magnitude, with_sign, alike, word_s
 ghost use Rattle.trial.specs.Cells.{word_from};
 
 // A word that fits, or none.
-#[derive(Drop)]
+#[derive(Clone, Copy)]
 pub enum Word {
     Fits(u64),
     Over,

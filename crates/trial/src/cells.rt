@@ -11,7 +11,7 @@ use crate::arithmetic::{Word, difference, less, minus, product, quotient, sum};
 use opcode::opcodes;
 
 // A value: its kind (0 none, 1 integer, 2 boolean, 3 null) and its word.
-#[derive(Drop)]
+#[derive(Clone, Copy)]
 pub struct Cell {
     pub kind: u64,
     pub word: u64,

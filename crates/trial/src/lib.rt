@@ -29,7 +29,7 @@ use scan::{Scanned, scan};
 pub const WORK_SIZE: usize = 4096;
 
 // What a trial run answers: how many globals it wrote and the instructions executed, or its refusal.
-#[derive(Drop)]
+#[derive(Clone, Copy)]
 pub enum RunAnswer {
     Ran(usize, usize),
     Refused(Refusal),

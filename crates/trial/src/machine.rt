@@ -22,7 +22,7 @@ pub const OPERAND: usize = 28;
 pub const UNSET: usize = 29;
 
 // A run that goes on: the offset that it stands before, the height of its stack, the instructions executed.
-#[derive(Drop)]
+#[derive(Clone, Copy)]
 pub struct State {
     pub next: usize,
     pub height: usize,
@@ -30,7 +30,7 @@ pub struct State {
 }
 
 // What a step gives: the run goes on; ReturnValue ended it, with its steps; or it stops with a number.
-#[derive(Drop)]
+#[derive(Clone, Copy)]
 pub enum Stepped {
     On(State),
     Returned(usize),
@@ -38,7 +38,7 @@ pub enum Stepped {
 }
 
 // What a run gives: its steps, or a number and an offset.
-#[derive(Drop)]
+#[derive(Clone, Copy)]
 pub enum Ended {
     Ran(usize),
     Stopped(usize, usize),

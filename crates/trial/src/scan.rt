@@ -14,7 +14,7 @@ use heights::chunk::pass;
 use opcode::{Decoded, Instruction, decode_at, opcodes};
 
 // What going over main finds: how many globals it names, or the offset of the first instruction that a run does not take.
-#[derive(Drop)]
+#[derive(Clone, Copy)]
 pub enum Scanned {
     Names(usize),
     Refuses(usize),

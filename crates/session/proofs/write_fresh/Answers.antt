@@ -1,0 +1,13 @@
+-- `session::write_fresh` meets its contract: a short buffer is left alone; any other is zeroed, and gets the two heads.
+use Rattle.session.proofs.Fresh.{made_short, made-fresh}
+use Rattle.session.proofs.write_fresh.Goals as goal
+
+pub returns-then-session-lt-SESSION_SIZE : goal.returns-then-session-lt-SESSION_SIZE
+returns-then-session-lt-SESSION_SIZE c = made_short c.args.session.now c.if-session-lt-SESSION_SIZE.true
+
+pub returns : goal.returns
+returns c =
+    let first = c in
+    let zeroed = first in
+    let entry = zeroed in
+    made-fresh entry.args.session.now zeroed.if-session-lt-SESSION_SIZE.false zeroed.restore.ensures first.put_head.ensures c.put_head-2.ensures
