@@ -1,14 +1,14 @@
 -- Where loops go on, there is text left.
-use Prim.Native.Nat.{ℕ, ◌+◌, ◌*◌, ◌≤◌, ◌<◌}
+use Prim.Native.Nat.{ℕ, ◌≤◌, ◌<◌}
 use native.Mathlib.Omega.{arith}
 use mathlib.Core.Bool.{Bool, true, false}
-use mathlib.Core.Path.{◌≡◌, refl, sym, ap, ◌∙◌}
+use mathlib.Core.Path.{◌≡◌, refl}
 use lib.Dec.{eqb, ltb}
 use borrow.Author.Tests.{eqb-true, ltb-true, ltb-false}
 use Rattle.definition.specs.Basic.{Bytes, pick}
-use Rattle.definition.proofs.Basic.{chosen, both_true}
+use Rattle.definition.proofs.Basic.{both_true}
 use Rattle.text.specs.Kind.{close_paren, ended}
-use Rattle.text.specs.Shape.{tight_of, closes_group, ends_at, closing, separating, ending}
+use Rattle.text.specs.Shape.{closes_group, ends_at, closing, ending}
 use Rattle.text.specs.Parts.{end_of, Sees, Bounds, Spares}
 use Rattle.text.specs.declared.part.Part.{Part}
 use Rattle.text.specs.declared.scan.Token as piece

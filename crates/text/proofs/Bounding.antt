@@ -1,11 +1,10 @@
 -- How far parts put together get.
-use Prim.Native.Nat.{ℕ, zero, suc, ◌+◌, ◌*◌, ◌-◌, ◌≤◌, ◌<◌}
+use Prim.Native.Nat.{ℕ, suc, ◌+◌, ◌-◌, ◌≤◌, ◌<◌}
 use native.Mathlib.Omega.{arith}
-use mathlib.Core.Path.{◌≡◌, refl, sym, ap, ◌∙◌}
+use mathlib.Core.Path.{◌≡◌, refl, ap, ◌∙◌}
 use lib.ListN.{length}
 use lib.Seq.{sets, length-sets}
 use Rattle.definition.specs.Basic.{Bytes}
-use Rattle.text.specs.Node.{larger}
 use Rattle.text.specs.Parts.{end_of, head_of, Bounds, joined_of, moved_on, closed_of}
 use Rattle.text.specs.declared.part.Part.{Part}
 use Rattle.text.proofs.Larger.{larger_is}

@@ -1,23 +1,22 @@
 -- Expressions: the operand, and what is made of it token by token.
-use Prim.Native.Nat.{ℕ, zero, suc, ◌+◌, ◌*◌, ◌-◌, ◌≤◌, ◌<◌}
+use Prim.Native.Nat.{ℕ, suc, ◌+◌, ◌*◌, ◌-◌, ◌≤◌, ◌<◌}
 use native.Mathlib.Omega.{arith}
 use mathlib.Core.Bool.{Bool, true, false}
 use mathlib.Core.Path.{◌≡◌, refl, sym, ap, subst, ◌∙◌}
-use lib.ListN.{length}
-use lib.Dec.{eqb, ltb}
+use lib.Dec.{ltb}
 use borrow.Author.Tests.{eqb-false, ne_eqb, ltb-true, ltb-false}
 use Rattle.definition.specs.Basic.{Bytes}
-use Rattle.text.specs.Kind.{open_paren, ended}
+use Rattle.text.specs.Kind.{open_paren}
 use Rattle.text.specs.Token.{Row, kind_of, behind}
-use Rattle.text.specs.Node.{Node, node, Nodes, ◌then◌, written, levels, levels_all}
+use Rattle.text.specs.Node.{Node, node, ◌then◌, written, levels, levels_all}
 use Rattle.text.specs.Shape.{tight_of, closes_group, ends_at, continued_tag}
 use Rattle.text.specs.Parse.{ExpressionRow, ClimbRow, OperandRow, InsideRow}
-use Rattle.text.specs.Parts.{end_of, row_at, Sees, Put, PutNode, tag_of, Bounds, Spares, WritesNode, Skips, Continues, moved_on}
+use Rattle.text.specs.Parts.{end_of, row_at, Sees, Put, PutNode, Bounds, Spares, WritesNode, Skips, Continues, moved_on}
 use Rattle.text.specs.declared.part.Part.{Part}
 use Rattle.text.specs.declared.part.Groups.{Groups}
 use Rattle.text.specs.declared.scan.Token as piece
 use Rattle.text.proofs.Larger.{larger_is}
-use Rattle.text.proofs.Bounding.{bounds_from, bounds_behind, bounds_on}
+use Rattle.text.proofs.Bounding.{bounds_from, bounds_on}
 use Rattle.text.proofs.Operands.{no_both_ways}
 
 -- what continues an operand holds it

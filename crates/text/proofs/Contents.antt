@@ -1,20 +1,18 @@
 -- The contents of tokens, and the fields made of them.
-use Prim.Native.Nat.{ℕ, zero, suc, ◌+◌, ◌-◌, ◌≤◌, ◌<◌}
+use Prim.Native.Nat.{ℕ, ◌+◌, ◌-◌, ◌≤◌}
 use native.Mathlib.Omega.{arith}
-use mathlib.Core.List.{[], ◌∷◌, ◌++◌}
+use mathlib.Core.List.{[], ◌∷◌}
 use mathlib.Core.Path.{◌≡◌, refl, sym, ap, subst, ◌∙◌}
 use lib.ListN.{length}
 use lib.Seq.{sets}
-use lib.Dec.{eqb}
 use borrow.Author.Tests.{eq-eqb, ne_eqb, le-leb}
-use Rattle.definition.specs.Basic.{Bytes, byte_at, pick}
+use Rattle.definition.specs.Basic.{Bytes, byte_at}
 use Rattle.definition.specs.Field.{field, bytes}
 use Rattle.session.proofs.Stores.{sets_before}
 use Rattle.text.specs.Kind.{an_integer, a_string, true_word, false_word, semicolon}
-use Rattle.text.specs.Token.{kind_of, behind}
+use Rattle.text.specs.Token.{kind_of}
 use Rattle.text.specs.Scan.{value, eight, integer_limit}
 use Rattle.text.specs.Seen.{capped}
-use Rattle.text.specs.Parse.{past_semicolon}
 use Rattle.text.specs.Parts.{end_of, head_of, row_at, content_of, Sees, Passes, moved_on}
 use Rattle.text.specs.declared.part.Part.{Part}
 use Rattle.text.specs.declared.scan.Token as piece

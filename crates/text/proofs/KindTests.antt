@@ -2,16 +2,16 @@
 use Prim.Native.Nat.{ℕ, zero, suc, ◌+◌, ◌≤◌, ◌<◌}
 use native.Mathlib.Omega.{arith}
 use mathlib.Core.Bool.{Bool, true, false}
-use mathlib.Core.Path.{◌≡◌, refl, sym, ap, ◌∙◌}
-use lib.Dec.{leb, ltb, eqb}
-use borrow.Author.Tests.{eq-eqb, ne_eqb, lt-ltb, le-ltb, le-leb, lt-leb, eqb-true, eqb-false, leb-true}
-use Rattle.definition.specs.Basic.{pick, both}
+use mathlib.Core.Path.{◌≡◌, refl, ap}
+use lib.Dec.{ltb, eqb}
+use borrow.Author.Tests.{ne_eqb, lt-ltb, le-ltb, le-leb, lt-leb}
+use Rattle.definition.specs.Basic.{both}
 use Rattle.definition.specs.Tag.{tag_infix, tag_expr_stmt}
 use Rattle.definition.proofs.Basic.{chosen}
-use Rattle.text.specs.Kind.{let_word, return_word, a_name, open_paren, minus, plus, else_word, close_paren, semicolon, close_brace, comma, colon, ended, if_word, fn_word}
+use Rattle.text.specs.Kind.{let_word, return_word, a_name, open_paren, minus, plus, else_word, close_paren, close_brace, comma, ended, if_word, fn_word}
 use Rattle.text.specs.Grammar.{Infix}
 use Rattle.text.specs.Scan.{either}
-use Rattle.text.specs.Shape.{tight_of, closes_group, ends_at, closing, separating, ending, is_list, is_leaf, operator_of, continued_tag, statement_tag}
+use Rattle.text.specs.Shape.{tight_of, closes_group, ends_at, closing, separating, ending, is_list, operator_of, continued_tag, statement_tag}
 
 -- both, with one that fails
 pub both_no : (a : Bool) {b : Bool} → b ≡ false → both a b ≡ false

@@ -1,26 +1,26 @@
 -- Loops that put one part behind the other: statements, items, names.
-use Prim.Native.Nat.{ℕ, zero, suc, ◌+◌, ◌*◌, ◌-◌, ◌≤◌, ◌<◌}
+use Prim.Native.Nat.{ℕ, ◌≤◌, ◌<◌}
 use native.Mathlib.Omega.{arith}
 use mathlib.Core.Bool.{Bool, true, false}
-use mathlib.Core.List.{[], ◌∷◌, ◌++◌}
+use mathlib.Core.List.{◌++◌}
 use mathlib.Core.Path.{◌≡◌, refl, sym, ap, subst, ◌∙◌}
 use lib.ListN.{length}
-use lib.Seq.{sets, length-sets}
+use lib.Seq.{length-sets}
 use lib.Dec.{eqb}
-use borrow.Author.Tests.{eqb-true, eqb-false, eq-eqb, ne_eqb}
+use borrow.Author.Tests.{eqb-true, eqb-false}
 use Rattle.definition.specs.Basic.{Bytes, pick}
 use Rattle.definition.specs.Field.{field}
 use Rattle.definition.specs.Tag.{tag_name}
-use Rattle.text.specs.Kind.{a_name, comma, ended}
+use Rattle.text.specs.Kind.{a_name, comma}
 use Rattle.text.specs.Token.{Row, kind_of, bytes_of, behind}
-use Rattle.text.specs.Node.{Node, leaf, node, Nodes, none, ◌then◌, one, written, written_all, levels, levels_all, larger}
+use Rattle.text.specs.Node.{leaf, Nodes, written, written_all, levels, levels_all, larger}
 use Rattle.text.specs.Shape.{closing, separating, ending}
 use Rattle.text.specs.Parse.{item_row, NamesRow, ExpressionRow, ListRow, StatementsRow, StatementRow}
-use Rattle.text.specs.Parts.{end_of, row_at, denoted, content_of, Sees, Put, PutNode, PutToken, Bounds, WritesNode, Writes, joined_of, moved_on}
+use Rattle.text.specs.Parts.{end_of, row_at, denoted, content_of, Sees, Put, PutToken, Bounds, WritesNode, Writes, joined_of, moved_on}
 use Rattle.text.specs.declared.part.Part.{Part}
 use Rattle.text.specs.declared.scan.Token as piece
 use Rattle.text.proofs.Larger.{larger_is}
-use Rattle.text.proofs.Bounding.{bounds_none, bounds_from, bounds_behind, bounds_on}
+use Rattle.text.proofs.Bounding.{bounds_none, bounds_behind, bounds_on}
 use Rattle.text.proofs.Putting.{put_on, put_same, Going, going_begins, going_on, going_ends, going_lost}
 use Rattle.text.proofs.Writing.{put_leaf_field}
 

@@ -1,23 +1,23 @@
 -- Operands, what stands inside their fields, and what continues them.
-use Prim.Native.Nat.{ℕ, zero, suc, ◌+◌, ◌*◌, ◌-◌, ◌≤◌, ◌<◌}
+use Prim.Native.Nat.{ℕ, zero, suc, ◌+◌, ◌-◌, ◌≤◌, ◌<◌}
 use native.Mathlib.Omega.{arith}
 use mathlib.Core.Bool.{Bool, true, false}
 use mathlib.Core.List.{[], ◌∷◌, ◌++◌}
 use mathlib.Core.Path.{◌≡◌, refl, sym, ap, subst, ◌∙◌}
 use lib.ListN.{length, length-append}
 use lib.Seq.{sets, length-sets}
-use lib.Dec.{eqb, leb, ltb}
-use borrow.Author.Tests.{eqb-true, eqb-false, eq-eqb, ne_eqb, le-ltb, leb-true}
-use Rattle.definition.specs.Basic.{Bytes, byte_at, pick, both}
+use lib.Dec.{leb, ltb}
+use borrow.Author.Tests.{eqb-true, eqb-false, le-ltb, leb-true}
+use Rattle.definition.specs.Basic.{Bytes, byte_at}
 use Rattle.definition.specs.Field.{field, bytes}
 use Rattle.definition.specs.Tag.{tag_operator}
 use Rattle.definition.proofs.Basic.{chosen, both_true}
 use Rattle.text.specs.Kind.{a_name, false_word, if_word, fn_word, ended}
-use Rattle.text.specs.Token.{Row, kind_of, bytes_of, behind}
-use Rattle.text.specs.Node.{Node, leaf, node, Nodes, none, ◌then◌, one, operator, written, written_all, levels, levels_all, larger}
+use Rattle.text.specs.Token.{Row, kind_of, bytes_of}
+use Rattle.text.specs.Node.{Node, node, Nodes, ◌then◌, written, written_all, levels, levels_all, larger}
 use Rattle.text.specs.Shape.{tight_of, is_leaf, is_list, operator_of, continued_tag, operand_tag, leaf_bytes}
 use Rattle.text.specs.Parse.{ExpressionRow, OperandRow, InsideRow, ListRow, IfRow, FunctionRow}
-use Rattle.text.specs.Parts.{end_of, head_of, moved_by, row_at, denoted, content_of, Sees, Put, PutNode, PutToken, tag_of, Bounds, Spares, WritesNode, Writes, Continues, joined_of, closed_of}
+use Rattle.text.specs.Parts.{end_of, head_of, moved_by, row_at, denoted, content_of, Sees, Put, PutNode, PutToken, Bounds, Spares, WritesNode, Writes, Continues, joined_of, closed_of}
 use Rattle.text.specs.declared.part.Part.{Part}
 use Rattle.text.specs.declared.scan.Token as piece
 use Rattle.text.proofs.Larger.{larger_is}

@@ -1,17 +1,17 @@
 -- What the grammar derives is what passes 2 and 3 read: by tightness and with counted parentheses.
-use Prim.Native.Nat.{ℕ, zero, suc, ◌+◌, ◌-◌, ◌≤◌, ◌<◌}
+use Prim.Native.Nat.{ℕ, suc, ◌+◌, ◌-◌, ◌≤◌, ◌<◌}
 use native.Mathlib.Omega.{arith}
 use mathlib.Core.Bool.{true, false}
 use mathlib.Core.List.{[], ◌∷◌}
-use mathlib.Core.Path.{◌≡◌, refl, sym, ap, ◌∙◌}
+use mathlib.Core.Path.{◌≡◌, refl}
 use lib.Dec.{eqb}
 use borrow.Author.Tests.{ne_eqb}
-use Rattle.definition.specs.Basic.{Bytes, pick}
-use Rattle.definition.specs.Tag.{tag_expr_stmt, tag_infix, tag_name}
-use Rattle.text.specs.Kind.{let_word, return_word, a_name, open_paren, open_bracket, plus, else_word, close_paren, comma, colon, semicolon}
+use Rattle.definition.specs.Basic.{Bytes}
+use Rattle.definition.specs.Tag.{tag_expr_stmt, tag_infix}
+use Rattle.text.specs.Kind.{let_word, return_word, a_name, open_paren, plus, else_word, close_paren, comma, semicolon}
 use Rattle.text.specs.Token.{token, Row, kind_of, behind}
-use Rattle.text.specs.Node.{Node, leaf, node, Nodes, none, ◌then◌, one, operator, named}
-use Rattle.text.specs.Grammar.{Is, Infix, Prefixed, Names, Parameters, Statements, More, Statement, Block, Expression, Binary, Prefix, Postfix, Primary, Branches, Items, SomeItems, Pairs, SomePairs, Script}
+use Rattle.text.specs.Node.{Node, node, Nodes, ◌then◌, one, operator}
+use Rattle.text.specs.Grammar.{Is, Prefixed, Names, Parameters, Statements, More, Statement, Block, Expression, Binary, Prefix, Postfix, Primary, Branches, Items, SomeItems, Pairs, SomePairs}
 use Rattle.text.specs.Shape.{tight_of, closes_group, closing, separating, ending, is_leaf, is_list, operator_of, continued_tag, operand_tag, statement_tag, leaf_bytes}
 use Rattle.text.specs.Parse.{item_row, past_semicolon, NamesRow, ParametersRow, LetRow, ExpressionRow, ClimbRow, OperandRow, InsideRow, ListRow, IfRow, ElseRow, FunctionRow, BlockRow, StatementsRow, StatementRow, ClauseRow}
 use Rattle.text.proofs.Follow.{Begins, first_expression}

@@ -1,16 +1,16 @@
 -- Parts put one behind the other, within a field, and in a row: what was put of the whole.
-use Prim.Native.Nat.{ℕ, zero, suc, ◌+◌, ◌*◌, ◌-◌, ◌≤◌, ◌<◌}
+use Prim.Native.Nat.{ℕ, suc, ◌+◌, ◌-◌, ◌≤◌, ◌<◌}
 use native.Mathlib.Omega.{arith}
-use mathlib.Core.List.{[], ◌∷◌, ◌++◌, append_assoc, append-nil}
+use mathlib.Core.List.{[], ◌++◌, append_assoc, append-nil}
 use mathlib.Core.Path.{◌≡◌, refl, sym, ap, ◌∙◌}
 use lib.ListN.{length, length-append}
-use lib.Seq.{sets, length-sets}
+use lib.Seq.{sets}
 use Rattle.definition.specs.Basic.{Bytes}
 use Rattle.definition.specs.Field.{field}
 use Rattle.session.proofs.Stores.{sets_append, sets_before}
 use Rattle.text.specs.Token.{Row}
-use Rattle.text.specs.Node.{Node, node, Nodes, none, ◌then◌, one, written, written_all, levels, levels_all, larger}
-use Rattle.text.specs.Parts.{row_at, head_of, Put, PutNode, tag_of, joined_of, moved_on, closed_of}
+use Rattle.text.specs.Node.{Node, Nodes, none, ◌then◌, one, written, written_all, levels, levels_all, larger}
+use Rattle.text.specs.Parts.{row_at, head_of, Put, joined_of, moved_on, closed_of}
 use Rattle.text.specs.declared.part.Part.{Part}
 use Rattle.text.proofs.Larger.{larger_is, larger_assoc, larger_zero, zero_larger}
 

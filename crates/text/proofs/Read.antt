@@ -1,32 +1,27 @@
 -- A text that pass 1 takes: its tree, put twice, is what the definition answers.
-use Prim.Native.Nat.{ℕ, zero, suc, ◌+◌, ◌-◌, ◌≤◌, ◌<◌}
+use Prim.Native.Nat.{ℕ, zero, suc, ◌-◌, ◌≤◌, ◌<◌}
 use native.Mathlib.Omega.{arith}
-use mathlib.Core.Bool.{Bool, true, false}
 use mathlib.Core.List.{[], ◌∷◌}
 use mathlib.Core.Path.{◌≡◌, refl, sym, ap, subst, ◌∙◌}
 use lib.ListN.{length}
 use lib.Seq.{sets, length-sets}
-use lib.Dec.{ltb, leb}
 use borrow.Author.Tests.{lt-ltb, le-ltb}
-use Rattle.definition.specs.Basic.{Bytes, byte_at, pick}
+use Rattle.definition.specs.Basic.{Bytes, byte_at}
 use Rattle.definition.specs.Limit.{tree_limit, level_limit}
 use Rattle.definition.specs.Number
 use Rattle.definition.specs.Number.{refusal}
-use Rattle.definition.specs.Output.{over}
 use Rattle.definition.specs.Tag.{tag_program}
 use Rattle.definition.specs.declared.Answer.{Answer}
 use Rattle.definition.specs.declared.Answer.TheVariants.{Length, Refused as AnswerRefused}
 use Rattle.definition.specs.declared.Refusal.{Refusal}
 use Rattle.session.proofs.Stores.{sets_over}
-use Rattle.text.specs.Token.{Token, Row}
+use Rattle.text.specs.Token.{Row}
 use Rattle.text.specs.Node.{Node, node, Nodes, written, levels}
-use Rattle.text.specs.Grammar.{Statements, Script as ScriptRow}
-use Rattle.text.specs.Reader.{Result, ok, bad, starved}
-use Rattle.text.specs.Scan.{Next, next_at, Tail, whole, cut, Scanned, scanned, scan_next, scan, scan_text, smaller}
+use Rattle.text.specs.Grammar.{Script as ScriptRow}
+use Rattle.text.specs.Reader.{Result, ok, bad}
+use Rattle.text.specs.Scan.{Next, next_at, Tail, whole, cut, Scanned, scan_next, scan, scan_text, smaller}
 use Rattle.text.specs.Script.{Outcome, tree, refused, judged, read_row, read_text, answer_of, output_of}
-use Rattle.text.specs.Machine.{recognize}
 use Rattle.text.specs.Recognize.{recognition, closing, recognize_text}
-use Rattle.text.specs.declared.recognize.Recognized.{Recognized}
 use Rattle.text.specs.declared.recognize.Recognized.TheVariants.{Script, Refused}
 use Rattle.text.specs.Parse.{StatementsRow}
 use Rattle.text.specs.Parts.{row_from, row_next, row_at, head_of, Put, PutsTree, Writes, closed_of}

@@ -6,14 +6,14 @@ use mathlib.Core.List.{[], ◌∷◌}
 use mathlib.Core.Path.{◌≡◌, refl, sym, ap, subst, ◌∙◌}
 use lib.ListN.{length}
 use lib.Dec.{leb, ltb, eqb}
-use borrow.Author.Tests.{leb-true, leb-false, ltb-true, ltb-false, eqb-false, eqb-true, eq-eqb, ne_eqb, le-leb, lt-leb}
+use borrow.Author.Tests.{leb-true, leb-false, ltb-true, ltb-false, eqb-false}
 use Rattle.definition.specs.Basic.{Bytes, byte_at, pick, both}
 use Rattle.definition.specs.Limit.{name_limit}
 use Rattle.definition.specs.Field.{bytes}
 use Rattle.definition.proofs.Basic.{chosen, both_true}
-use Rattle.text.specs.Kind.{a_name, an_integer, a_string, bang, assign, equal, unequal, ended}
-use Rattle.text.specs.Token.{Token, token, Row, kind_of, bytes_of, behind}
-use Rattle.text.specs.Scan.{words, marks, kind_in, value, eight, Next, no_mark, ending, either, is_blank, is_letter, is_digit, is_inside, smaller, skip, up_to, word_at, integer_at, string_at, mark_at, next_at, text_limit, integer_limit}
+use Rattle.text.specs.Kind.{a_name, an_integer, a_string, bang, assign, ended}
+use Rattle.text.specs.Token.{Token, token, kind_of, bytes_of, behind}
+use Rattle.text.specs.Scan.{words, marks, kind_in, value, Next, no_mark, ending, either, is_blank, is_letter, is_digit, is_inside, smaller, skip, up_to, word_at, integer_at, string_at, mark_at, next_at, text_limit, integer_limit}
 use Rattle.text.specs.Seen.{ahead}
 use Rattle.text.specs.Parts.{end_of, row_next, row_from, row_at, denoted, Sees}
 use Rattle.text.specs.declared.scan.Token as piece

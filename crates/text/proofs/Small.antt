@@ -1,13 +1,12 @@
 -- What is answered is small: numbers, places and lengths.
-use Prim.Native.Nat.{ℕ, zero, suc, ◌+◌, ◌-◌, ◌≤◌, ◌<◌}
+use Prim.Native.Nat.{ℕ, zero, suc, ◌+◌, ◌-◌, ◌≤◌}
 use native.Mathlib.Omega.{arith}
-use mathlib.Core.Bool.{Bool, true, false}
 use mathlib.Core.List.{[], ◌∷◌}
-use mathlib.Core.Path.{◌≡◌, refl, sym, ap, subst, ◌∙◌}
+use mathlib.Core.Path.{sym, subst}
 use lib.ListN.{length, replicate, length-replicate}
 use lib.Dec.{leb, ltb, eqb}
-use borrow.Author.Tests.{leb-true, leb-false, ltb-false, eqb-true}
-use Rattle.definition.specs.Basic.{Bytes, byte_at, pick, both}
+use borrow.Author.Tests.{leb-true, ltb-false, eqb-true}
+use Rattle.definition.specs.Basic.{Bytes, byte_at, both}
 use Rattle.definition.specs.Limit.{name_limit, tree_limit, level_limit}
 use Rattle.definition.specs.Field.{bytes}
 use Rattle.definition.specs.Number.{refusal}
@@ -15,17 +14,17 @@ use Rattle.definition.specs.declared.Refusal.{Refusal}
 use Rattle.definition.specs.declared.Answer.{Answer}
 use Rattle.definition.specs.declared.Answer.TheVariants.{Length, Refused as AnswerRefused}
 use Rattle.definition.proofs.Basic.{chosen}
-use Rattle.text.specs.Kind.{bang, assign, equal, unequal}
+use Rattle.text.specs.Kind.{bang, assign}
 use Rattle.text.specs.Token.{Token, token}
 use Rattle.text.specs.Node.{Node, written, levels}
 use Rattle.text.specs.Reader.{Result, ok, bad, starved}
 use Rattle.text.specs.Scan.{Next, next_at, marks, kind_in, value, no_mark, ending, either, is_blank, is_letter, is_digit, is_inside, smaller, skip, up_to, word_at, integer_at, string_at, mark_at, text_limit, integer_limit, whole, stopped, scan_text}
 use Rattle.text.specs.Machine.{Mode, Stack, Step, go, stuck, step, at_row_end}
-use Rattle.text.specs.Recognize.{recognition, recognize_text, end_at, large_step, next_step, recognize_next, recognize_from}
+use Rattle.text.specs.Recognize.{recognition, recognize_text, large_step, next_step, recognize_next, recognize_from}
 use Rattle.text.specs.Script.{Outcome, judged, read_row, read_text, answer_of}
 use Rattle.text.specs.declared.recognize.Recognized.{Recognized}
 use Rattle.text.specs.declared.recognize.Recognized.TheVariants.{Script, Refused}
-use Rattle.text.proofs.Enough.{Moves, moves_next, skip_most, smaller_left}
+use Rattle.text.proofs.Enough.{Moves, moves_next, skip_most}
 use Rattle.text.proofs.Settled.{settled, judged_row, settles}
 use Rattle.text.proofs.Turns.{begins}
 

@@ -1,28 +1,28 @@
 -- The values of `let`, and what statements have inside.
-use Prim.Native.Nat.{ℕ, zero, suc, ◌+◌, ◌*◌, ◌-◌, ◌≤◌, ◌<◌}
+use Prim.Native.Nat.{ℕ, suc, ◌+◌, ◌-◌, ◌≤◌, ◌<◌}
 use native.Mathlib.Omega.{arith}
 use mathlib.Core.Bool.{Bool, true, false}
-use mathlib.Core.List.{[], ◌∷◌, ◌++◌}
+use mathlib.Core.List.{[], ◌++◌}
 use mathlib.Core.Path.{◌≡◌, refl, sym, ap, subst, ◌∙◌}
 use lib.ListN.{length, length-append}
 use lib.Seq.{sets, length-sets}
 use lib.Dec.{eqb}
-use borrow.Author.Tests.{eqb-true, eqb-false, eq-eqb, ne_eqb, le-ltb}
-use Rattle.definition.specs.Basic.{Bytes, byte_at, pick}
+use borrow.Author.Tests.{eqb-true, eqb-false, ne_eqb, le-ltb}
+use Rattle.definition.specs.Basic.{Bytes, byte_at}
 use Rattle.definition.specs.Field.{field, bytes}
 use Rattle.definition.specs.Tag.{tag_function, tag_name}
 use Rattle.definition.proofs.Basic.{chosen}
 use Rattle.definition.proofs.Bytes.{length-bytes}
 use Rattle.text.specs.Kind.{let_word, return_word, a_name, fn_word, if_word, open_paren, open_bracket}
-use Rattle.text.specs.Token.{Row, kind_of, bytes_of, behind}
-use Rattle.text.specs.Node.{Node, leaf, node, Nodes, none, ◌then◌, one, named, written, written_all, levels, levels_all}
-use Rattle.text.specs.Shape.{is_leaf, continued_tag, operand_tag}
+use Rattle.text.specs.Token.{Row, kind_of, bytes_of}
+use Rattle.text.specs.Node.{Node, leaf, node, Nodes, ◌then◌, one, named, written, written_all, levels, levels_all}
+use Rattle.text.specs.Shape.{continued_tag, operand_tag}
 use Rattle.text.specs.Parse.{ExpressionRow, ClimbRow, OperandRow, InsideRow, FunctionRow, LetRow, ClauseRow}
-use Rattle.text.specs.Parts.{end_of, head_of, moved_by, row_at, denoted, content_of, Sees, Holds, Shaped, Put, PutNode, PutToken, tag_of, Bounds, Spares, WritesNode, Writes, Named, joined_of}
+use Rattle.text.specs.Parts.{head_of, moved_by, row_at, content_of, Sees, Shaped, Put, PutToken, tag_of, Bounds, Spares, WritesNode, Writes, Named, joined_of}
 use Rattle.text.specs.declared.part.Part.{Part}
 use Rattle.text.specs.declared.scan.Token as piece
 use Rattle.text.proofs.Storing.{behind_front, front_replaced}
-use Rattle.text.proofs.Bounding.{bounds_from, bounds_behind}
+use Rattle.text.proofs.Bounding.{bounds_behind}
 use Rattle.text.proofs.Putting.{put_same, put-behind, put_one}
 use Rattle.text.proofs.Writing.{put_leaf_field}
 use Rattle.text.proofs.Looping.{content_name}

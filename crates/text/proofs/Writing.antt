@@ -1,22 +1,20 @@
 -- Each construct, from what was put of its parts.
-use Prim.Native.Nat.{ℕ, zero, suc, ◌+◌, ◌*◌, ◌-◌, ◌≤◌, ◌<◌}
+use Prim.Native.Nat.{ℕ, zero, suc, ◌+◌, ◌-◌, ◌≤◌, ◌<◌}
 use native.Mathlib.Omega.{arith}
-use mathlib.Core.Bool.{true, false}
-use mathlib.Core.List.{[], ◌∷◌, ◌++◌}
+use mathlib.Core.List.{[]}
 use mathlib.Core.Path.{◌≡◌, refl, sym, ap, subst, ◌∙◌}
 use lib.ListN.{length}
 use lib.Seq.{sets, length-sets}
-use lib.Dec.{eqb}
-use borrow.Author.Tests.{eqb-true, eqb-false, eq-eqb, ne_eqb}
-use Rattle.definition.specs.Basic.{Bytes, pick}
+use borrow.Author.Tests.{eqb-true, eqb-false}
+use Rattle.definition.specs.Basic.{Bytes}
 use Rattle.definition.specs.Field.{field}
-use Rattle.definition.specs.Tag.{tag_block, tag_name, tag_params, tag_operator}
-use Rattle.text.specs.Kind.{else_word, semicolon, ended}
+use Rattle.definition.specs.Tag.{tag_block, tag_name, tag_params}
+use Rattle.text.specs.Kind.{else_word}
 use Rattle.text.specs.Token.{Row, kind_of, behind}
-use Rattle.text.specs.Node.{Node, leaf, node, Nodes, none, ◌then◌, one, written, written_all, levels, levels_all, larger}
+use Rattle.text.specs.Node.{Node, Nodes, written, written_all, levels, levels_all}
 use Rattle.text.specs.Shape.{statement_tag}
 use Rattle.text.specs.Parse.{past_semicolon, NamesRow, ParametersRow, ExpressionRow, IfRow, ElseRow, FunctionRow, BlockRow, StatementsRow, StatementRow, ClauseRow}
-use Rattle.text.specs.Parts.{end_of, head_of, row_at, Sees, Put, PutNode, tag_of, Bounds, Spares, WritesNode, Writes, Passes, joined_of, moved_on, closed_of}
+use Rattle.text.specs.Parts.{end_of, head_of, row_at, Sees, Put, PutNode, Bounds, Spares, WritesNode, Writes, Passes, joined_of, moved_on, closed_of}
 use Rattle.text.specs.declared.part.Part.{Part}
 use Rattle.text.specs.declared.scan.Token as piece
 use Rattle.text.proofs.Larger.{has_level}

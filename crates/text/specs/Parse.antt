@@ -1,6 +1,6 @@
 -- How passes 2 and 3 read a row of tokens: with counted parentheses, operators by their tightness, and no look at what pass 1 has seen to.
 use Rattle.std.specs.Prelude.{ℕ, suc, ◌-◌, true, false, [], ◌≡◌, eqb}
-use Rattle.definition.specs.Basic.{Bytes, pick}
+use Rattle.definition.specs.Basic.{pick}
 use Rattle.definition.specs.Tag.{tag_block, tag_name, tag_params}
 use Rattle.text.specs.Kind.{let_word, return_word, a_name as nameKind, if_word, fn_word, open_paren, else_word, comma, semicolon, ended}
 use Rattle.text.specs.Token.{Row, kind_of, bytes_of, behind}

@@ -1,9 +1,9 @@
 -- What passes 2 and 3 promise: the bytes of what is read at an offset, put into an output where there is room, and its levels.
-use Rattle.std.specs.Prelude.{ℕ, zero, suc, ◌+◌, ◌*◌, ◌-◌, ◌/◌, ◌%◌, ◌≤◌, ◌<◌, false, [], ◌∷◌, ◌++◌, ◌≡◌, length, ltb, eqb}
+use Rattle.std.specs.Prelude.{ℕ, zero, suc, ◌+◌, ◌*◌, ◌-◌, ◌/◌, ◌%◌, ◌≤◌, ◌<◌, false, [], ◌∷◌, ◌≡◌, length, ltb, eqb}
 use Rattle.std.proofs.lemmas.List.Edits.{sets}
 use Rattle.definition.specs.Basic.{Bytes, byte_at, pick}
 use Rattle.definition.specs.Field.{bytes, field}
-use Rattle.text.specs.Kind.{a_name, a_string, an_integer, true_word, false_word, open_paren, ended}
+use Rattle.text.specs.Kind.{a_name, a_string, an_integer, true_word, false_word, open_paren}
 use Rattle.text.specs.Token.{Row, kind_of, bytes_of, behind}
 use Rattle.definition.specs.Tag.{tag_program, tag_function, tag_name}
 use Rattle.text.specs.Node

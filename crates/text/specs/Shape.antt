@@ -2,7 +2,7 @@
 use Rattle.std.specs.Prelude.{ℕ, Bool, [], ◌∷◌, leb, ltb, eqb}
 use Rattle.definition.specs.Basic.{Bytes, pick, both}
 use Rattle.definition.specs.Tag.{tag_expr_stmt, tag_let, tag_return, tag_identifier, tag_prefix, tag_infix, tag_if, tag_function, tag_call, tag_integer, tag_boolean, tag_string, tag_array, tag_index, tag_hash}
-use Rattle.text.specs.Kind.{let_word, return_word, a_name, an_integer, a_string, true_word, false_word, if_word, fn_word, bang, open_brace, open_paren, open_bracket, minus, plus, star, slash, less, equal, unequal, else_word, close_paren, close_bracket, close_brace, comma, colon, ended}
+use Rattle.text.specs.Kind.{let_word, return_word, a_name, an_integer, a_string, true_word, false_word, if_word, fn_word, bang, open_brace, open_paren, open_bracket, minus, plus, star, slash, less, equal, unequal, else_word, close_paren, close_brace, comma, colon, ended}
 use Rattle.text.specs.Scan.{either}
 
 -- how tight a token holds the operand before it: 0 if it does not continue an expression

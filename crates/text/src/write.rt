@@ -21,7 +21,7 @@ use definition::tag;
 const PREFIX_LEVEL: usize = 5;
 
 // An expression with the operators tighter than `least`; between its leading parentheses, with all.
-#[cycle(write_block_write_clause_write_continued_write_else_write_expression_write_function_write_if_write_inside_write_let_write_list_write_one_write_operand_write_statements)]
+#[cycle(write)]
 fn write_expression(
     text: &[u8],
     output: &mut [u8],
@@ -56,7 +56,7 @@ fn write_expression(
 }
 
 // A call, an index or an infix operator behind its left operand, which moves to make room for a head.
-#[cycle(write_block_write_clause_write_continued_write_else_write_expression_write_function_write_if_write_inside_write_let_write_list_write_one_write_operand_write_statements)]
+#[cycle(write)]
 fn write_continued(
     text: &[u8],
     output: &mut [u8],
@@ -85,7 +85,7 @@ fn write_continued(
 }
 
 // A primary or a prefix operator with its operand; a level is left.
-#[cycle(write_block_write_clause_write_continued_write_else_write_expression_write_function_write_if_write_inside_write_let_write_list_write_one_write_operand_write_statements)]
+#[cycle(write)]
 fn write_operand(text: &[u8], output: &mut [u8], at: usize, to: usize, left: usize) -> Part
     requires { Ready 140003 text.now at to left × (0 < left) }
     ensures writes { WritesNode OperandRow text.now at to 0 left output.old output.new result }
@@ -103,7 +103,7 @@ fn write_operand(text: &[u8], output: &mut [u8], at: usize, to: usize, left: usi
 }
 
 // What an operator, a bracket, `if` or `fn` has inside its field, behind the left operand if there is one.
-#[cycle(write_block_write_clause_write_continued_write_else_write_expression_write_function_write_if_write_inside_write_let_write_list_write_one_write_operand_write_statements)]
+#[cycle(write)]
 fn write_inside(
     text: &[u8],
     output: &mut [u8],
@@ -131,7 +131,7 @@ fn write_inside(
 }
 
 // Items, keys and values up to the token that closes them, and that token.
-#[cycle(write_block_write_clause_write_continued_write_else_write_expression_write_function_write_if_write_inside_write_let_write_list_write_one_write_operand_write_statements)]
+#[cycle(write)]
 fn write_list(text: &[u8], output: &mut [u8], at: usize, to: usize, left: usize) -> Part
     requires { Ready 139990 text.now at to left }
     ensures { Writes ListRow text.now at to 0 left output.old output.new result }
@@ -155,7 +155,7 @@ fn write_list(text: &[u8], output: &mut [u8], at: usize, to: usize, left: usize)
 }
 
 // The condition and the blocks behind `if`.
-#[cycle(write_block_write_clause_write_continued_write_else_write_expression_write_function_write_if_write_inside_write_let_write_list_write_one_write_operand_write_statements)]
+#[cycle(write)]
 fn write_if(text: &[u8], output: &mut [u8], at: usize, to: usize, left: usize) -> Part
     requires { Ready 139990 text.now at to left }
     ensures { Writes IfRow text.now at to 6 left output.old output.new result }
@@ -169,7 +169,7 @@ fn write_if(text: &[u8], output: &mut [u8], at: usize, to: usize, left: usize) -
 }
 
 // The other block, if there is one.
-#[cycle(write_block_write_clause_write_continued_write_else_write_expression_write_function_write_if_write_inside_write_let_write_list_write_one_write_operand_write_statements)]
+#[cycle(write)]
 fn write_else(text: &[u8], output: &mut [u8], at: usize, to: usize, left: usize) -> Part
     requires { Ready 139996 text.now at to left }
     ensures { Writes ElseRow text.now at to 3 left output.old output.new result }
@@ -182,7 +182,7 @@ fn write_else(text: &[u8], output: &mut [u8], at: usize, to: usize, left: usize)
 }
 
 // The empty name, the parameters and the block behind `fn`.
-#[cycle(write_block_write_clause_write_continued_write_else_write_expression_write_function_write_if_write_inside_write_let_write_list_write_one_write_operand_write_statements)]
+#[cycle(write)]
 fn write_function(text: &[u8], output: &mut [u8], at: usize, to: usize, left: usize) -> Part
     requires { Ready 139990 text.now at to left }
     ensures { Writes FunctionRow text.now at to 9 left output.old output.new result }
@@ -194,7 +194,7 @@ fn write_function(text: &[u8], output: &mut [u8], at: usize, to: usize, left: us
 }
 
 // A block in its braces.
-#[cycle(write_block_write_clause_write_continued_write_else_write_expression_write_function_write_if_write_inside_write_let_write_list_write_one_write_operand_write_statements)]
+#[cycle(write)]
 fn write_block(text: &[u8], output: &mut [u8], at: usize, to: usize, left: usize) -> Part
     requires { Ready 139996 text.now at to left }
     ensures { WritesNode BlockRow text.now at to 3 left output.old output.new result }
@@ -209,7 +209,7 @@ fn write_block(text: &[u8], output: &mut [u8], at: usize, to: usize, left: usize
 }
 
 // Statements up to `}` or the text's end.
-#[cycle(write_block_write_clause_write_continued_write_else_write_expression_write_function_write_if_write_inside_write_let_write_list_write_one_write_operand_write_statements)]
+#[cycle(write)]
 fn write_statements(text: &[u8], output: &mut [u8], at: usize, to: usize, left: usize) -> Part
     requires { Ready 140000 text.now at to left }
     ensures { Writes StatementsRow text.now at to 0 left output.old output.new result }
@@ -226,7 +226,7 @@ fn write_statements(text: &[u8], output: &mut [u8], at: usize, to: usize, left: 
 }
 
 // A statement with its first token, and a `;` behind it.
-#[cycle(write_block_write_clause_write_continued_write_else_write_expression_write_function_write_if_write_inside_write_let_write_list_write_one_write_operand_write_statements)]
+#[cycle(write)]
 fn write_one(
     text: &[u8],
     output: &mut [u8],
@@ -248,7 +248,7 @@ fn write_one(
 }
 
 // What a statement has inside.
-#[cycle(write_block_write_clause_write_continued_write_else_write_expression_write_function_write_if_write_inside_write_let_write_list_write_one_write_operand_write_statements)]
+#[cycle(write)]
 fn write_clause(
     text: &[u8],
     output: &mut [u8],
@@ -271,7 +271,7 @@ fn write_clause(
 }
 
 // The name and the value behind `let`; a function takes the name.
-#[cycle(write_block_write_clause_write_continued_write_else_write_expression_write_function_write_if_write_inside_write_let_write_list_write_one_write_operand_write_statements)]
+#[cycle(write)]
 fn write_let(text: &[u8], output: &mut [u8], at: usize, to: usize, left: usize) -> Part
     requires { Ready 139990 text.now at to left }
     ensures { Writes LetRow text.now at to 11 left output.old output.new result }

@@ -1,6 +1,6 @@
 -- The measure is the number of open functions.
 use Rattle.std.proofs.Common.{◌≡◌, suc, ◌-◌, arith, sym, ap, ◌∙◌}
-use lib.Seq.{length-take-le, length_front}
+use lib.Seq.{length-take-le}
 use Rattle.symbol_table.specs.Layout.{base}
 use Rattle.symbol_table.specs.Contract.{hit_of}
 use Rattle.symbol_table.proofs.Resolving.{good-globals, good_here, good_around, part-after, resolved_outermost, few_outer, good_kept, known_around, found_here, found_around}

@@ -6,7 +6,7 @@ use Rattle.symbol_table.proofs.Levels.{width, at_put}
 use Rattle.symbol_table.proofs.cross_at.Goals as goal
 
 pub cross_in-requires : goal.cross_in-requires
-cross_in-requires c = 
+cross_in-requires c =
     rw (width (base c.args.level)) (record { sized = c.requires.sized; name_lt_tree_limit = c.requires.name_lt_tree_limit; few = c.requires.few })
 
 pub returns : goal.returns

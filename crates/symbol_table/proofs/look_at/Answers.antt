@@ -6,18 +6,18 @@ use Rattle.symbol_table.proofs.look_at.Goals as goal
 
 pub is_absent-requires : goal.is_absent-requires
 is_absent-requires c = record {
-      has_words = c.requires.has_words;
-      part_size_in_bounds = c.requires.part_size_in_bounds;
-      good_globals = c.requires.good_globals;
-      good_part = c.requires.good_part;
-      n_value = c.requires.n_value;
-    }
+  has_words = c.requires.has_words;
+  part_size_in_bounds = c.requires.part_size_in_bounds;
+  good_globals = c.requires.good_globals;
+  good_part = c.requires.good_part;
+  n_value = c.requires.n_value;
+}
 
 pub returns-then-is_absent : goal.returns-then-is_absent
 returns-then-is_absent c = let x = c.is_absent.ensures in record {
-      result_value = sym (x.absent c.if-is_absent.true _ c.requires.known);
-      inside = x.remarked;
-    }
+  result_value = sym (x.absent c.if-is_absent.true _ c.requires.known);
+  inside = x.remarked;
+}
 
 pub find_at-requires : goal.find_at-requires
 find_at-requires c =

@@ -11,6 +11,6 @@ bounds-part-k c = simp length-set (omega arith)
 pub returns : goal.returns
 unfolding free_in
 returns c = record {
-      value = refl;
-      part_after = rw (c.entry-v.ensures, c.count-n.ensures, c.wide32-k.ensures);
-    }
+  value = refl;
+  part_after = rw (c.entry-v.ensures, c.count-n.ensures, c.wide32-k.ensures);
+}

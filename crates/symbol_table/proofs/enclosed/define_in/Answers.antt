@@ -6,6 +6,6 @@ use Rattle.symbol_table.proofs.enclosed.define_in.Goals as goal
 pub returns : goal.returns
 unfolding local_in
 returns c = record {
-      value = refl;
-      part_after = rw (c.entry-v.ensures, c.count-n.ensures);
-    }
+  value = refl;
+  part_after = rw (c.entry-v.ensures, c.count-n.ensures);
+}

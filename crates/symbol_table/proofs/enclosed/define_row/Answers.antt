@@ -12,10 +12,10 @@ hash_at-hash-requires c = row_here _ _ _ (omega arith) c.loop-left.invariant.sta
 
 pub define_in-requires : goal.define_in-requires
 define_in-requires c = let x = c.loop-left.invariant in record {
-      sized = x.good.sized;
-      part_bound = omega arith;
-      name_lt_tree_limit = omega (arith, row_here _ _ _ (omega arith) x.stands);
-    }
+  sized = x.good.sized;
+  part_bound = omega arith;
+  name_lt_tree_limit = omega (arith, row_here _ _ _ (omega arith) x.stands);
+}
 
 pub overflow_add-at : goal.overflow_add-at
 overflow_add-at c = omega (arith, row_here _ _ _ (omega arith) c.loop-left.invariant.stands)

@@ -3,7 +3,7 @@ use Prim.Native.Nat.{◌-◌, ◌%◌}
 use mathlib.Core.Path.{sym, ap, ◌∙◌}
 use native.Mathlib.Omega.{arith}
 use Rattle.definition.specs.SymbolTable.{find}
-use Rattle.symbol_table.specs.Layout.{entries_at, entry_of, back, entries, table_of}
+use Rattle.symbol_table.specs.Layout.{entries_at, entry_of, back, table_of}
 use Rattle.symbol_table.proofs.Back.{find_hit, find_miss, find_passed, find_none}
 use Rattle.symbol_table.proofs.enclosed.find_in.Goals as goal
 

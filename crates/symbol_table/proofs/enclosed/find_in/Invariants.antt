@@ -1,5 +1,5 @@
 -- The loop's invariant: the entries below k decide.
-use Prim.Native.Nat.{◌≤◌, ◌-◌}
+use Prim.Native.Nat.{◌≤◌}
 use mathlib.Core.Path.{◌≡◌}
 use Rattle.definition.specs.SymbolTable.{find}
 use Rattle.symbol_table.specs.Layout.{entries_at, entry_of, back, entries, table_of}

@@ -1,7 +1,6 @@
 -- The loop's invariant: the first i heads are 0.
-use Prim.Native.Nat.{◌-◌}
 use native.Mathlib.Omega.{arith}
-use lib.ListN.{length, length-set}
+use lib.ListN.{length-set}
 use Rattle.symbol_table.proofs.Starting.{cleared_more}
 use Rattle.symbol_table.proofs.globals.clear_heads.Goals as goal
 
@@ -13,6 +12,6 @@ loop-i-preserved c = let l = c.loop-i in (omega arith, simp length-set l.invaria
 
 pub returns : goal.returns
 returns c = let l = c.loop-i in record {
-      globals_len = l.invariant.1;
-      by_index = λ h b. l.invariant.2 h (omega arith);
-    }
+  globals_len = l.invariant.1;
+  by_index = λ h b. l.invariant.2 h (omega arith);
+}

@@ -1,5 +1,4 @@
 -- The loop's invariant: what is left of the way decides where the global goes.
-use Prim.Native.Nat.{◌-◌}
 use mathlib.Core.Path.{◌≡◌, sym, ap, ◌∙◌}
 use native.Mathlib.Omega.{arith}
 use Rattle.definition.specs.SymbolTable.{same}
@@ -74,9 +73,9 @@ overflow_add-new c = omega (arith, c.requires.globals_bound)
 
 pub with_child-requires : goal.with_child-requires
 with_child-requires c = let e : c.loop-k.k ≡ 0 = omega arith in record {
-      side_value = sym c.loop-k.invariant.is ∙ e;
-      k_le_globals_limit = omega (arith, c.requires.globals_bound);
-    }
+  side_value = sym c.loop-k.invariant.is ∙ e;
+  k_le_globals_limit = omega (arith, c.requires.globals_bound);
+}
 
 pub returns : goal.returns
 returns c = rw (c.with_child.ensures, c.requires.hash_value) (placing_first _ _ _ _ c.loop-k.invariant (omega arith))

@@ -1,5 +1,5 @@
 -- The loop's invariant: what the search finds from k on decides.
-use Prim.Native.Nat.{◌+◌, ◌-◌}
+use Prim.Native.Nat.{◌+◌}
 use native.Mathlib.Omega.{arith}
 use Rattle.symbol_table.proofs.Codes.{symbol_global}
 use Rattle.symbol_table.proofs.Seeking.{sought_start, sought_small, sought_stands, sought_hit, sought_less, sought_next, sought_none}
@@ -32,7 +32,7 @@ same_global-requires c =
     rw c.wide32-i.ensures (sought_stands _ _ _ _ _ c.requires.side_bound c.requires.good_globals l.invariant c.loop-k-test.true)
 
 pub overflow_add-result : goal.overflow_add-result
-overflow_add-result c = omega (arith, c.shared_slice_known-in-loop-k-1.given (1024 + c.wide32-i.result))
+overflow_add-result c = omega (arith, c.type_inv.globals (1024 + c.wide32-i.result))
 
 pub returns-then-same_global : goal.returns-then-same_global
 returns-then-same_global c x =

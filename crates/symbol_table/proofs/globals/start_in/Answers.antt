@@ -1,5 +1,4 @@
 -- The loop's invariant: what is left of the names decides.
-use Prim.Native.Nat.{◌-◌}
 use mathlib.Core.List.{[]}
 use mathlib.Core.Path.{sym}
 use native.Mathlib.Omega.{arith}

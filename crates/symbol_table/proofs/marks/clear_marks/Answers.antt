@@ -1,8 +1,7 @@
 -- The loop's invariant: what stands before the marks is as it was.
-use Prim.Native.Nat.{◌-◌}
 use mathlib.Core.Path.{refl, ◌∙◌}
 use native.Mathlib.Omega.{arith}
-use lib.ListN.{length, length-set}
+use lib.ListN.{length-set}
 use lib.Seq.{get_or-set_other}
 use Rattle.symbol_table.proofs.marks.clear_marks.Goals as goal
 

@@ -1,5 +1,4 @@
 -- The loop's invariant: the first i entries are marked, and nothing else changed.
-use Prim.Native.Nat.{◌-◌}
 use native.Mathlib.Omega.{arith}
 use Rattle.symbol_table.proofs.Remarking.{globals_then, marks-start, marks_done, marks_stands, marks_few, marks_next}
 use Rattle.symbol_table.proofs.marks.mark_entries.Goals as goal

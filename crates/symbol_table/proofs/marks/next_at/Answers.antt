@@ -6,7 +6,7 @@ use Rattle.symbol_table.proofs.Levels.{width, at_put, part_length}
 use Rattle.symbol_table.proofs.marks.next_at.Goals as goal
 
 pub mark_next-requires : goal.mark_next-requires
-mark_next-requires c = 
+mark_next-requires c =
     rw (width (base c.args.level)) (record {
       part_len = part_length c.args.level c.args.table.now c.requires.part_size_in_bounds;
       marked_at_bound = c.requires.marked_at_bound;

@@ -1,5 +1,4 @@
 -- The loop's invariant: the hash so far, and what is left of the name, decide.
-use Prim.Native.Nat.{◌-◌}
 use mathlib.Core.Path.{sym, ◌∙◌}
 use native.Mathlib.Omega.{arith}
 use Rattle.symbol_table.proofs.Names.{hash_step, hash_none}

@@ -1,0 +1,13 @@
+-- `put_operator` meets its contract.
+use Rattle.definition.specs.Tag.{tag_operator}
+use Rattle.text.proofs.Contents.{field_stored}
+use mathlib.Core.List.{[], ◌∷◌}
+use mathlib.Core.Path.{refl}
+use native.Mathlib.Omega.{arith}
+use Rattle.text.proofs.part.put_operator.Goals as goal
+
+pub returns : goal.returns
+returns c = record {
+  part = refl;
+  stored = field_stored tag_operator (_ ∷ []) c.args.to c.args.output.now c.put.ensures (omega arith) c.put_head.ensures;
+}

@@ -1,0 +1,11 @@
+-- `skip_groups` meets its contract: each parenthesis passed opens a group.
+use Prim.Native.Nat.{◌-◌}
+use Rattle.text.proofs.Climbing.{Skipping}
+use Rattle.text.specs.Parts.{end_of}
+use Rattle.text.proofs.part.skip_groups.Given as goal
+
+abbrev pub invariant-loop-token : goal.invariant-loop-token
+invariant-loop-token l = Skipping l.text l.from l.at l.opened
+
+abbrev pub decreases-loop-token : goal.decreases-loop-token
+decreases-loop-token l = end_of l.text - l.at

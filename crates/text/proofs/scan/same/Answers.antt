@@ -1,0 +1,25 @@
+-- `same` meets its contract. What is left of the two words decides.
+use native.Mathlib.Omega.{arith}
+use mathlib.Core.Path.{sym, ◌∙◌}
+use Rattle.text.proofs.Skips.{same_lengths, same_step, same_differ, same_none}
+use Rattle.text.proofs.scan.same.Goals as goal
+
+pub returns-then-x-y : goal.returns-then-x-y
+returns-then-x-y c = sym (same_lengths _ _ c.if-x-y.true)
+
+pub returns-then-x-i : goal.returns-then-x-i
+returns-then-x-i c =
+    let a = c.args in
+    let i = c.loop-i.i in
+    sym (c.loop-i.invariant.1 ∙ same_differ a.x.now a.y.now i (omega arith) (omega arith) c.if-x-i.true)
+
+pub loop-i-preserved : goal.loop-i-preserved
+loop-i-preserved c =
+    let a = c.args in
+    let i = c.loop-i.i in
+    (omega arith, c.loop-i.invariant.1 ∙ same_step a.x.now a.y.now i (omega arith) (omega arith) c.if-x-i.false)
+
+pub returns : goal.returns
+returns c =
+    let a = c.args in
+    sym (c.loop-i.invariant.1 ∙ same_none a.x.now a.y.now c.loop-i.i (omega arith) (omega arith))
