@@ -15,7 +15,7 @@ use Rattle.definition.specs.Session.{Words, Session}
 use Rattle.definition.specs.Decode.{Decoded, decoded, malformed, then, items, all_zero, pool_head, read_const, read_name_field, read_words, read_names, read_front, read_pool, read_session}
 use Rattle.bytecode.specs.declared.SessionLayout.{SessionLayout}
 use Rattle.bytecode.specs.declared.Layout.TheVariants.{Sound}
-use Rattle.bytecode.specs.Checked.{layout, layout_of, constants}
+use Rattle.bytecode.specs.Checked.{layout, layout_of}
 use Rattle.bytecode.specs.Layout.{LaidOut}
 use Rattle.bytecode.proofs.Heads.{both_true}
 use Rattle.bytecode.proofs.Items.{unlike, ended}

@@ -2,7 +2,10 @@
 #![tactic(auto)]
 
 use field::{wide, word};
-use libc::STDOUT_FILENO;
+use report::{print_failure, read_full};
+use std::io::{BufReader, Read};
+use std::rt::Files;
+use std::{fs, io};
 use tree::Checked;
 
 // A case as it came out, or the end of the cases.
@@ -29,33 +32,33 @@ fn as_recorded(checked: Checked, number: usize, place: usize) -> bool {
 }
 
 // Reads a tree and checks it.
-fn check_next(fd: i32, tree: &mut [u8]) -> Checked {
-    io::read_full(fd, tree);
-    tree::check(tree)
+fn check_next<R: Read>(reader: &mut R, tree: &mut [u8]) -> io::Result<Checked> {
+    read_full(reader, tree)?;
+    Ok(tree::check(tree))
 }
 
 // Reads the next case and checks its tree: a number in one byte, a place and the tree's length in two each, the tree.
-fn run_case(fd: i32) -> Case {
+fn run_case<R: Read>(reader: &mut R) -> io::Result<Case> {
     let mut head = [0u8; 5];
-    if io::read_full(fd, &mut head) < 5 {
-        return Case::End;
+    if read_full(reader, &mut head)? < 5 {
+        return Ok(Case::End);
     }
     let length = word(head[3], head[4]);
-    let mut buffer = io::large_buffer();
-    let checked = check_next(fd, &mut buffer[..length]);
+    let mut buffer = [0u8; 65536];
+    let checked = check_next(reader, &mut buffer[..length])?;
     if as_recorded(checked, wide(head[0]), word(head[1], head[2])) {
-        Case::Agrees
+        Ok(Case::Agrees)
     } else {
-        Case::Differs
+        Ok(Case::Differs)
     }
 }
 
 // Runs a topic's cases, at most so many.
-fn run_cases(fd: i32, most: u64) -> Counts {
+fn run_cases<R: Read>(reader: &mut R, most: u64) -> io::Result<Counts> {
     let mut agree: u64 = 0;
     let mut differ: u64 = 0;
     while agree + differ < most {
-        match run_case(fd) {
+        match run_case(reader)? {
             Case::Agrees => {
                 agree += 1;
             }
@@ -67,35 +70,32 @@ fn run_cases(fd: i32, most: u64) -> Counts {
             }
         }
     }
-    Counts {
+    Ok(Counts {
         agree: agree,
         differ: differ,
-    }
+    })
 }
 
 // Prints a line of a topic's counts.
-fn print_counts(topic: &[u8], counts: Counts) {
-    io::write_all(STDOUT_FILENO, topic);
-    io::write_all(STDOUT_FILENO, b": ");
-    io::print_decimal(STDOUT_FILENO, counts.agree);
-    io::write_all(STDOUT_FILENO, b" agree, ");
-    io::print_decimal(STDOUT_FILENO, counts.differ);
-    io::write_all(STDOUT_FILENO, b" differ\n");
+fn print_counts(rt: &impl Print, topic: &str, counts: Counts) -> io::Result<()> {
+    let agree = counts.agree;
+    let differ = counts.differ;
+    println!(rt; "{topic}: {agree} agree, {differ} differ")
 }
 
 // The cases of the file that a topic names.
-fn run_topic(topic: &[u8]) {
-    let fd = os::open_read(topic);
-    if fd < 0 {
-        os::fail(topic);
-        return;
+fn run_topic<R: Files + Print + Eprint + Alloc>(rt: &R, topic: &str) -> io::Result<()> {
+    match fs::open(rt, topic) {
+        Ok(file) => {
+            let mut reader = BufReader::new(rt.alloc(), file)?;
+            print_counts(rt, topic, run_cases(&mut reader, 10000)?)
+        }
+        Err(e) => print_failure(rt, topic, &e),
     }
-    print_counts(topic, run_cases(fd, 10000));
-    libc::close(fd);
 }
 
-fn main() {
-    run_topic(b"damaged");
-    run_topic(b"random-damage");
-    run_topic(b"boundary");
+fn main(rt: HostRuntime) -> io::Result<()> {
+    run_topic(&rt, "damaged")?;
+    run_topic(&rt, "random-damage")?;
+    run_topic(&rt, "boundary")
 }

@@ -3,30 +3,30 @@
 #![tactic(auto)]
 
 use definition::Answer;
-use definition::limit::{CODE_SIZE, TABLE_SIZE, TREE_LIMIT};
-use libc::{STDERR_FILENO, STDIN_FILENO};
-use report::{print_in_tree, write_first};
+use definition::limit::{CODE_SIZE, SESSION_SIZE, TABLE_SIZE, TREE_LIMIT};
+use report::{print_in_tree, read_full, write_first};
+use std::io;
 
 // Compiles a tree in a fresh session.
-fn run(tree: &[u8]) {
-    let mut session = io::large_buffer();
+fn run(rt: &(impl Print + Eprint), tree: &[u8]) -> io::Result<()> {
+    let mut session = [0u8; SESSION_SIZE];
     compiler::make_session(&mut session);
-    let mut output = io::large_buffer();
+    let mut output = [0u8; SESSION_SIZE];
     let mut code = [0u8; CODE_SIZE];
     let mut table = [0u32; TABLE_SIZE];
     let answer = compiler::compile(&mut session, tree, &mut output, &mut code, &mut table);
     match answer {
-        Answer::Length(n) => write_first(&output, n),
+        Answer::Length(n) => write_first(rt, &output, n),
         Answer::Refused(r) => {
-            io::write_all(STDERR_FILENO, b"compile_tree");
-            print_in_tree(r.number, r.place);
+            rt.eprint("compile_tree")?;
+            print_in_tree(rt, r.number, r.place)
         }
     }
 }
 
 // A tree has at most 32,768 bytes: a longer one is refused as its first 32,769 are.
-fn main() {
+fn main(rt: HostRuntime) -> io::Result<()> {
     let mut tree = [0u8; TREE_LIMIT + 1];
-    let length = io::read_full(STDIN_FILENO, &mut tree);
-    run(&tree[..length]);
+    let length = read_full(&mut rt.reader(), &mut tree)?;
+    run(&rt, &tree[..length])
 }

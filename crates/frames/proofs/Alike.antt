@@ -1,8 +1,7 @@
 -- Frames tell no more of an image than its length; so the two images of a step in condition 3 are sent in equally many and equally long frames.
 use Prim.Native.Nat.{ℕ, suc, ◌*◌}
 use native.Mathlib.Omega.{arith}
-use mathlib.Core.Bool.{Bool, true, false}
-use mathlib.Core.List.{List, [], ◌∷◌}
+use mathlib.Core.Bool.{true}
 use mathlib.Core.Path.{◌≡◌, refl, sym, ap, subst, ◌∙◌}
 use lib.ListN.{length, take}
 use lib.Seq.{take-append_seam, length-take-le}
@@ -19,13 +18,11 @@ use Rattle.definition.specs.Literal.{Mask}
 use Rattle.definition.specs.Series.{Agree, Answers, Same}
 use Rattle.definition.specs.Valid.{AreBytes, ValidImage}
 use Rattle.definition.specs.declared.Refusal.{Refusal}
-use Rattle.definition.specs.declared.Answer.{Answer}
 use Rattle.definition.specs.declared.Answer.TheVariants.{Length, Refused}
 use Rattle.definition.proofs.Basic.{chosen, both_right}
 use Rattle.definition.proofs.Images.{read-image}
 use Rattle.definition.proofs.Sessions.{write_session}
 use Rattle.definition.proofs.Steps.{compile-valid}
-use Rattle.frames.specs.declared.FrameCount.{FrameCount}
 use Rattle.frames.specs.declared.FramePlace.{FramePlace}
 use Rattle.frames.specs.declared.FramePlace.TheVariants.{At, Refused as Nowhere}
 use Rattle.frames.specs.Frames.{counted, count_frames, placed, find_frame, part_at, frame_of, refusal_of}

@@ -2,9 +2,8 @@
 use Prim.Native.Nat.{ℕ, ◌+◌, ◌*◌, ◌/◌, ◌%◌, ◌≤◌, ◌<◌}
 use native.Mathlib.Omega.{arith}
 use mathlib.Core.Bool.{Bool, true, false}
-use mathlib.Core.List.{[]}
 use mathlib.Core.Path.{◌≡◌, refl, sym, ap, ◌∙◌}
-use lib.ListN.{length, take, drop}
+use lib.ListN.{length}
 use lib.Dec.{ltb, eqb}
 use borrow.Author.Tests.{lt-ltb, le-ltb, eq-eqb, ne_eqb}
 use denote.Ref.{Bor}
@@ -22,7 +21,6 @@ use Rattle.frames.specs.declared.FrameCount.TheVariants.{Counted, Refused as Unc
 use Rattle.frames.specs.declared.FramePlace.{FramePlace}
 use Rattle.frames.specs.declared.FramePlace.TheVariants.{At, Refused as Nowhere}
 use Rattle.frames.specs.Frames.{bad_size, no_frame, size_in_range, counted, count_frames, place_in, placed, find_frame, part_at, frame_of, refusal_of, frame_refusal, offset_of}
-use Rattle.frames.specs.Together.{Divided}
 use Rattle.frames.proofs.Division.{PlaceOf, whole_and_rest, frame-place}
 
 -- an image that is wrong

@@ -2,18 +2,17 @@
 use Prim.Native.Nat.{ℕ, zero, suc, ◌+◌, ◌*◌, ◌≤◌, ◌<◌}
 use native.Mathlib.Omega.{arith}
 use native.Mathlib.Nat.{zero-mul, suc-mul}
-use mathlib.Core.Bool.{Bool, true, false}
-use mathlib.Core.List.{[], ◌++◌}
+use mathlib.Core.Bool.{true, false}
+use mathlib.Core.List.{◌++◌}
 use mathlib.Core.Path.{◌≡◌, refl, sym, ap, ◌∙◌}
 use lib.ListN.{length, take, drop}
-use lib.Dec.{ltb, eqb}
+use lib.Dec.{ltb}
 use lib.Seq.{take-add, take_all}
 use borrow.Author.Tests.{ltb-true, ltb-false, lt-ltb, le-ltb, eq-eqb}
-use Rattle.definition.specs.Basic.{Bytes, pick, both}
+use Rattle.definition.specs.Basic.{Bytes}
 use Rattle.definition.proofs.Basic.{chosen, both_intro, pick_true, pick_false}
 use Rattle.frames.specs.declared.FrameCount.TheVariants.{Counted}
-use Rattle.frames.specs.declared.FramePlace.{FramePlace}
-use Rattle.frames.specs.declared.FramePlace.TheVariants.{At, Refused as Nowhere}
+use Rattle.frames.specs.declared.FramePlace.TheVariants.{At}
 use Rattle.frames.specs.Frames.{count_frames, place_in, placed, part_at, frame_of}
 use Rattle.frames.specs.Together.{Divided, frame_total, joined}
 use Rattle.frames.proofs.Division.{whole_and_rest}

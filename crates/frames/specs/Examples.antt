@@ -1,5 +1,5 @@
 -- Small images in frames, as the definition cuts them: the order of the refusals, both ends of the range, the last shorter frame.
-use Rattle.std.specs.Prelude.{ℕ, ◌+◌, List, [], ◌∷◌, ◌++◌, map, ◌≡◌, refl, replicate}
+use Rattle.std.specs.Prelude.{ℕ, ◌+◌, List, [], ◌∷◌, map, ◌≡◌, refl, replicate}
 use Rattle.definition.specs.Basic.{Bytes}
 use Rattle.definition.specs.Number.{refusal, bad_image}
 use Rattle.definition.specs.Decode.{items, read_image_of}

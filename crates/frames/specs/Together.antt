@@ -1,5 +1,5 @@
 -- The frames of an image in order, put together; and what two images have in common that are sent in frames.
-use Rattle.std.specs.Prelude.{ℕ, zero, suc, ◌+◌, ◌*◌, ◌≤◌, ◌<◌, [], ◌++◌, ◌≡◌, length, take, ltb}
+use Rattle.std.specs.Prelude.{ℕ, zero, suc, ◌+◌, ◌*◌, ◌<◌, [], ◌++◌, ◌≡◌, length, take, ltb}
 use Rattle.definition.specs.Basic.{Bytes, pick}
 use Rattle.definition.specs.Bytecode.{Image}
 use Rattle.definition.specs.Decode.{decoded, read_image}

@@ -2,36 +2,34 @@
 #![tactic(auto)]
 
 use definition::Answer;
-use libc::{STDIN_FILENO, STDOUT_FILENO};
+use report::read_full;
+use std::io;
 
 // Writes a refusal.
-fn print_refusal(number: usize, place: usize) {
-    io::write_all(STDOUT_FILENO, b"refused ");
-    io::print_decimal(STDOUT_FILENO, number as u64);
-    io::write_all(STDOUT_FILENO, b" ");
-    io::print_decimal(STDOUT_FILENO, place as u64);
-    io::write_all(STDOUT_FILENO, b"\n");
+fn print_refusal(rt: &impl Print, number: usize, place: usize) -> io::Result<()> {
+    println!(rt; "refused {number} {place}")
 }
 
 // Writes the first bytes of the output.
-fn write_listing(output: &[u8], length: usize) {
+fn write_listing(rt: &impl Print, output: &[u8], length: usize) -> io::Result<()> {
     if length <= output.len() {
-        io::write_all(STDOUT_FILENO, &output[..length]);
+        rt.write_all(&output[..length])?;
     }
+    Ok(())
 }
 
 // Lists an image into an output of 65,536 bytes.
-fn run(image: &[u8]) {
-    let mut output = io::large_buffer();
+fn run(rt: &impl Print, image: &[u8]) -> io::Result<()> {
+    let mut output = [0u8; 65536];
     match listing::list_image(image, &mut output) {
-        Answer::Length(n) => write_listing(&output, n),
-        Answer::Refused(r) => print_refusal(r.number, r.place),
+        Answer::Length(n) => write_listing(rt, &output, n),
+        Answer::Refused(r) => print_refusal(rt, r.number, r.place),
     }
 }
 
 // An image has at most 61,446 bytes: a longer input is refused as its first 61,447 are.
-fn main() {
-    let mut image = io::large_buffer();
-    let length = io::read_full(STDIN_FILENO, &mut image);
-    run(&image[..length]);
+fn main(rt: HostRuntime) -> io::Result<()> {
+    let mut image = [0u8; 65536];
+    let length = read_full(&mut rt.reader(), &mut image)?;
+    run(&rt, &image[..length])
 }

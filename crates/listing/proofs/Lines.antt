@@ -10,9 +10,9 @@ use Rattle.definition.specs.Basic.{Bytes, byte_at}
 use Rattle.definition.specs.Text.{decimal}
 use Rattle.definition.specs.Opcode.{Instr, instr_at, size, whole, width, op_last}
 use Rattle.definition.specs.Bytecode.{Code, size_of}
-use Rattle.definition.specs.Decode.{Decoded, decoded, read_instr, read_code}
+use Rattle.definition.specs.Decode.{decoded, read_instr, read_code}
 use Rattle.definition.specs.Listing.{also, operand_fields, code_line, code_lines}
-use Rattle.opcode.specs.Decoding.{instruction, instr_of, read_before, decode_answer}
+use Rattle.opcode.specs.Decoding.{instr_of, read_before, decode_answer}
 use Rattle.opcode.specs.declared.Instruction.{Instruction}
 use Rattle.opcode.specs.declared.Decoded.{Decoded as Answer}
 use Rattle.opcode.specs.declared.Decoded.TheVariants.{Instr as Found, Refused}

@@ -6,28 +6,28 @@ ghost use Rattle.std.specs.Prelude.{◌≤◌, length};
 
 use definition::Answer;
 use definition::limit::TREE_LIMIT;
-use libc::{STDERR_FILENO, STDIN_FILENO};
-use report::{print_in_text, write_first};
+use report::{print_in_text, read_full, write_first};
+use std::io;
 
 // A text longer than this is refused as its first bytes are: no token ends behind 8,192.
 const TEXT_MOST: usize = 8193;
 
 // Reads a text.
-fn run(text: &[u8])
+fn run(rt: &(impl Print + Eprint), text: &[u8]) -> io::Result<()>
     requires { length text.now ≤ 8193 }
 {
     let mut output = [0u8; TREE_LIMIT];
     match text::read_text(text, &mut output) {
-        Answer::Length(n) => write_first(&output, n),
+        Answer::Length(n) => write_first(rt, &output, n),
         Answer::Refused(r) => {
-            io::write_all(STDERR_FILENO, b"read_script");
-            print_in_text(r.number, text, r.place);
+            rt.eprint("read_script")?;
+            print_in_text(rt, r.number, text, r.place)
         }
     }
 }
 
-fn main() {
+fn main(rt: HostRuntime) -> io::Result<()> {
     let mut text = [0u8; TEXT_MOST];
-    let length = io::read_full(STDIN_FILENO, &mut text);
-    run(&text[..length]);
+    let length = read_full(&mut rt.reader(), &mut text)?;
+    run(&rt, &text[..length])
 }

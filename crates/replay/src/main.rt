@@ -1,13 +1,15 @@
 // Replays recorded compile calls: series over one session, compared byte by byte with what was recorded.
 #![tactic(auto)]
 
-ghost use Rattle.std.specs.Prelude.{◌≤◌, ◌<◌};
+ghost use Rattle.std.specs.Prelude.{◌<◌, IfOk};
 
-use check::same;
 use definition::Answer;
 use definition::limit::{CODE_SIZE, SESSION_SIZE, TABLE_SIZE};
 use field::{wide, word};
-use libc::STDOUT_FILENO;
+use report::{print_failure, read_full};
+use std::io::{BufReader, Read};
+use std::rt::Files;
+use std::{fs, io};
 
 // What a record came to: a call that agrees or differs, something between two calls, or the end.
 #[derive(Clone, Copy)]
@@ -27,38 +29,41 @@ struct Sizes {
 }
 
 // One byte of the records, 0 at their end.
-fn read_byte(fd: i32) -> usize
-    ensures { result < 256 }
+fn read_byte<R: Read>(reader: &mut R) -> io::Result<usize>
+    ensures { IfOk result (λ n. n < 256) }
 {
     let mut b = [0u8; 1];
-    io::read_full(fd, &mut b);
-    wide(b[0])
+    read_full(reader, &mut b)?;
+    Ok(wide(b[0]))
 }
 
 // Two bytes as a number.
-fn read_word(fd: i32) -> usize
-    ensures { result < 65536 }
+fn read_word<R: Read>(reader: &mut R) -> io::Result<usize>
+    ensures { IfOk result (λ n. n < 65536) }
 {
     let mut b = [0u8; 2];
-    io::read_full(fd, &mut b);
-    word(b[0], b[1])
+    read_full(reader, &mut b)?;
+    Ok(word(b[0], b[1]))
 }
 
 // Three bytes as a number.
-fn read_long(fd: i32) -> usize {
-    read_word(fd) * 256 + read_byte(fd)
+fn read_long<R: Read>(reader: &mut R) -> io::Result<usize> {
+    let high = read_word(reader)?;
+    let low = read_byte(reader)?;
+    Ok(high * 256 + low)
 }
 
 // So many bytes of the records.
-fn read_part(fd: i32, buffer: &mut [u8], length: usize) {
+fn read_part<R: Read>(reader: &mut R, buffer: &mut [u8], length: usize) -> io::Result<()> {
     if length <= buffer.len() {
-        io::read_full(fd, &mut buffer[..length]);
+        read_full(reader, &mut buffer[..length])?;
     }
+    Ok(())
 }
 
 // Whether two buffers are the same.
 fn same_buffers(a: &[u8; SESSION_SIZE], b: &[u8; SESSION_SIZE]) -> bool {
-    same(a, b)
+    a[..] == b[..]
 }
 
 // Whether all numbers are a value.
@@ -83,7 +88,7 @@ fn as_recorded(answer: Answer, number: usize, value: usize) -> bool {
 
 // Whether all bytes of the code area are a value.
 fn all_code(code: &[u8; CODE_SIZE], value: u8) -> bool {
-    same(code, &[value; CODE_SIZE])
+    code[..] == [value; CODE_SIZE][..]
 }
 
 // Compiles a tree in parts of these lengths.
@@ -142,19 +147,23 @@ fn compile(
 
 // A call: the output's length in three bytes, the tree, the outcome, the image of an accepted tree. Number 1 leaves the work areas as
 // they were; any other outcome has them zeroed.
-fn run_call(fd: i32, session: &mut [u8; SESSION_SIZE], sizes: Sizes) -> bool {
-    let lend = read_long(fd);
-    let length = read_word(fd);
-    let mut tree = io::large_buffer();
-    read_part(fd, &mut tree, length);
-    let number = read_byte(fd);
-    let value = read_word(fd);
+fn run_call<R: Read>(
+    reader: &mut R,
+    session: &mut [u8; SESSION_SIZE],
+    sizes: Sizes,
+) -> io::Result<bool> {
+    let lend = read_long(reader)?;
+    let length = read_word(reader)?;
+    let mut tree = [0u8; 65536];
+    read_part(reader, &mut tree, length)?;
+    let number = read_byte(reader)?;
+    let value = read_word(reader)?;
     let mut expected = [0xA5u8; SESSION_SIZE];
     if number == 0 {
-        read_part(fd, &mut expected, value);
+        read_part(reader, &mut expected, value)?;
     }
     if SESSION_SIZE < lend {
-        return false;
+        return Ok(false);
     }
     let before = *session;
     let mut output = [0xA5u8; SESSION_SIZE];
@@ -176,7 +185,7 @@ fn run_call(fd: i32, session: &mut [u8; SESSION_SIZE], sizes: Sizes) -> bool {
     } else {
         all_code(&code, 0) & all_numbers(&table, 0)
     };
-    as_recorded(answer, number, value) & same_buffers(&output, &expected) & kept & areas
+    Ok(as_recorded(answer, number, value) & same_buffers(&output, &expected) & kept & areas)
 }
 
 // Buffers of the full lengths.
@@ -189,15 +198,15 @@ fn full_sizes() -> Sizes {
 }
 
 // The lengths of the buffers, in three bytes each.
-fn read_sizes(fd: i32) -> Sizes {
-    let session = read_long(fd);
-    let code = read_long(fd);
-    let table = read_long(fd);
-    Sizes {
+fn read_sizes<R: Read>(reader: &mut R) -> io::Result<Sizes> {
+    let session = read_long(reader)?;
+    let code = read_long(reader)?;
+    let table = read_long(reader)?;
+    Ok(Sizes {
         session: session,
         code: code,
         table: table,
-    }
+    })
 }
 
 // Makes a session in a part of so many bytes.
@@ -209,11 +218,11 @@ fn make_in(session: &mut [u8], size: usize) -> Answer {
 }
 
 // Making a session: the length of its buffer, the outcome.
-fn run_make(fd: i32, session: &mut [u8; SESSION_SIZE]) -> bool {
-    let size = read_long(fd);
-    let number = read_byte(fd);
-    let value = read_long(fd);
-    as_recorded(make_in(session, size), number, value)
+fn run_make<R: Read>(reader: &mut R, session: &mut [u8; SESSION_SIZE]) -> io::Result<bool> {
+    let size = read_long(reader)?;
+    let number = read_byte(reader)?;
+    let value = read_long(reader)?;
+    Ok(as_recorded(make_in(session, size), number, value))
 }
 
 // Makes a session with words, the first bytes of a buffer, in a part of so many bytes.
@@ -227,53 +236,54 @@ fn make_words_in(session: &mut [u8], size: usize, names: &[u8], length: usize) -
 }
 
 // Making a session with words: the length of its buffer, the name fields, the outcome.
-fn run_make_words(fd: i32, session: &mut [u8; SESSION_SIZE]) -> bool {
-    let size = read_long(fd);
-    let length = read_word(fd);
-    let mut names = io::large_buffer();
-    read_part(fd, &mut names, length);
-    let number = read_byte(fd);
-    let value = read_long(fd);
-    as_recorded(make_words_in(session, size, &names, length), number, value)
+fn run_make_words<R: Read>(reader: &mut R, session: &mut [u8; SESSION_SIZE]) -> io::Result<bool> {
+    let size = read_long(reader)?;
+    let length = read_word(reader)?;
+    let mut names = [0u8; 65536];
+    read_part(reader, &mut names, length)?;
+    let number = read_byte(reader)?;
+    let value = read_long(reader)?;
+    Ok(as_recorded(make_words_in(session, size, &names, length), number, value))
 }
 
 // The session's first bytes, and zeros after them.
-fn check_session(fd: i32, session: &[u8; SESSION_SIZE]) -> bool {
-    let length = read_word(fd);
-    let mut expected = io::large_buffer();
-    read_part(fd, &mut expected, length);
-    same_buffers(&expected, session)
+fn check_session<R: Read>(reader: &mut R, session: &[u8; SESSION_SIZE]) -> io::Result<bool> {
+    let length = read_word(reader)?;
+    let mut expected = [0u8; SESSION_SIZE];
+    read_part(reader, &mut expected, length)?;
+    Ok(same_buffers(&expected, session))
 }
 
 // A session of its own: its first bytes, and zeros after them.
-fn start_session(fd: i32, session: &mut [u8; SESSION_SIZE]) {
-    let length = read_word(fd);
-    let mut start = io::large_buffer();
-    read_part(fd, &mut start, length);
+fn start_session<R: Read>(reader: &mut R, session: &mut [u8; SESSION_SIZE]) -> io::Result<()> {
+    let length = read_word(reader)?;
+    let mut start = [0u8; SESSION_SIZE];
+    read_part(reader, &mut start, length)?;
     *session = start;
+    Ok(())
 }
 
 // The next record: 1 a fresh session, 2 a session of its own, 3 a call, 4 the session as it must be, 5 a session made in a part of the
 // buffer, 6 a call in parts of the buffers, 7 a session made with words.
-fn run_record(fd: i32, session: &mut [u8; SESSION_SIZE]) -> Record {
-    match read_byte(fd) {
+fn run_record<R: Read>(reader: &mut R, session: &mut [u8; SESSION_SIZE]) -> io::Result<Record> {
+    match read_byte(reader)? {
         1 => {
             compiler::make_session(session);
-            Record::Between
+            Ok(Record::Between)
         }
         2 => {
-            start_session(fd, session);
-            Record::Between
+            start_session(reader, session)?;
+            Ok(Record::Between)
         }
-        3 => recorded(run_call(fd, session, full_sizes())),
-        4 => recorded(check_session(fd, session)),
-        5 => recorded(run_make(fd, session)),
+        3 => Ok(recorded(run_call(reader, session, full_sizes())?)),
+        4 => Ok(recorded(check_session(reader, session)?)),
+        5 => Ok(recorded(run_make(reader, session)?)),
         6 => {
-            let sizes = read_sizes(fd);
-            recorded(run_call(fd, session, sizes))
+            let sizes = read_sizes(reader)?;
+            Ok(recorded(run_call(reader, session, sizes)?))
         }
-        7 => recorded(run_make_words(fd, session)),
-        _ => Record::End,
+        7 => Ok(recorded(run_make_words(reader, session)?)),
+        _ => Ok(Record::End),
     }
 }
 
@@ -287,13 +297,13 @@ fn recorded(same: bool) -> Record {
 }
 
 // Runs the records of a file, and prints how many agree and how many differ.
-fn run_records(fd: i32) {
-    let mut session = io::large_buffer();
+fn run_records<R: Read>(rt: &impl Print, reader: &mut R) -> io::Result<()> {
+    let mut session = [0u8; SESSION_SIZE];
     let mut agree: u64 = 0;
     let mut differ: u64 = 0;
     let mut turns: u64 = 0;
     while turns < 100000 {
-        match run_record(fd, &mut session) {
+        match run_record(reader, &mut session)? {
             Record::Agrees => {
                 agree += 1;
                 turns += 1;
@@ -310,42 +320,38 @@ fn run_records(fd: i32) {
             }
         }
     }
-    io::print_decimal(STDOUT_FILENO, agree);
-    io::write_all(STDOUT_FILENO, b" agree, ");
-    io::print_decimal(STDOUT_FILENO, differ);
-    io::write_all(STDOUT_FILENO, b" differ\n");
+    println!(rt; "{agree} agree, {differ} differ")
 }
 
 // The records of the file that a topic names.
-fn run_topic(topic: &[u8]) {
-    io::write_all(STDOUT_FILENO, topic);
-    io::write_all(STDOUT_FILENO, b": ");
-    let fd = os::open_read(topic);
-    if fd < 0 {
-        os::fail(topic);
-        return;
+fn run_topic<R: Files + Print + Eprint + Alloc>(rt: &R, topic: &str) -> io::Result<()> {
+    print!(rt; "{topic}: ")?;
+    match fs::open(rt, topic) {
+        Ok(file) => {
+            let mut reader = BufReader::new(rt.alloc(), file)?;
+            run_records(rt, &mut reader)
+        }
+        Err(e) => print_failure(rt, topic, &e),
     }
-    run_records(fd);
-    libc::close(fd);
 }
 
-fn main() {
-    run_topic(b"hand");
-    run_topic(b"wrong-turns");
-    run_topic(b"symbols");
-    run_topic(b"enclosing-names");
-    run_topic(b"branches");
-    run_topic(b"operators");
-    run_topic(b"series");
-    run_topic(b"output-short");
-    run_topic(b"refused-in-the-middle");
-    run_topic(b"random-series");
-    run_topic(b"random-damage");
-    run_topic(b"damaged");
-    run_topic(b"session-broken");
-    run_topic(b"boundary");
-    run_topic(b"short-buffers");
-    run_topic(b"alike");
-    run_topic(b"words");
-    run_topic(b"compared");
+fn main(rt: HostRuntime) -> io::Result<()> {
+    run_topic(&rt, "hand")?;
+    run_topic(&rt, "wrong-turns")?;
+    run_topic(&rt, "symbols")?;
+    run_topic(&rt, "enclosing-names")?;
+    run_topic(&rt, "branches")?;
+    run_topic(&rt, "operators")?;
+    run_topic(&rt, "series")?;
+    run_topic(&rt, "output-short")?;
+    run_topic(&rt, "refused-in-the-middle")?;
+    run_topic(&rt, "random-series")?;
+    run_topic(&rt, "random-damage")?;
+    run_topic(&rt, "damaged")?;
+    run_topic(&rt, "session-broken")?;
+    run_topic(&rt, "boundary")?;
+    run_topic(&rt, "short-buffers")?;
+    run_topic(&rt, "alike")?;
+    run_topic(&rt, "words")?;
+    run_topic(&rt, "compared")
 }

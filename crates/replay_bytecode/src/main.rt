@@ -11,8 +11,10 @@ ghost use Rattle.std.specs.Prelude.{◌≤◌, ◌<◌};
 use bytecode::Layout;
 use definition::{Answer, number};
 use frames::{FrameCount, FramePlace};
-use libc::STDOUT_FILENO;
 use opcode::{Decoded, Instruction};
+use report::print_failure;
+use std::io::Read;
+use std::{fs, io};
 
 // Where reading stands in a line: its first letter, whether its bytes have begun, how many there are, the digit that waits for a
 // second one, where the last group began, and how often it is to stand.
@@ -43,104 +45,101 @@ fn fresh() -> Reading {
 }
 
 // Write a number with a space before it.
-fn write_number(n: usize) {
-    io::write_all(STDOUT_FILENO, b" ");
-    io::print_decimal(STDOUT_FILENO, n as u64);
+fn write_number(rt: &impl Print, n: usize) -> io::Result<()> {
+    print!(rt; " {n}")
 }
 
 // Write a refusal's line.
-fn write_refusal(number: usize, place: usize) {
-    io::write_all(STDOUT_FILENO, b"refused");
-    write_number(number);
-    write_number(place);
-    io::write_all(STDOUT_FILENO, b"\n");
+fn write_refusal(rt: &impl Print, number: usize, place: usize) -> io::Result<()> {
+    rt.print("refused")?;
+    write_number(rt, number)?;
+    write_number(rt, place)?;
+    rt.println("")
 }
 
 // Write a decoded instruction's line: its byte, its operands and its length.
-fn write_instruction(i: Instruction, size: usize) {
-    io::write_all(STDOUT_FILENO, b"ok");
-    write_number(field::wide(i.op));
+fn write_instruction(rt: &impl Print, i: Instruction, size: usize) -> io::Result<()> {
+    rt.print("ok")?;
+    write_number(rt, field::wide(i.op))?;
     if size > 1 {
-        write_number(i.operand as usize);
+        write_number(rt, i.operand as usize)?;
     }
     if size > 3 {
-        write_number(field::wide(i.captures));
+        write_number(rt, field::wide(i.captures))?;
     }
-    write_number(size);
-    io::write_all(STDOUT_FILENO, b"\n");
+    write_number(rt, size)?;
+    rt.println("")
 }
 
 // Write what the check of an image answered: into an empty output no listing fits, so that 15 says that the image is sound.
-fn write_check(number: usize, place: usize) {
+fn write_check(rt: &impl Print, number: usize, place: usize) -> io::Result<()> {
     if number == number::OUTPUT_SHORT {
-        io::write_all(STDOUT_FILENO, b"ok\n");
-        return;
+        return rt.println("ok");
     }
-    write_refusal(number, place);
+    write_refusal(rt, number, place)
 }
 
 // Answer a question on the image check: the call that checks and lists, with an empty output.
-fn answer_image(image: &[u8]) {
+fn answer_image(rt: &impl Print, image: &[u8]) -> io::Result<()> {
     let mut none: [u8; 1] = [0];
     match listing::list_image(image, &mut none[..0]) {
-        Answer::Length(n) => write_number(n),
-        Answer::Refused(r) => write_check(r.number, r.place),
+        Answer::Length(n) => write_number(rt, n),
+        Answer::Refused(r) => write_check(rt, r.number, r.place),
     }
 }
 
 // Write a listing behind its answer's line.
-fn write_listing(output: &[u8], length: usize) {
+fn write_listing(rt: &impl Print, output: &[u8], length: usize) -> io::Result<()> {
     if length <= output.len() {
-        io::write_all(STDOUT_FILENO, b"ok\n");
-        io::write_all(STDOUT_FILENO, &output[..length]);
+        rt.println("ok")?;
+        rt.write_all(&output[..length])?;
     }
+    Ok(())
 }
 
 // List an image into an output.
-fn list_into(image: &[u8], output: &mut [u8]) {
+fn list_into(rt: &impl Print, image: &[u8], output: &mut [u8]) -> io::Result<()> {
     match listing::list_image(image, output) {
-        Answer::Length(n) => write_listing(output, n),
-        Answer::Refused(r) => write_refusal(r.number, r.place),
+        Answer::Length(n) => write_listing(rt, output, n),
+        Answer::Refused(r) => write_refusal(rt, r.number, r.place),
     }
 }
 
 // Answer a question on a listing: the length of its output in three bytes, then the image.
-fn answer_list(bytes: &[u8]) {
+fn answer_list(rt: &impl Print, bytes: &[u8]) -> io::Result<()> {
     if bytes.len() < 3 {
-        return;
+        return Ok(());
     }
     let room = field::wide(bytes[0]) * 65536 + field::word(bytes[1], bytes[2]);
     if room > 65536 {
-        return;
+        return Ok(());
     }
-    let mut output = io::large_buffer();
-    list_into(&bytes[3..], &mut output[..room]);
+    let mut output = [0u8; 65536];
+    list_into(rt, &bytes[3..], &mut output[..room])
 }
 
 // Answer a question on decoding.
-fn answer_decode(code: &[u8]) {
+fn answer_decode(rt: &impl Print, code: &[u8]) -> io::Result<()> {
     match opcode::decode(code) {
-        Decoded::Instr(i, size) => write_instruction(i, size),
-        Decoded::Refused(r) => write_refusal(r.number, r.place),
+        Decoded::Instr(i, size) => write_instruction(rt, i, size),
+        Decoded::Refused(r) => write_refusal(rt, r.number, r.place),
     }
 }
 
 // Answer a question on a session's layout.
-fn answer_session(session: &[u8]) {
+fn answer_session(rt: &impl Print, session: &[u8]) -> io::Result<()> {
     match bytecode::read_layout(session) {
-        Layout::Sound(_) => {
-            io::write_all(STDOUT_FILENO, b"ok\n");
-        }
-        Layout::Broken => write_refusal(number::NO_SESSION, 0),
+        Layout::Sound(_) => rt.println("ok"),
+        Layout::Broken => write_refusal(rt, number::NO_SESSION, 0),
     }
 }
 
 // Write the line of two numbers.
-fn write_two(first: usize, second: usize) {
-    io::write_all(STDOUT_FILENO, b"ok");
-    write_number(first);
-    write_number(second);
-    io::write_all(STDOUT_FILENO, b"\n");
+fn write_two(rt: &impl Print, first: usize, second: usize) -> io::Result<()> {
+    rt.print("ok")?;
+    write_number(rt, first)?;
+    write_number(rt, second)?;
+    rt.println("")
 }
 
 // The number that four bytes hold.
@@ -149,45 +148,43 @@ fn number_of(a: u8, b: u8, c: u8, d: u8) -> usize {
 }
 
 // Answer a question on the count of frames: the size, then the image.
-fn answer_count(bytes: &[u8]) {
+fn answer_count(rt: &impl Print, bytes: &[u8]) -> io::Result<()> {
     if bytes.len() < 4 {
-        return;
+        return Ok(());
     }
     let size = number_of(bytes[0], bytes[1], bytes[2], bytes[3]);
     match frames::count_frames(&bytes[4..], size) {
-        FrameCount::Counted(whole, rest) => write_two(whole, rest),
-        FrameCount::Refused(r) => write_refusal(r.number, r.place),
+        FrameCount::Counted(whole, rest) => write_two(rt, whole, rest),
+        FrameCount::Refused(r) => write_refusal(rt, r.number, r.place),
     }
 }
 
 // Write where a frame lies and how long the part is that was given; or the refusal, and whether a part was given all the same.
-fn show_part(image: &[u8], size: usize, index: usize) {
+fn show_part(rt: &impl Print, image: &[u8], size: usize, index: usize) -> io::Result<()> {
     let part = frames::frame(image, size, index);
     let refusal = frames::frame_refusal(image, size, index);
     let len = part.len();
     if refusal.number != 0 {
-        write_refusal(refusal.number, refusal.place);
+        write_refusal(rt, refusal.number, refusal.place)?;
         if len != 0 {
-            io::write_all(STDOUT_FILENO, b"a part was given\n");
+            rt.println("a part was given")?;
         }
-        return;
+        return Ok(());
     }
     match frames::find_frame(image, size, index) {
-        FramePlace::At(start, _) => write_two(start, len),
-        FramePlace::Refused(_) => {
-            io::write_all(STDOUT_FILENO, b"no frame was found\n");
-        }
+        FramePlace::At(start, _) => write_two(rt, start, len),
+        FramePlace::Refused(_) => rt.println("no frame was found"),
     }
 }
 
 // Answer a question on a frame: the size, its number, then the image.
-fn answer_part(bytes: &[u8]) {
+fn answer_part(rt: &impl Print, bytes: &[u8]) -> io::Result<()> {
     if bytes.len() < 8 {
-        return;
+        return Ok(());
     }
     let size = number_of(bytes[0], bytes[1], bytes[2], bytes[3]);
     let index = number_of(bytes[4], bytes[5], bytes[6], bytes[7]);
-    show_part(&bytes[8..], size, index);
+    show_part(rt, &bytes[8..], size, index)
 }
 
 // A digit in hexadecimal.
@@ -201,28 +198,29 @@ fn hex_digit(d: u8) -> u8
 }
 
 // Write a byte in hexadecimal.
-fn write_byte(b: u8) {
+fn write_byte(rt: &impl Print, b: u8) -> io::Result<()> {
     let pair = [hex_digit(b / 16), hex_digit(b % 16)];
-    io::write_all(STDOUT_FILENO, &pair);
+    rt.write_all(&pair)
 }
 
 // Write the first bytes of an output in hexadecimal.
-fn write_hex(output: &[u8], length: usize) {
+fn write_hex(rt: &impl Print, output: &[u8], length: usize) -> io::Result<()> {
     let mut i = 0;
     while i < length {
         if output.len() <= i {
-            return;
+            return Ok(());
         }
-        write_byte(output[i]);
+        write_byte(rt, output[i])?;
         i += 1;
     }
+    Ok(())
 }
 
 // Write the line of a translation's bytes.
-fn write_bytes(output: &[u8], length: usize) {
-    io::write_all(STDOUT_FILENO, b"ok ");
-    write_hex(output, length);
-    io::write_all(STDOUT_FILENO, b"\n");
+fn write_bytes(rt: &impl Print, output: &[u8], length: usize) -> io::Result<()> {
+    rt.print("ok ")?;
+    write_hex(rt, output, length)?;
+    rt.println("")
 }
 
 // Translate an image into an output.
@@ -234,37 +232,35 @@ fn turn_into(image: &[u8], output: &mut [u8], to_chin: bool) -> Answer {
 }
 
 // Write what a translation answers.
-fn write_turned(image: &[u8], output: &mut [u8], to_chin: bool) {
+fn write_turned(rt: &impl Print, image: &[u8], output: &mut [u8], to_chin: bool) -> io::Result<()> {
     match turn_into(image, output, to_chin) {
-        Answer::Length(n) => write_bytes(output, n),
-        Answer::Refused(r) => write_refusal(r.number, r.place),
+        Answer::Length(n) => write_bytes(rt, output, n),
+        Answer::Refused(r) => write_refusal(rt, r.number, r.place),
     }
 }
 
 // Answer a question on the chin form: the length of its output in three bytes, then the image or the chin form.
-fn answer_turn(bytes: &[u8], to_chin: bool) {
+fn answer_turn(rt: &impl Print, bytes: &[u8], to_chin: bool) -> io::Result<()> {
     if bytes.len() < 3 {
-        return;
+        return Ok(());
     }
     let room = field::wide(bytes[0]) * 65536 + field::word(bytes[1], bytes[2]);
     if room > 65536 {
-        return;
+        return Ok(());
     }
-    let mut output = io::large_buffer();
-    write_turned(&bytes[3..], &mut output[..room], to_chin);
+    let mut output = [0u8; 65536];
+    write_turned(rt, &bytes[3..], &mut output[..room], to_chin)
 }
 
 // Answer a question on the sending of an image.
-fn answer_sending(bytes: &[u8], kind: u8) {
+fn answer_sending(rt: &impl Print, bytes: &[u8], kind: u8) -> io::Result<()> {
     if kind == b'c' {
-        answer_count(bytes);
-        return;
+        return answer_count(rt, bytes);
     }
     if kind == b'p' {
-        answer_part(bytes);
-        return;
+        return answer_part(rt, bytes);
     }
-    answer_turn(bytes, kind == b't');
+    answer_turn(rt, bytes, kind == b't')
 }
 
 // Zero the bytes from an offset on.
@@ -277,27 +273,23 @@ fn clear(bytes: &mut [u8], from: usize) {
 }
 
 // Answer a line's question on the first `length` bytes; a session is all of them.
-fn answer(bytes: &[u8], kind: u8, length: usize) {
+fn answer(rt: &impl Print, bytes: &[u8], kind: u8, length: usize) -> io::Result<()> {
     if bytes.len() < length {
-        return;
+        return Ok(());
     }
     if kind == b'i' {
-        answer_image(&bytes[..length]);
-        return;
+        return answer_image(rt, &bytes[..length]);
     }
     if kind == b'l' {
-        answer_list(&bytes[..length]);
-        return;
+        return answer_list(rt, &bytes[..length]);
     }
     if kind == b'd' {
-        answer_decode(&bytes[..length]);
-        return;
+        return answer_decode(rt, &bytes[..length]);
     }
     if kind != b's' {
-        answer_sending(&bytes[..length], kind);
-        return;
+        return answer_sending(rt, &bytes[..length], kind);
     }
-    answer_session(bytes);
+    answer_session(rt, bytes)
 }
 
 // The value of a hexadecimal digit; 16 where it is none.
@@ -419,30 +411,30 @@ fn read_byte(bytes: &mut [u8], s: Reading, b: u8) -> Reading {
 }
 
 // Read a byte of the cases.
-fn read(bytes: &mut [u8], s: Reading, b: u8) -> Reading {
+fn read(rt: &impl Print, bytes: &mut [u8], s: Reading, b: u8) -> io::Result<Reading> {
     if b == b'\n' {
         clear(bytes, s.length);
-        answer(bytes, s.kind, s.length);
-        return fresh();
+        answer(rt, bytes, s.kind, s.length)?;
+        return Ok(fresh());
     }
     if !s.begun {
-        return read_word(s, b);
+        return Ok(read_word(s, b));
     }
     if s.counting {
-        return read_count(bytes, s, b);
+        return Ok(read_count(bytes, s, b));
     }
-    read_byte(bytes, s, b)
+    Ok(read_byte(bytes, s, b))
 }
 
 // Read a part of the cases.
-fn read_part(bytes: &mut [u8], s: Reading, part: &[u8]) -> Reading {
+fn read_part(rt: &impl Print, bytes: &mut [u8], s: Reading, part: &[u8]) -> io::Result<Reading> {
     let mut t = s;
     let mut i = 0;
     while i < part.len() {
-        t = read(bytes, t, part[i]);
+        t = read(rt, bytes, t, part[i])?;
         i += 1;
     }
-    t
+    Ok(t)
 }
 
 // What reading a file on gives: where reading stands, or nothing more.
@@ -453,37 +445,39 @@ enum Step {
 }
 
 // Read on in a file of cases.
-fn read_some(fd: i32, bytes: &mut [u8], s: Reading) -> Step {
-    let mut part = io::buffer();
-    let got = libc::read(fd, &mut part);
-    if got <= 0 {
-        return Step::Done;
+fn read_some<R: Read>(
+    rt: &impl Print,
+    reader: &mut R,
+    bytes: &mut [u8],
+    s: Reading,
+) -> io::Result<Step> {
+    let mut part = [0u8; 4096];
+    let n = reader.read(&mut part)?;
+    if n == 0 {
+        return Ok(Step::Done);
     }
-    let n = io::count(got, &part);
-    Step::More(read_part(bytes, s, &part[..n]))
+    Ok(Step::More(read_part(rt, bytes, s, &part[..n])?))
 }
 
-// Read a whole file of cases. Nothing says that a file ends, so the turns are counted down.
-fn read_all(fd: i32, bytes: &mut [u8]) {
+// Read a whole file of cases. Nothing says that a file ends, so the turns are counted.
+fn read_all<R: Read>(rt: &impl Print, reader: &mut R, bytes: &mut [u8]) -> io::Result<()> {
     let mut s = fresh();
-    let mut turns = u64::MAX;
-    while turns > 0 {
-        match read_some(fd, bytes, s) {
+    for _ in 0..u64::MAX {
+        match read_some(rt, reader, bytes, s)? {
             Step::More(t) => s = t,
-            Step::Done => return,
+            Step::Done => return Ok(()),
         }
-        turns -= 1;
     }
+    Ok(())
 }
 
-fn main() {
-    let path = b"cases";
-    let fd = os::open_read(path);
-    if fd < 0 {
-        os::fail(path);
-        return;
+fn main(rt: HostRuntime) -> io::Result<()> {
+    let path = "cases";
+    match fs::open(&rt, path) {
+        Ok(mut file) => {
+            let mut bytes = [0u8; 65536];
+            read_all(&rt, &mut file, &mut bytes)
+        }
+        Err(e) => print_failure(&rt, path, &e),
     }
-    let mut bytes = io::large_buffer();
-    read_all(fd, &mut bytes);
-    libc::close(fd);
 }

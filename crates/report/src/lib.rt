@@ -1,59 +1,90 @@
-// What the programs that take scripts and trees say of a refusal: words for numbers, and the line and column of a place in a text.
+// What the programs share: reading input into a buffer, words for the numbers of refusals, and the line and column of a place in a text.
 #![tactic(auto)]
 
-ghost use Rattle.std.specs.Prelude.{◌+◌, ◌≤◌, length};
+ghost use Rattle.std.specs.Prelude.{◌≡◌, ◌+◌, ◌<◌, ◌≤◌, length, take, IfOk};
+ghost use Rattle.std.specs.Io.KnownBytes.{Consumes, IsAtEnd};
 
 use definition::number;
-use libc::{STDERR_FILENO, STDOUT_FILENO};
+use std::io;
+use std::io::Read;
 
-// Writes what a number of the walk stands for; whether it could.
-fn print_walk_word(number: usize) -> bool {
-    match number {
-        number::UNDEFINED => io::write_all(STDERR_FILENO, b"undefined name"),
-        number::OPERATOR => io::write_all(STDERR_FILENO, b"operator that is none here"),
-        number::MACRO => io::write_all(STDERR_FILENO, b"macro"),
-        number::TOO_MANY => io::write_all(STDERR_FILENO, b"too many parameters or arguments"),
-        number::LOCALS => io::write_all(STDERR_FILENO, b"too many locals"),
-        number::CAPTURES => io::write_all(STDERR_FILENO, b"too many captures"),
-        number::GLOBALS => io::write_all(STDERR_FILENO, b"too many globals"),
-        number::POOL => io::write_all(STDERR_FILENO, b"pool full"),
-        number::CODE => io::write_all(STDERR_FILENO, b"code full"),
-        number::NESTING => io::write_all(STDERR_FILENO, b"functions nested too deep"),
-        _ => io::write_all(STDERR_FILENO, b"branch without a value"),
+// Reads until the buffer is full or the input ends: how many bytes then stand at its front.
+pub fn read_full<R: Read>(reader: &mut R, buffer: &mut [u8]) -> io::Result<usize>
+    ensures bound { IfOk result (λ n. n ≤ length buffer.new) }
+    ensures same_length { length buffer.new ≡ length buffer.old }
+    ensures bytes { IfOk result (λ n. Consumes (R.remaining reader.old) (R.remaining reader.new) (take n buffer.new)) }
+    ensures end { IfOk result (λ n. n < length buffer.new → IsAtEnd (R.remaining reader.new)) }
+{
+    let mut done = 0;
+    while done < buffer.len() {
+        let n = reader.read(&mut buffer[done..])?;
+        if n == 0 {
+            break;
+        }
+        done += n;
+    }
+    Ok(done)
+}
+
+// The words of an error's text, without the system's number behind them.
+fn words_of(text: &str) -> &str {
+    match text.split_once(" (os error ") {
+        Some((words, _)) => words,
+        None => text,
     }
 }
 
-// Writes what a number of a compile call stands for; whether it could.
-pub fn print_word(number: usize) -> bool {
+// Writes why a call of the system failed, behind the name of what it was for.
+pub fn print_failure<R: Eprint + Alloc>(rt: &R, name: &str, error: &io::Error) -> io::Result<()> {
+    let text = format!(in rt.alloc(); "{error}")?;
+    let words = words_of(text.as_str());
+    eprintln!(rt; "{name}: {words}")
+}
+
+// Writes what a number of the walk stands for.
+fn print_walk_word(rt: &impl Eprint, number: usize) -> io::Result<()> {
     match number {
-        number::SHORT_BUFFER => io::write_all(STDERR_FILENO, b"short buffer"),
-        number::NO_SESSION => io::write_all(STDERR_FILENO, b"no session"),
-        number::BAD_TREE => io::write_all(STDERR_FILENO, b"bad tree"),
-        number::TOO_DEEP => io::write_all(STDERR_FILENO, b"tree too deep"),
-        number::OUTPUT_SHORT => io::write_all(STDERR_FILENO, b"output short"),
-        _ => print_walk_word(number),
+        number::UNDEFINED => rt.eprint("undefined name"),
+        number::OPERATOR => rt.eprint("operator that is none here"),
+        number::MACRO => rt.eprint("macro"),
+        number::TOO_MANY => rt.eprint("too many parameters or arguments"),
+        number::LOCALS => rt.eprint("too many locals"),
+        number::CAPTURES => rt.eprint("too many captures"),
+        number::GLOBALS => rt.eprint("too many globals"),
+        number::POOL => rt.eprint("pool full"),
+        number::CODE => rt.eprint("code full"),
+        number::NESTING => rt.eprint("functions nested too deep"),
+        _ => rt.eprint("branch without a value"),
     }
 }
 
-// Writes what a number of reading a text stands for, where the output has room for the longest tree; whether it could.
-fn print_text_word(number: usize) -> bool {
+// Writes what a number of a compile call stands for.
+pub fn print_word(rt: &impl Eprint, number: usize) -> io::Result<()> {
     match number {
-        20 => io::write_all(STDERR_FILENO, b"no script"),
-        21 => io::write_all(STDERR_FILENO, b"integer too large"),
-        number::TOO_DEEP => io::write_all(STDERR_FILENO, b"tree too deep"),
-        _ => io::write_all(STDERR_FILENO, b"tree too long"),
+        number::SHORT_BUFFER => rt.eprint("short buffer"),
+        number::NO_SESSION => rt.eprint("no session"),
+        number::BAD_TREE => rt.eprint("bad tree"),
+        number::TOO_DEEP => rt.eprint("tree too deep"),
+        number::OUTPUT_SHORT => rt.eprint("output short"),
+        _ => print_walk_word(rt, number),
+    }
+}
+
+// Writes what a number of reading a text stands for, where the output has room for the longest tree.
+fn print_text_word(rt: &impl Eprint, number: usize) -> io::Result<()> {
+    match number {
+        20 => rt.eprint("no script"),
+        21 => rt.eprint("integer too large"),
+        number::TOO_DEEP => rt.eprint("tree too deep"),
+        _ => rt.eprint("tree too long"),
     }
 }
 
 // Writes a refusal and its offset in a tree, behind the program's name.
-pub fn print_in_tree(number: usize, place: usize) {
-    io::write_all(STDERR_FILENO, b": refused with number ");
-    io::print_decimal(STDERR_FILENO, number as u64);
-    io::write_all(STDERR_FILENO, b", ");
-    print_word(number);
-    io::write_all(STDERR_FILENO, b", at offset ");
-    io::print_decimal(STDERR_FILENO, place as u64);
-    io::write_all(STDERR_FILENO, b" of the tree.\n");
+pub fn print_in_tree(rt: &impl Eprint, number: usize, place: usize) -> io::Result<()> {
+    eprint!(rt; ": refused with number {number}, ")?;
+    print_word(rt, number)?;
+    eprintln!(rt; ", at offset {place} of the tree.")
 }
 
 // A line and a column, both from 1.
@@ -98,24 +129,21 @@ fn position_of(text: &[u8], place: usize) -> Position
 }
 
 // Writes a refusal and its line and column in a text, behind the program's name.
-pub fn print_in_text(number: usize, text: &[u8], place: usize)
+pub fn print_in_text(rt: &impl Eprint, number: usize, text: &[u8], place: usize) -> io::Result<()>
     requires { length text.now ≤ 8193 }
 {
     let at = position_of(text, place);
-    io::write_all(STDERR_FILENO, b": refused with number ");
-    io::print_decimal(STDERR_FILENO, number as u64);
-    io::write_all(STDERR_FILENO, b", ");
-    print_text_word(number);
-    io::write_all(STDERR_FILENO, b", at line ");
-    io::print_decimal(STDERR_FILENO, at.line as u64);
-    io::write_all(STDERR_FILENO, b", column ");
-    io::print_decimal(STDERR_FILENO, at.column as u64);
-    io::write_all(STDERR_FILENO, b".\n");
+    let line = at.line;
+    let column = at.column;
+    eprint!(rt; ": refused with number {number}, ")?;
+    print_text_word(rt, number)?;
+    eprintln!(rt; ", at line {line}, column {column}.")
 }
 
 // Writes the first bytes of an output to standard output.
-pub fn write_first(output: &[u8], length: usize) {
+pub fn write_first(rt: &impl Print, output: &[u8], length: usize) -> io::Result<()> {
     if length <= output.len() {
-        io::write_all(STDOUT_FILENO, &output[..length]);
+        rt.write_all(&output[..length])?;
     }
+    Ok(())
 }

@@ -4,128 +4,116 @@
 #![tactic(auto)]
 
 use definition::{Answer, number};
-use libc::{STDERR_FILENO, STDIN_FILENO, STDOUT_FILENO};
 use listing::text::eight_bytes;
+use report::read_full;
+use std::io;
 use trial::RunAnswer;
 
-// Writes what a number stands for, and what its place counts; whether it could.
-fn print_word(number: usize) -> bool {
+// Writes what a number stands for, and what its place counts.
+fn print_word(rt: &impl Eprint, number: usize) -> io::Result<()> {
     match number {
-        number::BAD_IMAGE => io::write_all(STDERR_FILENO, b"bad image, at offset "),
-        heights::BAD_HEIGHTS => io::write_all(STDERR_FILENO, b"no heights pass, in chunk "),
-        27 => io::write_all(
-            STDERR_FILENO,
-            b"instruction that a trial run does not take, at offset ",
-        ),
-        28 => io::write_all(
-            STDERR_FILENO,
-            b"wrong operand kind, overflow or zero divisor, at offset ",
-        ),
-        29 => io::write_all(STDERR_FILENO, b"global not yet set, at offset "),
-        _ => io::write_all(STDERR_FILENO, b"output short, at "),
+        number::BAD_IMAGE => rt.eprint("bad image, at offset "),
+        heights::BAD_HEIGHTS => rt.eprint("no heights pass, in chunk "),
+        27 => rt.eprint("instruction that a trial run does not take, at offset "),
+        28 => rt.eprint("wrong operand kind, overflow or zero divisor, at offset "),
+        29 => rt.eprint("global not yet set, at offset "),
+        _ => rt.eprint("output short, at "),
     }
 }
 
 // Writes a refusal as a sentence.
-fn print_refusal(number: usize, place: usize) {
-    io::write_all(STDERR_FILENO, b"run_image: refused with number ");
-    io::print_decimal(STDERR_FILENO, number as u64);
-    io::write_all(STDERR_FILENO, b", ");
-    print_word(number);
-    io::print_decimal(STDERR_FILENO, place as u64);
-    io::write_all(STDERR_FILENO, b".\n");
+fn print_refusal(rt: &impl Eprint, number: usize, place: usize) -> io::Result<()> {
+    eprint!(rt; "run_image: refused with number {number}, ")?;
+    print_word(rt, number)?;
+    eprintln!(rt; "{place}.")
 }
 
 // Writes an integer in two's complement.
-fn print_integer(word: u64) {
-    io::write_all(STDOUT_FILENO, b"integer ");
+fn print_integer(rt: &impl Print, word: u64) -> io::Result<()> {
     if word < 0x8000000000000000 {
-        io::print_decimal(STDOUT_FILENO, word);
-        return;
+        return print!(rt; "integer {word}");
     }
-    io::write_all(STDOUT_FILENO, b"-");
-    io::print_decimal(STDOUT_FILENO, 0xFFFFFFFFFFFFFFFF - word + 1);
+    let size = 0xFFFFFFFFFFFFFFFF - word + 1;
+    print!(rt; "integer -{size}")
 }
 
 // Writes a kind and a value.
-fn print_value(kind: u8, word: u64) {
+fn print_value(rt: &impl Print, kind: u8, word: u64) -> io::Result<()> {
     if kind == 1 {
-        print_integer(word);
-        return;
+        return print_integer(rt, word);
     }
     if kind == 3 {
-        io::write_all(STDOUT_FILENO, b"null");
-        return;
+        return rt.print("null");
     }
     if kind == 0 {
-        io::write_all(STDOUT_FILENO, b"unset");
-        return;
+        return rt.print("unset");
     }
     if word == 0 {
-        io::write_all(STDOUT_FILENO, b"boolean false");
-        return;
+        return rt.print("boolean false");
     }
-    io::write_all(STDOUT_FILENO, b"boolean true");
+    rt.print("boolean true")
 }
 
 // Writes the line of a global.
-fn print_global(index: usize, kind: u8, word: u64) {
-    io::print_decimal(STDOUT_FILENO, index as u64);
-    io::write_all(STDOUT_FILENO, b" ");
-    print_value(kind, word);
-    io::write_all(STDOUT_FILENO, b"\n");
+fn print_global(rt: &impl Print, index: usize, kind: u8, word: u64) -> io::Result<()> {
+    print!(rt; "{index} ")?;
+    print_value(rt, kind, word)?;
+    rt.println("")
 }
 
 // Writes the lines of the globals, nine bytes each.
-fn print_globals(cells: &[u8]) {
+fn print_globals(rt: &impl Print, cells: &[u8]) -> io::Result<()> {
     let mut at = 0;
     let mut index = 0;
     while at < cells.len() {
         if cells.len() - at < 9 {
-            return;
+            return Ok(());
         }
-        print_global(index, cells[at], eight_bytes(cells, at + 1) as u64);
+        print_global(rt, index, cells[at], eight_bytes(cells, at + 1) as u64)?;
         at += 9;
         index += 1;
     }
+    Ok(())
 }
 
 // Writes the globals of the first bytes.
-fn print_first(output: &[u8], length: usize) {
+fn print_first(rt: &impl Print, output: &[u8], length: usize) -> io::Result<()> {
     if length <= output.len() {
-        print_globals(&output[..length]);
+        print_globals(rt, &output[..length])?;
     }
+    Ok(())
 }
 
 // Writes so many globals.
-fn print_all(output: &[u8], globals: usize) {
+fn print_all(rt: &impl Print, output: &[u8], globals: usize) -> io::Result<()> {
     if globals <= 1024 {
-        print_first(output, 9 * globals);
+        print_first(rt, output, 9 * globals)?;
     }
+    Ok(())
 }
 
 // Runs main with heights that were proposed.
-fn run_main(image: &[u8], heights: &[u32]) {
+fn run_main(rt: &(impl Print + Eprint), image: &[u8], heights: &[u32]) -> io::Result<()> {
     let mut work = [0u64; trial::WORK_SIZE];
     let mut output = [0u8; 9216];
     match trial::run(image, heights, &mut work, &mut output) {
-        RunAnswer::Ran(globals, _) => print_all(&output, globals),
-        RunAnswer::Refused(r) => print_refusal(r.number, r.place),
+        RunAnswer::Ran(globals, _) => print_all(rt, &output, globals),
+        RunAnswer::Refused(r) => print_refusal(rt, r.number, r.place),
     }
 }
 
 // Proposes heights. An image has fewer instructions than bytes; heights behind the last are not read.
-fn run(image: &[u8]) {
+fn run(rt: &(impl Print + Eprint), image: &[u8]) -> io::Result<()> {
     let mut heights = [0u32; 65536];
     match heights::propose_heights(image, &mut heights) {
-        Answer::Length(_) => run_main(image, &heights),
-        Answer::Refused(r) => print_refusal(r.number, r.place),
+        Answer::Length(_) => run_main(rt, image, &heights),
+        Answer::Refused(r) => print_refusal(rt, r.number, r.place),
     }
 }
 
 // An image has at most 61,446 bytes: a longer input is refused as its first 61,447 are.
-fn main() {
-    let mut image = io::large_buffer();
-    let length = io::read_full(STDIN_FILENO, &mut image);
-    run(&image[..length]);
+fn main(rt: HostRuntime) -> io::Result<()> {
+    let mut image = [0u8; 65536];
+    let length = read_full(&mut rt.reader(), &mut image)?;
+    run(&rt, &image[..length])
 }

@@ -3,7 +3,7 @@ use Prim.Native.Nat.{ℕ, ◌+◌, ◌≤◌, ◌<◌}
 use mathlib.Core.Path.{◌≡◌, refl, sym, ap, subst, ◌∙◌}
 use mathlib.Core.Bool.{Bool, true, false}
 use mathlib.Core.List.{List, [], ◌∷◌, reverse}
-use mathlib.Core.Option.{Option, none, some}
+use mathlib.Core.Option.{none, some}
 use native.Mathlib.Omega.{arith}
 use lib.ListN.{length}
 use lib.Dec.{lit≤}
@@ -12,13 +12,13 @@ use Rattle.definition.specs.Basic.{Bytes, byte_at, pick}
 use Rattle.definition.specs.Limit.{words_limit}
 use Rattle.definition.specs.Tag.{tag_words}
 use Rattle.definition.specs.SymbolTable.{Symbol, same, builtins, find_builtin, distinct}
-use Rattle.definition.specs.Session.{Words, six, listed, word_list, in_order}
+use Rattle.definition.specs.Session.{Words, six, listed, in_order}
 use Rattle.definition.specs.Decode.{Decoded, decoded, malformed, then, as_words, read_name_fields, read_words, list_in, words_in}
 use Rattle.field.specs.Layout.{after}
 use Rattle.field.specs.Row.{RowTo, HasRow, found_of}
 use Rattle.field.specs.declared.names.Found.{Found}
 use Rattle.field.specs.declared.names.Found.TheVariants.{At, Nothing}
-use Rattle.field.proofs.Reading.{items-row, Filled, filled, NamesRead, names-read}
+use Rattle.field.proofs.Reading.{items-row, Filled, filled, names-read}
 use Rattle.field.proofs.Rows.{row_same}
 use Rattle.symbol_table.specs.Layout.{symbol_of}
 use Rattle.symbol_table.specs.Contract.{as_symbol, HasWords}

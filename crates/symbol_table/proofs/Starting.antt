@@ -1,7 +1,6 @@
 -- The names of a session, entered one after the other: what is left decides.
 use Prim.Native.Nat.{ℕ, ◌+◌, ◌-◌, ◌%◌, ◌≤◌, ◌<◌}
 use mathlib.Core.Path.{◌≡◌, refl, sym, ap, ◌∙◌}
-use mathlib.Core.Bool.{true, false}
 use mathlib.Core.Logic.{◌≢◌}
 use mathlib.Core.List.{List, [], ◌∷◌, ◌++◌}
 use mathlib.Core.Option.{none}
@@ -13,7 +12,7 @@ use Rattle.definition.specs.Limit.{session_size, globals_limit}
 use Rattle.definition.specs.SymbolTable.{find_global}
 use Rattle.definition.specs.Decode.{decoded, items, read_name_field}
 use Rattle.definition.specs.Tag.{tag_names}
-use Rattle.field.specs.Layout.{len, after, content}
+use Rattle.field.specs.Layout.{after, content}
 use Rattle.field.proofs.Reading.{items_none, Next, items_next, IsRead, name_read, NamesRead, names-read}
 use Rattle.symbol_table.specs.Name.{Stands, buckets, hash_of}
 use Rattle.symbol_table.specs.Search.{child_of, ends}

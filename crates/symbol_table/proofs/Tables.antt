@@ -1,5 +1,5 @@
 -- What a store in a function's part means: the table after it.
-use Prim.Native.Nat.{ℕ, zero, suc, ◌+◌, ◌*◌, ◌/◌, ◌%◌, ◌≤◌, ◌<◌, min}
+use Prim.Native.Nat.{ℕ, zero, suc, ◌+◌, ◌/◌, ◌%◌, ◌≤◌, ◌<◌, min}
 use mathlib.Core.Path.{◌≡◌, refl, ◌∙◌}
 use mathlib.Core.Logic.{◌≢◌}
 use mathlib.Core.List.{List, [], ◌∷◌}
@@ -9,10 +9,10 @@ use lib.ListN.{length, get_or, set, take, drop, length-set, length-drop}
 use lib.Seq.{get_or-set_same, get_or-set_other, lt-length-set, drop-cons}
 use Rattle.definition.specs.Basic.{Bytes}
 use Rattle.definition.specs.Limit.{locals_limit, free_limit}
-use Rattle.definition.specs.SymbolTable.{Symbol, Entry, Table, with_local, with_free, named}
+use Rattle.definition.specs.SymbolTable.{with_local, with_free, named}
 use Rattle.field.specs.Layout.{len, content}
 use Rattle.symbol_table.specs.Name.{Stands, hash_of}
-use Rattle.symbol_table.specs.Layout.{part_size, entries_at, originals_at, marked_at, marks_at, marks_count, symbol_of, packed, name_in, code_in, tag_in, entry_of, back, entries, originals_of, table_of, Sized, GoodEntry, GoodTable, GoodPart}
+use Rattle.symbol_table.specs.Layout.{part_size, entries_at, originals_at, marked_at, marks_at, marks_count, symbol_of, packed, entry_of, back, entries, originals_of, table_of, Sized, GoodEntry, GoodTable, GoodPart}
 use Rattle.symbol_table.specs.Store.{entered_in, local_in, free_in}
 use Rattle.symbol_table.specs.Contract.{IsName}
 use Rattle.symbol_table.proofs.Back.{last_or_before, back_same, length_back}

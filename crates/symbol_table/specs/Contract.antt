@@ -8,7 +8,7 @@ use Rattle.definition.specs.SymbolTable.{Symbol, Table, find, find_global, find_
 use Rattle.definition.specs.Session.{Words}
 use Rattle.definition.specs.Limit.{globals_limit}
 use Rattle.definition.specs.Decode.{decoded, items, read_name_field, read_words, read_names}
-use Rattle.field.specs.Layout.{after, content}
+use Rattle.field.specs.Layout.{content}
 use Rattle.symbol_table.specs.Name.{Stands, fields, buckets, hash_of}
 use Rattle.symbol_table.specs.Search.{Way, Goes}
 use Rattle.symbol_table.specs.Layout.{globals_size, heads_at, head_of, part_size, entries_at, tag_in, base, part, symbol_of, table_of, tables_of, globals_of, globals_in, GoodTable, GoodGlobals, Good, entries, marked_at, marks_at, code_of, IsMarked, Marked, GoodPart}

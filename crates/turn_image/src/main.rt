@@ -4,36 +4,31 @@
 
 use bytecode::CHIN_MAIN;
 use definition::{Answer, number};
-use libc::{STDERR_FILENO, STDIN_FILENO, STDOUT_FILENO};
+use report::read_full;
+use std::io;
 
-// Writes what a number stands for; whether it could.
-fn print_word(number: usize) -> bool {
+// Writes what a number stands for.
+fn print_word(rt: &impl Eprint, number: usize) -> io::Result<()> {
     match number {
-        number::BAD_IMAGE => io::write_all(STDERR_FILENO, b"bad image"),
-        chin::BAD_JUMP => io::write_all(
-            STDERR_FILENO,
-            b"jump without an operand in the other form",
-        ),
-        _ => io::write_all(STDERR_FILENO, b"output short"),
+        number::BAD_IMAGE => rt.eprint("bad image"),
+        chin::BAD_JUMP => rt.eprint("jump without an operand in the other form"),
+        _ => rt.eprint("output short"),
     }
 }
 
 // Writes a refusal as a sentence.
-fn print_refusal(number: usize, place: usize) {
-    io::write_all(STDERR_FILENO, b"turn_image: refused with number ");
-    io::print_decimal(STDERR_FILENO, number as u64);
-    io::write_all(STDERR_FILENO, b", ");
-    print_word(number);
-    io::write_all(STDERR_FILENO, b", at offset ");
-    io::print_decimal(STDERR_FILENO, place as u64);
-    io::write_all(STDERR_FILENO, b" of the image.\n");
+fn print_refusal(rt: &impl Eprint, number: usize, place: usize) -> io::Result<()> {
+    eprint!(rt; "turn_image: refused with number {number}, ")?;
+    print_word(rt, number)?;
+    eprintln!(rt; ", at offset {place} of the image.")
 }
 
 // Writes the first bytes of the output.
-fn write_image(output: &[u8], length: usize) {
+fn write_image(rt: &impl Print, output: &[u8], length: usize) -> io::Result<()> {
     if length <= output.len() {
-        io::write_all(STDOUT_FILENO, &output[..length]);
+        rt.write_all(&output[..length])?;
     }
+    Ok(())
 }
 
 // Translates an image by its first byte.
@@ -47,17 +42,17 @@ fn turn(image: &[u8], output: &mut [u8]) -> Answer {
 }
 
 // Translates an image into an output of 65,536 bytes.
-fn run(image: &[u8]) {
-    let mut output = io::large_buffer();
+fn run(rt: &(impl Print + Eprint), image: &[u8]) -> io::Result<()> {
+    let mut output = [0u8; 65536];
     match turn(image, &mut output) {
-        Answer::Length(n) => write_image(&output, n),
-        Answer::Refused(r) => print_refusal(r.number, r.place),
+        Answer::Length(n) => write_image(rt, &output, n),
+        Answer::Refused(r) => print_refusal(rt, r.number, r.place),
     }
 }
 
 // An image has at most 61,446 bytes: a longer input is refused as its first 61,447 are.
-fn main() {
-    let mut image = io::large_buffer();
-    let length = io::read_full(STDIN_FILENO, &mut image);
-    run(&image[..length]);
+fn main(rt: HostRuntime) -> io::Result<()> {
+    let mut image = [0u8; 65536];
+    let length = read_full(&mut rt.reader(), &mut image)?;
+    run(&rt, &image[..length])
 }

@@ -1,0 +1,39 @@
+-- `listing::list_image` meets its contract: first the reading that checks and counts, then the text.
+use Rattle.listing.proofs.Images.{sound_image, wrong_image, listing_long, listing-written}
+use Rattle.listing.proofs.list_image.Goals as goal
+
+pub returns-then-output-size : goal.returns-then-output-size
+returns-then-output-size c =
+    let if1 = c.if-output-size in
+    let constants = c.in-Sound in
+    let measure-image = c.measure_image in
+    let start = c in
+    let h = sound_image start.args.image.now measure-image.ensures constants.is in
+    let facts = listing_long start.args.image.now start.args.output.now h.0.is h.2 if1.true in
+    record { answers = facts.0; writes = facts.1 }
+
+pub put_listing-requires : goal.put_listing-requires
+put_listing-requires c =
+    let constants = c.in-Sound in
+    let measure-image = c.measure_image in
+    let start = c in
+    (sound_image start.args.image.now measure-image.ensures constants.is).0
+
+pub returns-in-Refused : goal.returns-in-Refused
+returns-in-Refused c =
+    let r = c.in-Refused in
+    let measure-image = c.measure_image in
+    let start = c in
+    let facts = wrong_image start.args.image.now start.args.output.now measure-image.ensures r.is in
+    record { answers = facts.0; writes = facts.1 }
+
+pub returns-else-output-size : goal.returns-else-output-size
+returns-else-output-size c =
+    let put-listing = c.put_listing in
+    let if1 = c.if-output-size in
+    let constants = c.in-Sound in
+    let measure-image = c.measure_image in
+    let start = c in
+    let h = sound_image start.args.image.now measure-image.ensures constants.is in
+    let facts = listing-written start.args.image.now start.args.output.now h.0.is h.2 if1.false (put-listing.ensures h.0.image h.0.is h.1) in
+    record { answers = facts.0; writes = facts.1 }

@@ -1,0 +1,63 @@
+-- The measure is the number of open functions.
+use Rattle.std.proofs.Common.{◌≡◌, suc, ◌-◌, arith, sym, ap, ◌∙◌}
+use lib.Seq.{length-take-le}
+use Rattle.symbol_table.specs.Layout.{base}
+use Rattle.symbol_table.specs.Contract.{hit_of}
+use Rattle.symbol_table.proofs.Resolving.{good-globals, good_here, good_around, part-after, resolved_outermost, few_outer, good_kept, known_around, found_here, found_around}
+use Rattle.symbol_table.proofs.+resolve.Goals as goal
+
+pub resolve_outermost-requires-clause-good_globals : goal.resolve_outermost-requires-clause-good_globals
+resolve_outermost-requires-clause-good_globals t c = good-globals _ _ _ _ c.requires.good
+
+pub returns-then-level-eq0 : goal.returns-then-level-eq0
+returns-then-level-eq0 t c = resolved_outermost _ _ _ _ _ _ c.requires.good _ c.if-level-eq0.true c.resolve_outermost.ensures.crossed c.resolve_outermost.ensures.result_value
+
+pub count_at-n-requires-clause-sized : goal.count_at-n-requires-clause-sized
+count_at-n-requires-clause-sized t c = (good_here _ _ _ _ c.requires.good (c.args.level - 1) (omega arith)).table.sized
+
+pub code_for-outside-requires-clause-good_globals : goal.code_for-outside-requires-clause-good_globals
+code_for-outside-requires-clause-good_globals t c = good-globals _ _ _ _ c.requires.good
+
+pub look_at-requires-clause-good_globals : goal.look_at-requires-clause-good_globals
+look_at-requires-clause-good_globals t c = good-globals _ _ _ _ c.requires.good
+
+pub look_at-requires-clause-good_part : goal.look_at-requires-clause-good_part
+look_at-requires-clause-good_part t c = good_here _ _ _ _ c.requires.good (c.args.level - 1) (omega arith)
+
+pub returns-in-At : goal.returns-in-At
+returns-in-At t c =
+    let look = c.look_at.ensures in
+    found_here _ _ _ _ _ c.requires.good (c.args.level - 1) (omega arith) look.inside _ _ _ (ap hit_of (sym c.in-At.is) ∙ look.result_value)
+
+pub resolve-outer-requires : goal.resolve-outer-requires
+resolve-outer-requires t c =
+    let p = c.requires in
+    let l = c.args.level - 1 in
+    let e : c.args.level ≡ suc l = omega arith in
+    let look = c.look_at in
+    let a₁ = look.new.table in
+    let good = good_kept _ _ _ _ _ p.good l e look.ensures.inside in
+    (omega arith, (p.has_words, (omega (arith, length-take-le (base l) a₁ (omega (arith, look.auto.table))), (good_around _ _ _ _ good l e, (p.name, (p.name_lt_tree_limit, (p.hash_lt_hash_bound, known_around _ _ _ _ _ p.good l e look.ensures.inside _ _ c.code_for-outside.ensures)))))))
+
+pub cross_at-requires-clause-sized : goal.cross_at-requires-clause-sized
+cross_at-requires-clause-sized t c =
+    let l = c.args.level - 1 in
+    let e : c.args.level ≡ suc l = omega arith in
+    let look = c.look_at in
+    let a₁ = look.new.table in
+    let good = good_kept _ _ _ _ _ c.requires.good l e look.ensures.inside in
+    rw (part-after a₁ l _ (c.resolve-outer.auto.table ∙ length-take-le (base l) a₁ (omega (arith, look.auto.table)))) (good_here _ _ _ _ good l e).table.sized
+
+pub cross_at-requires-clause-few : goal.cross_at-requires-clause-few
+cross_at-requires-clause-few t c = few_outer (c.args.level - 1) _ c.resolve-outer.ensures (omega arith)
+
+pub returns : goal.returns
+returns t c =
+    let l = c.args.level - 1 in
+    let e : c.args.level ≡ suc l = omega arith in
+    let look = c.look_at in
+    let a₁ = look.new.table in
+    found_around _ _ _ a₁ _ c.requires.good l e look.ensures.inside _ _ _ _ _ _ _ (c.resolve-outer.auto.table ∙ length-take-le (base l) a₁ (omega (arith, look.auto.table))) c.requires.name
+    (ap hit_of (sym c.in_default.is) ∙ look.ensures.result_value)
+    c.resolve-outer.ensures
+    c.cross_at.ensures

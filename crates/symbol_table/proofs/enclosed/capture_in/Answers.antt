@@ -1,0 +1,16 @@
+-- `symbol_table::enclosed::capture_in` meets its contract.
+use mathlib.Core.Path.{refl}
+use native.Mathlib.Omega.{arith}
+use lib.ListN.{length-set}
+use Rattle.symbol_table.specs.Store.{free_in}
+use Rattle.symbol_table.proofs.enclosed.capture_in.Goals as goal
+
+pub bounds-part-k : goal.bounds-part-k
+bounds-part-k c = simp length-set (omega arith)
+
+pub returns : goal.returns
+unfolding free_in
+returns c = record {
+  value = refl;
+  part_after = rw (c.entry-v.ensures, c.count-n.ensures, c.wide32-k.ensures);
+}

@@ -1,0 +1,31 @@
+-- `symbol_table::find_outermost` meets its contract.
+use mathlib.Core.Path.{refl, sym, ap, ◌∙◌}
+use Rattle.symbol_table.specs.Contract.{hit_of}
+use Rattle.symbol_table.proofs.Resolving.{global_first, builtin_second, none_there}
+use Rattle.symbol_table.proofs.find_outermost.Goals as goal
+
+pub find_global-requires : goal.find_global-requires
+find_global-requires c = record {
+  good_globals = c.requires.good_globals;
+  hash_value = c.requires.name.is ∙ rw c.name_at-it.ensures;
+}
+
+pub returns-in-At : goal.returns-in-At
+returns-in-At c = record {
+  result_value = rw (← c.name_at-it.ensures) (global_first _ _ _ _ (ap hit_of (sym c.in-At.is) ∙ c.find_global.ensures));
+  crossed = refl;
+}
+
+pub returns-in-At-find_builtin : goal.returns-in-At-find_builtin
+returns-in-At-find_builtin c = record {
+  result_value = rw (← c.name_at-it.ensures)
+      (builtin_second _ _ _ _ (ap hit_of (sym c.in_default.is) ∙ c.find_global.ensures) (ap hit_of (sym c.in-At-find_builtin.is) ∙ c.find_builtin.ensures));
+  crossed = refl;
+}
+
+pub returns : goal.returns
+returns c = record {
+  result_value = rw (← c.name_at-it.ensures)
+      (none_there _ _ _ (ap hit_of (sym c.in_default.is) ∙ c.find_global.ensures) (ap hit_of (sym c.in_default-find_builtin.is) ∙ c.find_builtin.ensures));
+  crossed = tt;
+}

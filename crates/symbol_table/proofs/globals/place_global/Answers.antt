@@ -1,0 +1,14 @@
+-- `symbol_table::globals::place_global` meets its contract.
+use Rattle.symbol_table.proofs.Adding.{addable_new}
+use Rattle.symbol_table.proofs.Defining.{globals_full, global_defined}
+use Rattle.symbol_table.proofs.globals.place_global.Goals as goal
+
+pub returns-then-k-ge-GLOBALS : goal.returns-then-k-ge-GLOBALS
+returns-then-k-ge-GLOBALS c = globals_full _ _ _ c.if-k-ge-GLOBALS.true
+
+pub add_new-requires : goal.add_new-requires
+add_new-requires c = addable_new c.requires.good_globals.1 c.if-k-ge-GLOBALS.false c.requires.name c.requires.name_lt_tree_limit
+
+pub returns : goal.returns
+returns c =
+    global_defined _ _ _ _ c.requires.good_globals.1.size c.if-k-ge-GLOBALS.false c.requires.name_lt_tree_limit c.requires.name.stands c.add_new.ensures

@@ -1,0 +1,20 @@
+-- `symbol_table::words::find_word` meets its contract: a word's index is small.
+use native.Mathlib.Omega.{arith}
+use Rattle.symbol_table.proofs.OwnWords.{word_index, word_hit, word_none}
+use Rattle.symbol_table.proofs.words.find_word.Goals as goal
+
+pub overflow_cast-result : goal.overflow_cast-result
+overflow_cast-result c =
+    omega (arith, word_index c.requires.has_row c.requires.names_len_bound _ c.find_name.ensures c.in-At.is)
+
+pub overflow_add-result : goal.overflow_add-result
+overflow_add-result c =
+    omega (arith, word_index c.requires.has_row c.requires.names_len_bound _ c.find_name.ensures c.in-At.is)
+
+pub returns-in-At : goal.returns-in-At
+returns-in-At c =
+    word_hit c.requires.has_row c.requires.names_len_bound _ c.find_name.ensures c.in-At.is
+
+pub returns-in-Nothing : goal.returns-in-Nothing
+returns-in-Nothing c =
+    word_none c.requires.has_row c.requires.names_len_bound _ c.find_name.ensures c.in-Nothing.is
