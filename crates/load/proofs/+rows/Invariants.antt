@@ -1,5 +1,5 @@
 -- The measures.
-use Rattle.std.proofs.Common.{◌+◌, ◌-◌, ◌*◌}
+use Rattle.std.proofs.Common.{◌+◌, ◌*◌}
 use Rattle.load.proofs.+rows.Given as goal
 
 abbrev pub decreases-block : goal.decreases-block

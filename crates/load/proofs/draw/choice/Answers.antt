@@ -4,6 +4,6 @@ use Rattle.load.proofs.draw.choice.Goals as goal
 
 pub returns : goal.returns
 returns c = record {
-      is = refl;
-      small = mod-lt _ c.requires;
-    }
+  is = refl;
+  small = mod-lt _ c.requires;
+}

@@ -1,5 +1,4 @@
 -- The measure is how many are left.
-use Rattle.std.proofs.Common.{◌-◌}
 use Rattle.load.proofs.leaf.+put_names.Given as goal
 
 abbrev pub decreases-put_names : goal.decreases-put_names
