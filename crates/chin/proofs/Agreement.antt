@@ -5,7 +5,6 @@ use mathlib.Core.List.{List, [], ◌∷◌, map}
 use mathlib.Core.Path.{◌≡◌, refl, sym, ap, subst, subst₂, ◌∙◌}
 use Rattle.definition.specs.Basic.{Bytes}
 use Rattle.definition.specs.Bytecode.{Image, image_bytes}
-use Rattle.definition.specs.Decode.{decoded}
 use Rattle.definition.specs.Literal.{Mask, image_mask}
 use Rattle.definition.specs.Series.{Agree}
 use Rattle.definition.specs.Session.{Words, word_list, Session, begun}
@@ -17,10 +16,9 @@ use Rattle.definition.proofs.Agreement.{erase_image}
 use Rattle.definition.proofs.Erase.{Alike}
 use Rattle.definition.proofs.Series.{begun_like}
 use Rattle.definition.proofs.Steps.{begun-valid, OutcomeLike, SessionLike, like_itself, StepLike, with_shape, compile-valid, compile_like}
-use Rattle.bytecode.specs.declared.Form.{Form}
 use Rattle.bytecode.specs.declared.Form.TheVariants.{Plain, Chin}
 use Rattle.bytecode.specs.Form.{image_in, read_form}
-use Rattle.chin.specs.Turn.{Jump, distance, Made, made, stopped, turn_image}
+use Rattle.chin.specs.Turn.{distance, Made, made, stopped, turn_image}
 use Rattle.chin.specs.Chin.{Given, given, refused, bad_jump, wrote, turn, translate, to_chin}
 use Rattle.chin.proofs.Rows.{made_once}
 use Rattle.chin.proofs.Operands.{distance_returns}

@@ -6,12 +6,12 @@ use lib.ListN.{length}
 use Rattle.definition.specs.Basic.{Bytes}
 use Rattle.definition.specs.Bytecode.{Image}
 use Rattle.definition.specs.Decode.{Decoded, decoded, malformed}
-use Rattle.definition.specs.Valid.{AreBytes, ValidImage}
+use Rattle.definition.specs.Valid.{AreBytes}
 use Rattle.bytecode.specs.declared.Form.{Form}
 use Rattle.bytecode.specs.declared.Form.TheVariants.{Plain, Chin}
 use Rattle.bytecode.specs.Form.{image_in, read_form}
-use Rattle.chin.specs.Turn.{Jump, distance, target, Made, made, stopped, turn_image}
-use Rattle.chin.specs.Chin.{Given, given, refused, wrote, turn, translate, to_chin, from_chin}
+use Rattle.chin.specs.Turn.{Jump, Made, made, stopped, turn_image}
+use Rattle.chin.specs.Chin.{given, wrote, turn, translate, to_chin, from_chin}
 use Rattle.chin.proofs.Forms.{read-form, write-form, image-length}
 use Rattle.chin.proofs.Operands.{Returns, distance_returns, target_returns}
 use Rattle.chin.proofs.Turns.{turn-image, image_back}

@@ -1,9 +1,9 @@
 -- What the calls answer and leave, from what the functions that they call did.
-use Prim.Native.Nat.{ℕ, ◌+◌, ◌≤◌, ◌<◌}
+use Prim.Native.Nat.{ℕ, ◌≤◌, ◌<◌}
 use native.Mathlib.Omega.{arith}
 use mathlib.Core.Bool.{false}
 use mathlib.Core.List.{[], ◌∷◌, ◌++◌}
-use mathlib.Core.Path.{◌≡◌, refl, sym, ap, subst, ◌∙◌}
+use mathlib.Core.Path.{◌≡◌, refl, sym, ap, ◌∙◌}
 use lib.ListN.{length, take, drop, length-append, length-drop, get_or-append}
 use lib.Seq.{take-length, drop-append_seam}
 use lib.Dec.{leb}
@@ -25,9 +25,9 @@ use Rattle.bytecode.specs.Form.{image_in, read_form}
 use Rattle.bytecode.specs.Checked.{image_answer}
 use Rattle.chin.specs.declared.operand.Jumps.{Jumps}
 use Rattle.chin.specs.declared.operand.Jumps.TheVariants.{Fine, Bad}
-use Rattle.chin.specs.Turn.{Made, made, stopped, turn_image}
-use Rattle.chin.specs.Chin.{bad_jump, Given, given, refused, wrote, turn, translate, answer_of, output_of}
-use Rattle.chin.specs.Rows.{other_form, jump_of, verdict, Same, ImageAt, HasImage, TurnsImage, Copied}
+use Rattle.chin.specs.Turn.{Made, made, turn_image}
+use Rattle.chin.specs.Chin.{bad_jump, refused, wrote, turn, translate, answer_of, output_of}
+use Rattle.chin.specs.Rows.{other_form, jump_of, Same, ImageAt, HasImage, TurnsImage, Copied}
 use Rattle.chin.proofs.Chunks.{fine_made, bad_stopped}
 use Rattle.chin.proofs.Whole.{other_length, image_at}
 

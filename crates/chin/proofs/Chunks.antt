@@ -1,21 +1,19 @@
 -- The loop that turns code: one instruction a turn.
 use Prim.Native.Nat.{ℕ, ◌+◌, ◌-◌, ◌≤◌, ◌<◌}
 use native.Mathlib.Omega.{arith}
-use mathlib.Core.List.{List, [], ◌∷◌, ◌++◌}
-use mathlib.Core.Path.{◌≡◌, refl, sym, ap, subst, ◌∙◌}
-use lib.ListN.{length, take, drop}
+use mathlib.Core.Path.{◌≡◌, refl, sym, ap, ◌∙◌}
+use lib.ListN.{length}
 use Rattle.definition.specs.Basic.{Bytes, byte_at}
-use Rattle.definition.specs.Opcode.{Instr, instr, width, size, bytes_of, instr_at}
-use Rattle.definition.specs.Bytecode.{Code, size_of, encode}
-use Rattle.definition.specs.Decode.{Decoded, decoded, malformed, read_instr}
+use Rattle.definition.specs.Opcode.{Instr, width, bytes_of, instr_at}
+use Rattle.definition.specs.Bytecode.{Code, size_of}
+use Rattle.definition.specs.Decode.{decoded, read_instr}
 use Rattle.definition.proofs.Instructions.{size-bytes, write_instr}
 use Rattle.opcode.specs.Decoding.{size_at}
 use Rattle.opcode.proofs.Decoding.{Stands, stands, read_next, read_none}
 use Rattle.bytecode.proofs.Items.{unlike}
-use Rattle.chin.specs.declared.operand.Jumps.{Jumps}
 use Rattle.chin.specs.declared.operand.Jumps.TheVariants.{Fine, Bad}
-use Rattle.chin.specs.Turn.{Jump, Made, made, stopped, operand_of, turn_instr, turn_code}
-use Rattle.chin.specs.Rows.{verdict, Same, InstrIn, TurnsInstr, CodeAt, TurnsCode}
+use Rattle.chin.specs.Turn.{Jump, Made, made, stopped, operand_of, turn_instr}
+use Rattle.chin.specs.Rows.{verdict, InstrIn, TurnsInstr, CodeAt, TurnsCode}
 use Rattle.chin.proofs.Turns.{got}
 use Rattle.chin.proofs.Instruction.{stored-instr}
 use Rattle.chin.proofs.Loops.{Loop, loop_begins, loop_fine, loop_written, loop_next, loop_stops, loop_again}

@@ -4,7 +4,7 @@ use native.Mathlib.Omega.{arith}
 use mathlib.Core.Bool.{Bool, true, false}
 use mathlib.Core.List.{List, [], ◌∷◌, ◌++◌}
 use mathlib.Core.Option.{some}
-use mathlib.Core.Path.{◌≡◌, refl, sym, ap, subst, ◌∙◌}
+use mathlib.Core.Path.{◌≡◌, sym, ap, subst, ◌∙◌}
 use lib.Dec.{T, eqb}
 use lib.ListN.{length, take}
 use Rattle.definition.specs.Basic.{Bytes, pick}
@@ -12,7 +12,6 @@ use Rattle.definition.specs.Number.{is_one_of}
 use Rattle.definition.specs.Opcode.{Instr, size, op_jump_not_truthy, op_jump}
 use Rattle.definition.specs.Bytecode.{Code, size_of, Const, Image}
 use Rattle.definition.specs.Session.{Words, Session}
-use Rattle.definition.specs.Decode.{Decoded, read_image}
 use Rattle.definition.specs.Call.{Called}
 use Rattle.definition.specs.Series.{Call, calls, Start}
 use Rattle.definition.specs.Trusted.{Stands, constant_at, Chunk, TrustedChunk, Trusted, TrustedCall}
@@ -20,21 +19,22 @@ use Rattle.definition.specs.Valid.{All}
 use Rattle.definition.specs.declared.Answer.TheVariants.{Length}
 use Rattle.definition.proofs.Chunks.{pool_more, named_newest}
 use Rattle.definition.proofs.Trusted.{trusted_calls}
-use Rattle.bytecode.specs.declared.Form.TheVariants.{Plain, Chin}
-use Rattle.bytecode.specs.Form.{image_in, read_form}
+use Rattle.bytecode.specs.declared.Form.TheVariants.{Chin}
 use Rattle.bytecode.proofs.Images.{read_plain}
-use Rattle.chin.specs.Turn.{jumps, distance, Made, made, turn_image}
+use Rattle.chin.specs.Turn.{jumps, distance, Made, turn_image}
 use Rattle.chin.specs.Refusals.{Passing, PassingConst}
 use Rattle.chin.specs.Chin.{Given, given, wrote, turn, translate, to_chin}
 use Rattle.chin.proofs.Refusals.{IsMade, is_made, passing_made, forward_passes}
 
 -- an instruction ends within its code
 stands_end : {i : Instr} {p : ℕ} (c : Code) → Stands i p c → p + size i ≤ size_of c
+stands_end [] s = elim s [ ]
 stands_end (j ∷ c) Stands.last = omega arith
 stands_end (j ∷ c) (Stands.before s) = omega (arith, stands_end c s)
 
 -- a later start is not before an instruction's end
 later_start : {i j : Instr} {p t : ℕ} (c : Code) → Stands i p c → Stands j t c → p < t → p + size i ≤ t
+later_start [] s _ h = elim s [ ]
 later_start (k ∷ c) Stands.last Stands.last h = let z : ⊥ = omega arith in absurd z
 later_start (k ∷ c) Stands.last (Stands.before s) h = let z : ⊥ = omega (arith, stands_end c s) in absurd z
 later_start (k ∷ c) (Stands.before s) Stands.last h = stands_end c s

@@ -2,23 +2,22 @@
 use Prim.Native.Nat.{ℕ, ◌≤◌}
 use native.Mathlib.Omega.{arith}
 use mathlib.Core.List.{List, [], ◌∷◌}
-use mathlib.Core.Path.{◌≡◌, refl, sym, ap, subst, ◌∙◌}
+use mathlib.Core.Path.{◌≡◌, refl, ap}
 use lib.ListN.{length}
 use lib.Dec.{leb}
 use Rattle.definition.specs.Basic.{Bytes}
 use Rattle.definition.specs.Limit.{image_limit}
 use Rattle.definition.specs.Number.{refusal, output_short, bad_image}
-use Rattle.definition.specs.Bytecode.{Image, image_bytes}
+use Rattle.definition.specs.Bytecode.{Image}
 use Rattle.definition.specs.Decode.{Decoded, decoded, malformed}
 use Rattle.definition.specs.Valid.{AreBytes, ValidImage}
-use Rattle.definition.specs.declared.Refusal.{Refusal}
 use Rattle.definition.proofs.Basic.{chosen}
 use Rattle.definition.proofs.Places.{Within, nowhere, image_within}
 use Rattle.bytecode.specs.declared.Form.{Form}
-use Rattle.bytecode.specs.declared.Form.TheVariants.{Plain, Chin}
+use Rattle.bytecode.specs.declared.Form.TheVariants.{Plain}
 use Rattle.bytecode.specs.Form.{image_in, read_form}
 use Rattle.chin.specs.Turn.{Made, made, stopped, turn_image}
-use Rattle.chin.specs.Chin.{bad_jump, Given, given, refused, wrote, turn, translate, to_chin, from_chin, answer_of}
+use Rattle.chin.specs.Chin.{bad_jump, given, wrote, turn, translate, answer_of}
 use Rattle.chin.specs.Rows.{other_form, jump_of}
 use Rattle.chin.proofs.Forms.{write-form, write_plain, image-length}
 use Rattle.chin.proofs.Turns.{turn-image}

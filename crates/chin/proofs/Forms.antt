@@ -1,5 +1,5 @@
 -- Images in a form: written then read, and read then written; the plain form is the definition's.
-use Prim.Native.Nat.{ℕ, ◌+◌, ◌≤◌, ◌<◌}
+use Prim.Native.Nat.{ℕ, ◌+◌, ◌≤◌}
 use native.Mathlib.Omega.{arith}
 use mathlib.Core.Bool.{true}
 use mathlib.Core.List.{List, [], ◌∷◌, ◌++◌}
@@ -11,14 +11,13 @@ use Rattle.definition.specs.Basic.{Bytes, byte_at}
 use Rattle.definition.specs.Limit.{code_size}
 use Rattle.definition.specs.Tag.{tag_pool}
 use Rattle.definition.specs.Field.{Head, field, tagged}
-use Rattle.definition.specs.Opcode.{bytes_of}
 use Rattle.definition.specs.Bytecode.{Code, size_of, encode, Const, const_bytes, pool_bytes, pool_size, Image, image_bytes}
-use Rattle.definition.specs.Decode.{Decoded, decoded, then, ending, read_instr, read_head, read_code, read_image_of, read_image}
-use Rattle.definition.specs.Valid.{All, AreBytes, ValidInstr, ValidImage}
+use Rattle.definition.specs.Decode.{Decoded, decoded, then, ending, read_instr, read_head, read_code}
+use Rattle.definition.specs.Valid.{AreBytes, ValidImage}
 use Rattle.definition.proofs.Basic.{both_left, both_right}
 use Rattle.definition.proofs.Bytes.{Stands, stands_at, stands_left, stands_right, stands_append, stands_self, stands_whole}
 use Rattle.definition.proofs.Items.{first, passed, ends, Rewritten, rewritten_same}
-use Rattle.definition.proofs.Fields.{tagged_true, then_assoc, read_row, RowField, read-row, write_row}
+use Rattle.definition.proofs.Fields.{tagged_true, then_assoc, read_row, read-row, write_row}
 use Rattle.definition.proofs.Instructions.{code-length, code-count, reads_instr, writes_instr}
 use Rattle.bytecode.specs.declared.Form.{Form}
 use Rattle.bytecode.specs.declared.Form.TheVariants.{Plain, Chin}

@@ -1,25 +1,24 @@
 -- A constant in the other form: a function has another tag and its code turned, any other stays.
 use Prim.Native.Nat.{ℕ, suc, ◌+◌, ◌/◌, ◌%◌, ◌≤◌}
 use native.Mathlib.Omega.{arith}
-use mathlib.Core.List.{List, [], ◌∷◌, ◌++◌, append_assoc}
+use mathlib.Core.List.{[], ◌∷◌, ◌++◌, append_assoc}
 use mathlib.Core.Path.{◌≡◌, refl, sym, ap, subst, ◌∙◌}
 use lib.ListN.{length, take, drop, set, length-append, length-drop, length-set}
 use lib.Seq.{set_at, take_at, drop_at, get_or-set_other}
 use Rattle.definition.specs.Basic.{Bytes, byte_at}
 use Rattle.definition.specs.Field.{head}
-use Rattle.definition.specs.Bytecode.{Code, size_of, encode, Const, content}
-use Rattle.definition.specs.Decode.{read_code}
+use Rattle.definition.specs.Bytecode.{Code, encode, Const, content}
 use Rattle.definition.specs.Valid.{All, ValidInstr, ValidConst}
 use Rattle.definition.proofs.Bytes.{Stands, stands_head, stands_tail, stands_at}
 use Rattle.definition.proofs.Items.{Item}
 use Rattle.definition.proofs.Instructions.{code-length, read-code}
 use Rattle.bytecode.specs.declared.Form.{Form}
 use Rattle.bytecode.specs.declared.Form.TheVariants.{Plain, Chin}
-use Rattle.bytecode.specs.Form.{tag_function_in, tag_in, const_in, read_const_in}
+use Rattle.bytecode.specs.Form.{tag_function_in, tag_in, const_in}
 use Rattle.bytecode.proofs.Constants.{not_integer, not_string}
 use Rattle.bytecode.proofs.Fields.{const_ends_in}
 use Rattle.chin.specs.declared.operand.Jumps.{Jumps}
-use Rattle.chin.specs.declared.operand.Jumps.TheVariants.{Fine, Bad}
+use Rattle.chin.specs.declared.operand.Jumps.TheVariants.{Fine}
 use Rattle.chin.specs.Turn.{Made, made, stopped, along, turn_code, turn_const}
 use Rattle.chin.specs.Rows.{other_form, jump_of, verdict, Same, CodeAt, HasCode, TurnsCode, ConstAt, TurnsConst}
 use Rattle.chin.proofs.Constants.{write_const}

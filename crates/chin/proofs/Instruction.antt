@@ -4,12 +4,12 @@ use native.Mathlib.Omega.{arith}
 use mathlib.Core.Bool.{Bool, true, false}
 use mathlib.Core.List.{[], ◌∷◌, ◌++◌, append_assoc}
 use mathlib.Core.Option.{Option, none, some}
-use mathlib.Core.Path.{◌≡◌, refl, sym, ap, subst, ◌∙◌}
+use mathlib.Core.Path.{◌≡◌, refl, sym, ap, ◌∙◌}
 use lib.ListN.{length, drop, set, length-append, length-drop}
-use lib.Dec.{leb, ltb, eqb}
+use lib.Dec.{leb, eqb}
 use borrow.Author.Tests.{leb-true, leb-false, lt-ltb, le-leb, lt-leb, eq-eqb, ne_eqb}
 use Rattle.definition.specs.Basic.{Bytes, byte_at, pick}
-use Rattle.definition.specs.Opcode.{Instr, instr, width, size, operands, bytes_of, operand_at, instr_at, op_jump, op_jump_not_truthy}
+use Rattle.definition.specs.Opcode.{Instr, instr, width, operands, bytes_of, operand_at, instr_at, op_jump, op_jump_not_truthy}
 use Rattle.definition.proofs.Basic.{pick_true, pick_false}
 use Rattle.definition.proofs.Bytes.{Stands}
 use Rattle.bytecode.specs.declared.Form.{Form}
@@ -17,7 +17,7 @@ use Rattle.bytecode.specs.declared.Form.TheVariants.{Plain, Chin}
 use Rattle.chin.specs.declared.operand.Operand.{Operand}
 use Rattle.chin.specs.declared.operand.Operand.TheVariants.{Is, Lacking}
 use Rattle.chin.specs.declared.operand.Jumps.TheVariants.{Fine, Bad}
-use Rattle.chin.specs.Turn.{exchanged, turned, jumps, Jump, distance, target, Made, made, stopped, with_operand, operand_of, turn_instr}
+use Rattle.chin.specs.Turn.{exchanged, turned, jumps, Jump, Made, made, stopped, with_operand, operand_of, turn_instr}
 use Rattle.chin.specs.Rows.{jump_of, operand_answer, wide_operand, verdict, Same, stored_operand, InstrIn, TurnsInstr}
 use Rattle.chin.proofs.Operands.{jump-width}
 use Rattle.chin.proofs.Rows.{made_once}

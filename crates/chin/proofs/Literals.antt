@@ -9,13 +9,13 @@ use Rattle.definition.specs.Tag.{tag_pool, tag_integer_const, tag_string_const}
 use Rattle.definition.specs.Opcode.{Instr, width, operands, bytes_of, op_true, op_false}
 use Rattle.definition.specs.Field.{field}
 use Rattle.definition.specs.Bytecode.{Code, Const, Image, written, encode}
-use Rattle.definition.specs.Literal.{Mask, none_of, all_of, instr_mask, masks, code_mask, field_mask, const_mask, pool_mask, image_mask}
+use Rattle.definition.specs.Literal.{Mask, none_of, all_of, instr_mask, masks, code_mask, field_mask, const_mask, image_mask}
 use Rattle.definition.specs.Series.{Agree}
 use Rattle.definition.proofs.Agreement.{erase_image, agree-length}
 use Rattle.definition.proofs.Blank.{zeros}
-use Rattle.definition.proofs.Erase.{erase_instr, erase_code, erase_const, erase_pool, Alike, blind, seen}
+use Rattle.definition.proofs.Erase.{erase_instr, erase_code, erase_const, Alike, blind, seen}
 use Rattle.bytecode.specs.declared.Form.{Form}
-use Rattle.bytecode.specs.Form.{tag_main_in, tag_function_in, const_in, pool_in, image_in}
+use Rattle.bytecode.specs.Form.{tag_main_in, tag_function_in, const_in, image_in}
 
 agree_none : (x : Bytes) → Agree (none_of x) x x
 agree_none [] = Agree.end

@@ -2,14 +2,14 @@
 use Prim.Native.Nat.{ℕ, ◌+◌, ◌≤◌, ◌<◌}
 use native.Mathlib.Omega.{arith}
 use mathlib.Core.List.{List, [], ◌∷◌, ◌++◌, append-nil, append_assoc}
-use mathlib.Core.Path.{◌≡◌, refl, sym, ap, subst, subst₂, ◌∙◌}
+use mathlib.Core.Path.{◌≡◌, refl, sym, ap, subst₂, ◌∙◌}
 use lib.ListN.{length, take, drop, length-append, take-append-drop}
 use lib.Seq.{length-take-le}
 use Rattle.definition.specs.Basic.{Bytes}
 use Rattle.definition.specs.Bytecode.{written}
 use Rattle.definition.specs.Decode.{Decoded, decoded, items}
 use Rattle.listing.proofs.Items.{all_read, Reading, begins, ends, Next, next}
-use Rattle.chin.specs.declared.operand.Jumps.TheVariants.{Fine, Bad}
+use Rattle.chin.specs.declared.operand.Jumps.TheVariants.{Fine}
 use Rattle.chin.specs.Turn.{Made, made, stopped, along, each}
 use Rattle.chin.specs.Rows.{verdict, Same}
 use Rattle.chin.proofs.Rows.{made_once}

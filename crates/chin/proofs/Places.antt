@@ -3,7 +3,7 @@ use Prim.Native.Nat.{ℕ, zero, suc, ◌+◌, ◌≤◌, ◌<◌}
 use native.Mathlib.Omega.{arith}
 use mathlib.Core.Bool.{Bool, true}
 use mathlib.Core.List.{List, [], ◌∷◌}
-use mathlib.Core.Path.{◌≡◌, refl, ap, sym, ◌∙◌}
+use mathlib.Core.Path.{◌≡◌, refl}
 use lib.ListN.{length}
 use lib.Dec.{leb, eqb}
 use borrow.Author.Tests.{leb-true}
@@ -13,7 +13,7 @@ use Rattle.definition.specs.Tag.{tag_pool, tag_integer_const, tag_string_const}
 use Rattle.definition.specs.Opcode.{width, whole, op_last}
 use Rattle.definition.specs.Field.{Head, tagged, fits, head}
 use Rattle.definition.specs.Bytecode.{Code, size_of, Const, pool_size, Image}
-use Rattle.definition.specs.Decode.{Decoded, decoded, malformed, then, ending, items, read_instr, read_code, read_head, pool_head, read_function, read_content}
+use Rattle.definition.specs.Decode.{Decoded, malformed, then, ending, items, read_instr, read_code, read_head, pool_head, read_function, read_content}
 use Rattle.definition.specs.Valid.{ValidImage}
 use Rattle.definition.proofs.Basic.{chosen, both_true}
 use Rattle.definition.proofs.ImagePlaces.{Reads}

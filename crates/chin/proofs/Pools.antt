@@ -8,14 +8,13 @@ use Rattle.definition.specs.Basic.{Bytes, byte_at}
 use Rattle.definition.specs.Limit.{constants_limit}
 use Rattle.definition.specs.Field.{head}
 use Rattle.definition.specs.Bytecode.{Const, content, pool_size}
-use Rattle.definition.specs.Decode.{Decoded, decoded}
+use Rattle.definition.specs.Decode.{decoded}
 use Rattle.bytecode.specs.declared.Form.{Form}
 use Rattle.bytecode.specs.Form.{const_in, read_const_in}
 use Rattle.bytecode.proofs.Fields.{const_end_in, const_ends_in}
-use Rattle.chin.specs.declared.operand.Jumps.{Jumps}
 use Rattle.chin.specs.declared.operand.Jumps.TheVariants.{Fine, Bad}
-use Rattle.chin.specs.Turn.{Made, made, stopped, turn_const, turn_pool}
-use Rattle.chin.specs.Rows.{other_form, jump_of, verdict, Same, ConstAt, HasConst, TurnsConst, PoolAt, TurnsPool}
+use Rattle.chin.specs.Turn.{Made, turn_const}
+use Rattle.chin.specs.Rows.{other_form, jump_of, verdict, ConstAt, HasConst, TurnsConst, PoolAt, TurnsPool}
 use Rattle.chin.proofs.Turns.{turn-const}
 use Rattle.chin.proofs.Constants.{write_const}
 use Rattle.chin.proofs.Chunks.{fine_made, bad_stopped, not-made}

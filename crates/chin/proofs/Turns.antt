@@ -1,8 +1,8 @@
 -- A translated instruction, constant and image: as long, within the limits, with its literals where they were; and the way back.
-use Prim.Native.Nat.{ℕ, zero, suc, ◌+◌, ◌-◌, ◌≤◌, ◌<◌}
+use Prim.Native.Nat.{ℕ, zero, suc, ◌+◌, ◌-◌, ◌<◌}
 use native.Mathlib.Omega.{arith}
 use mathlib.Core.Bool.{Bool, true, false}
-use mathlib.Core.List.{List, [], ◌∷◌, ◌++◌}
+use mathlib.Core.List.{List, ◌∷◌, ◌++◌}
 use mathlib.Core.Option.{Option, none, some}
 use mathlib.Core.Path.{◌≡◌, refl, sym, ap, ◌∙◌}
 use lib.ListN.{length}
@@ -10,11 +10,11 @@ use lib.Dec.{leb, eqb}
 use Rattle.definition.specs.Basic.{pick}
 use Rattle.definition.specs.Opcode.{Instr, instr, width, size, operands, bytes_of, op_true, op_false}
 use Rattle.definition.specs.Bytecode.{Code, size_of, encode, Const, content, pool_size, Image}
-use Rattle.definition.specs.Literal.{none_of, instr_mask, code_mask, content_mask, const_mask, pool_mask, image_mask, field_mask}
-use Rattle.definition.specs.Valid.{All, operand_bound, ValidInstr, ValidConst, ValidPool, ValidImage}
+use Rattle.definition.specs.Literal.{none_of, instr_mask, const_mask, image_mask, field_mask}
+use Rattle.definition.specs.Valid.{All, operand_bound, ValidInstr, ValidConst, ValidImage}
 use Rattle.definition.proofs.Instructions.{code-length}
-use Rattle.chin.specs.Turn.{exchanged, turned, low_first, jumps, Jump, distance, Made, made, along, each, with_operand, operand_of, turn_instr, turn_code, turn_const, turn_pool, turn_image}
-use Rattle.chin.proofs.Rows.{First, first, made_once, Pairwise, pairwise_length, Turns, turned-row, Sized, pairwise_size, Undone, undone_row, pairwise_all, pairwise_masks}
+use Rattle.chin.specs.Turn.{exchanged, turned, low_first, jumps, Jump, distance, made, along, with_operand, operand_of, turn_instr, turn_code, turn_const, turn_pool, turn_image}
+use Rattle.chin.proofs.Rows.{first, made_once, Pairwise, pairwise_length, Turns, turned-row, Sized, pairwise_size, Undone, undone_row, pairwise_all, pairwise_masks}
 use Rattle.chin.proofs.Operands.{turned_bound, turned_twice, turned-bytes, jump-width, chosen_some, Returns}
 
 -- an instruction's other operand

@@ -1,16 +1,16 @@
 -- A whole image in the other form: main code and pool, over the copy in the output.
-use Prim.Native.Nat.{ℕ, suc, ◌+◌, ◌-◌, ◌/◌, ◌%◌, ◌≤◌, ◌<◌}
+use Prim.Native.Nat.{ℕ, ◌+◌, ◌-◌, ◌/◌, ◌%◌, ◌≤◌}
 use native.Mathlib.Omega.{arith}
 use mathlib.Core.List.{List, [], ◌∷◌, ◌++◌, append_assoc}
 use mathlib.Core.Path.{◌≡◌, refl, sym, ap, subst, ◌∙◌}
-use lib.ListN.{length, take, drop, set, length-append, length-set, get_or-append}
+use lib.ListN.{length, take, drop, set, length-append, length-set}
 use lib.Seq.{take_at, drop_at, get_or-set_other}
 use Rattle.definition.specs.Basic.{Bytes, byte_at}
 use Rattle.definition.specs.Limit.{code_size}
 use Rattle.definition.specs.Tag.{tag_pool}
 use Rattle.definition.specs.Field.{Head, field, head}
 use Rattle.definition.specs.Bytecode.{Code, size_of, encode, Const, pool_size, Image}
-use Rattle.definition.specs.Decode.{Decoded, decoded, pool_head}
+use Rattle.definition.specs.Decode.{decoded, pool_head}
 use Rattle.definition.specs.Valid.{AreBytes, ValidImage}
 use Rattle.definition.proofs.Bytes.{Stands, stands_left, stands_right, stands_self}
 use Rattle.definition.proofs.Fields.{stands_content, head-field}
@@ -23,7 +23,7 @@ use Rattle.bytecode.proofs.Items.{ended}
 use Rattle.bytecode.proofs.Fields.{pool_content_in, head_read}
 use Rattle.chin.specs.declared.operand.Jumps.{Jumps}
 use Rattle.chin.specs.declared.operand.Jumps.TheVariants.{Fine, Bad}
-use Rattle.chin.specs.Turn.{Made, made, stopped, along, turn_code, turn_pool, turn_image}
+use Rattle.chin.specs.Turn.{made, stopped, along, turn_code, turn_pool, turn_image}
 use Rattle.chin.specs.Rows.{other_form, jump_of, verdict, Same, CodeAt, TurnsCode, PoolAt, TurnsPool, ImageAt, TurnsImage}
 use Rattle.chin.proofs.Constants.{pool-length, read-pool}
 use Rattle.chin.proofs.Forms.{read-form, write-form, image-length}

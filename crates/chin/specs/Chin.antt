@@ -1,5 +1,5 @@
 -- The two calls: an image into the chin form, and back.
-use Rattle.std.specs.Prelude.{ℕ, length}
+use Rattle.std.specs.Prelude.{ℕ}
 use Rattle.definition.specs.Basic.{Bytes}
 use Rattle.definition.specs.Number.{refusal, bad_image}
 use Rattle.definition.specs.Bytecode.{Image}

@@ -1,8 +1,7 @@
 -- What the functions promise: of an instruction, of code, of a constant, of a pool and of an image that were read, and of the output over them.
-use Rattle.std.specs.Prelude.{ℕ, zero, suc, ◌+◌, ◌-◌, ◌/◌, ◌%◌, ◌≤◌, ◌<◌, Bool, List, [], ◌++◌, ◌≡◌, length, take, drop, set, leb, ltb}
+use Rattle.std.specs.Prelude.{ℕ, ◌+◌, ◌-◌, ◌/◌, ◌%◌, ◌≤◌, ◌<◌, List, ◌++◌, ◌≡◌, length, take, drop, set, leb, ltb}
 use Rattle.std.proofs.Math.Option.{Option, none, some}
 use Rattle.definition.specs.Basic.{Bytes, byte_at, pick}
-use Rattle.definition.specs.Limit.{constants_limit}
 use Rattle.definition.specs.Opcode.{Instr, width, instr_at}
 use Rattle.definition.specs.Field.{head}
 use Rattle.definition.specs.Bytecode.{Code, encode, Const, content, Image}

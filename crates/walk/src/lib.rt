@@ -27,7 +27,7 @@ use tree::count_fields;
 const LESS_THAN: u8 = 8;
 
 // Compiles the statement at `at`.
-#[cycle(walk_block_walk_branch_walk_branches_walk_call_walk_else_walk_expression_walk_expressions_walk_function_walk_if_walk_index_walk_infix_walk_let_walk_list_walk_prefix_walk_statement)]
+#[cycle(walk)]
 fn walk_statement(
     tree: &[u8],
     session: &mut [u8],
@@ -58,7 +58,7 @@ fn walk_statement(
 }
 
 // Compiles a let: the name is defined before its value.
-#[cycle(walk_block_walk_branch_walk_branches_walk_call_walk_else_walk_expression_walk_expressions_walk_function_walk_if_walk_index_walk_infix_walk_let_walk_list_walk_prefix_walk_statement)]
+#[cycle(walk)]
 fn walk_let(
     tree: &[u8],
     session: &mut [u8],
@@ -79,7 +79,7 @@ fn walk_let(
 }
 
 // Compiles the statements from an offset up to an end.
-#[cycle(walk_block_walk_branch_walk_branches_walk_call_walk_else_walk_expression_walk_expressions_walk_function_walk_if_walk_index_walk_infix_walk_let_walk_list_walk_prefix_walk_statement)]
+#[cycle(walk)]
 fn walk_block(
     tree: &[u8],
     session: &mut [u8],
@@ -103,7 +103,7 @@ fn walk_block(
 }
 
 // Compiles the expression at `at`.
-#[cycle(walk_block_walk_branch_walk_branches_walk_call_walk_else_walk_expression_walk_expressions_walk_function_walk_if_walk_index_walk_infix_walk_let_walk_list_walk_prefix_walk_statement)]
+#[cycle(walk)]
 fn walk_expression(
     tree: &[u8],
     session: &mut [u8],
@@ -134,7 +134,7 @@ fn walk_expression(
 }
 
 // Compiles a prefix: its operand, then its operator.
-#[cycle(walk_block_walk_branch_walk_branches_walk_call_walk_else_walk_expression_walk_expressions_walk_function_walk_if_walk_index_walk_infix_walk_let_walk_list_walk_prefix_walk_statement)]
+#[cycle(walk)]
 fn walk_prefix(
     tree: &[u8],
     session: &mut [u8],
@@ -152,7 +152,7 @@ fn walk_prefix(
 }
 
 // Compiles an infix: its operands, the right one first for `<`, then its operator.
-#[cycle(walk_block_walk_branch_walk_branches_walk_call_walk_else_walk_expression_walk_expressions_walk_function_walk_if_walk_index_walk_infix_walk_let_walk_list_walk_prefix_walk_statement)]
+#[cycle(walk)]
 fn walk_infix(
     tree: &[u8],
     session: &mut [u8],
@@ -181,7 +181,7 @@ fn walk_infix(
 }
 
 // Compiles an if: its test, a jump over its first branch, its branches.
-#[cycle(walk_block_walk_branch_walk_branches_walk_call_walk_else_walk_expression_walk_expressions_walk_function_walk_if_walk_index_walk_infix_walk_let_walk_list_walk_prefix_walk_statement)]
+#[cycle(walk)]
 fn walk_if(
     tree: &[u8],
     session: &mut [u8],
@@ -202,7 +202,7 @@ fn walk_if(
 }
 
 // Compiles the branches of the if at `at`, whose first jump stands at `skip`.
-#[cycle(walk_block_walk_branch_walk_branches_walk_call_walk_else_walk_expression_walk_expressions_walk_function_walk_if_walk_index_walk_infix_walk_let_walk_list_walk_prefix_walk_statement)]
+#[cycle(walk)]
 fn walk_branches(
     tree: &[u8],
     session: &mut [u8],
@@ -226,7 +226,7 @@ fn walk_branches(
 }
 
 // Compiles the block at `at` as a branch of the if at `place`: without its last Pop.
-#[cycle(walk_block_walk_branch_walk_branches_walk_call_walk_else_walk_expression_walk_expressions_walk_function_walk_if_walk_index_walk_infix_walk_let_walk_list_walk_prefix_walk_statement)]
+#[cycle(walk)]
 fn walk_branch(
     tree: &[u8],
     session: &mut [u8],
@@ -246,7 +246,7 @@ fn walk_branch(
 }
 
 // Compiles the other branch of the if at `place`, or Null where there is none.
-#[cycle(walk_block_walk_branch_walk_branches_walk_call_walk_else_walk_expression_walk_expressions_walk_function_walk_if_walk_index_walk_infix_walk_let_walk_list_walk_prefix_walk_statement)]
+#[cycle(walk)]
 fn walk_else(
     tree: &[u8],
     session: &mut [u8],
@@ -271,7 +271,7 @@ fn walk_else(
 }
 
 // Compiles an index: what is indexed, then by what.
-#[cycle(walk_block_walk_branch_walk_branches_walk_call_walk_else_walk_expression_walk_expressions_walk_function_walk_if_walk_index_walk_infix_walk_let_walk_list_walk_prefix_walk_statement)]
+#[cycle(walk)]
 fn walk_index(
     tree: &[u8],
     session: &mut [u8],
@@ -291,7 +291,7 @@ fn walk_index(
 }
 
 // Compiles a call: its callee, its arguments unless there are too many, Call.
-#[cycle(walk_block_walk_branch_walk_branches_walk_call_walk_else_walk_expression_walk_expressions_walk_function_walk_if_walk_index_walk_infix_walk_let_walk_list_walk_prefix_walk_statement)]
+#[cycle(walk)]
 fn walk_call(
     tree: &[u8],
     session: &mut [u8],
@@ -318,7 +318,7 @@ fn walk_call(
 }
 
 // Compiles the items of an array or a hash, then its instruction with their number.
-#[cycle(walk_block_walk_branch_walk_branches_walk_call_walk_else_walk_expression_walk_expressions_walk_function_walk_if_walk_index_walk_infix_walk_let_walk_list_walk_prefix_walk_statement)]
+#[cycle(walk)]
 fn walk_list(
     tree: &[u8],
     session: &mut [u8],
@@ -340,7 +340,7 @@ fn walk_list(
 }
 
 // Compiles the expressions from an offset up to an end.
-#[cycle(walk_block_walk_branch_walk_branches_walk_call_walk_else_walk_expression_walk_expressions_walk_function_walk_if_walk_index_walk_infix_walk_let_walk_list_walk_prefix_walk_statement)]
+#[cycle(walk)]
 fn walk_expressions(
     tree: &[u8],
     session: &mut [u8],
@@ -364,7 +364,7 @@ fn walk_expressions(
 }
 
 // Compiles a function: its body in a chunk of its own, then its closure.
-#[cycle(walk_block_walk_branch_walk_branches_walk_call_walk_else_walk_expression_walk_expressions_walk_function_walk_if_walk_index_walk_infix_walk_let_walk_list_walk_prefix_walk_statement)]
+#[cycle(walk)]
 fn walk_function(
     tree: &[u8],
     session: &mut [u8],

@@ -24,7 +24,8 @@ write_block-token_at-token-requires t c =
 
 pub write_block-overflow_add-to : goal.write_block-overflow_add-to
 write_block-overflow_add-to t c =
-    let r = c.requires in omega (arith, r.room, r.within)
+    let r = c.requires in
+    omega (arith, r.room, r.within)
 
 pub write_block-write_statements-inside-requires : goal.write_block-write_statements-inside-requires
 write_block-write_statements-inside-requires t c =
@@ -46,7 +47,8 @@ write_block-close-requires t c =
 
 pub write_block-returns : goal.write_block-returns
 write_block-returns t c =
-    let k = c.if-left-eq0.false in block_writes (omega arith) c.token_at-token.ensures c.write_statements-inside.ensures c.token_at-token2.ensures c.moved_on.ensures c.close.ensures.part c.close.ensures.stored (sees_on c.token_at-token.ensures) (sees_on c.token_at-token2.ensures)
+    let k = c.if-left-eq0.false in
+    block_writes (omega arith) c.token_at-token.ensures c.write_statements-inside.ensures c.token_at-token2.ensures c.moved_on.ensures c.close.ensures.part c.close.ensures.stored (sees_on c.token_at-token.ensures) (sees_on c.token_at-token2.ensures)
 
 pub write_clause-write_let-requires : goal.write_clause-write_let-requires
 write_clause-write_let-requires t c =
@@ -56,7 +58,8 @@ write_clause-write_let-requires t c =
 
 pub write_clause-returns-then-token-eq-LET : goal.write_clause-returns-then-token-eq-LET
 write_clause-returns-then-token-eq-LET t c =
-    let p = c.requires in let facts = clause_let p.1 (p.1.onward p.2) c.if-token-eq-LET.true c.write_let.ensures in
+    let p = c.requires in
+    let facts = clause_let p.1 (p.1.onward p.2) c.if-token-eq-LET.true c.write_let.ensures in
     record { writes = facts.0; spares = facts.1 }
 
 pub write_clause-write_expression-requires : goal.write_clause-write_expression-requires
@@ -67,7 +70,8 @@ write_clause-write_expression-requires t c =
 
 pub write_clause-returns-then-token-eq-RETURN : goal.write_clause-returns-then-token-eq-RETURN
 write_clause-returns-then-token-eq-RETURN t c =
-    let p = c.requires in let facts = clause_return p.1 (p.1.onward p.2) c.if-token-eq-RETURN.true c.write_expression.ensures.writes in
+    let p = c.requires in
+    let facts = clause_return p.1 (p.1.onward p.2) c.if-token-eq-RETURN.true c.write_expression.ensures.writes in
     record { writes = facts.0; spares = facts.1 }
 
 pub write_clause-write_expression-requires-2 : goal.write_clause-write_expression-requires-2
@@ -98,7 +102,8 @@ write_continued-make_room-requires t c =
 
 pub write_continued-overflow_add-before : goal.write_continued-overflow_add-before
 write_continued-overflow_add-before t c =
-    let p = c.requires.ready in omega (arith, p.0.room, p.0.within)
+    let p = c.requires.ready in
+    omega (arith, p.0.room, p.0.within)
 
 pub write_continued-write_inside-rest-requires : goal.write_continued-write_inside-rest-requires
 write_continued-write_inside-rest-requires t c =
@@ -116,7 +121,8 @@ pub write_continued-returns : goal.write_continued-returns
 write_continued-returns t c =
     let p = c.requires.ready in
     let g = c.continued_tag.ensures in
-    let k = c.if-left-before.false in continued_writes (omega arith) (omega arith) p.1 p.3 c.make_room.ensures (rw c.tightness.ensures at c.write_inside-rest.ensures) c.joined.ensures (rw g at c.close.ensures.part) (rw g at c.close.ensures.stored)
+    let k = c.if-left-before.false in
+    continued_writes (omega arith) (omega arith) p.1 p.3 c.make_room.ensures (rw c.tightness.ensures at c.write_inside-rest.ensures) c.joined.ensures (rw g at c.close.ensures.part) (rw g at c.close.ensures.stored)
 
 pub write_else-token_at-token-requires : goal.write_else-token_at-token-requires
 write_else-token_at-token-requires t c =
@@ -169,7 +175,8 @@ write_expression-overflow_sub-opened t c =
 
 pub write_expression-loop-opened-smaller-then-closes_group : goal.write_expression-loop-opened-smaller-then-closes_group
 write_expression-loop-opened-smaller-then-closes_group t c =
-    let s = c.token_at-token.ensures in omega (arith, ap (λ p. p.at) c.moved_on-so_far.ensures, s.within, group_ahead _ s (c.loop-opened.invariant _ (climb_begins c.skip_groups-first.ensures c.write_operand-so_far.ensures.writes c.write_operand-so_far.ensures.spares)).bounds.within (sym c.closes_group.ensures ∙ c.if-closes_group.true))
+    let s = c.token_at-token.ensures in
+    omega (arith, ap (λ p. p.at) c.moved_on-so_far.ensures, s.within, group_ahead _ s (c.loop-opened.invariant _ (climb_begins c.skip_groups-first.ensures c.write_operand-so_far.ensures.writes c.write_operand-so_far.ensures.spares)).bounds.within (sym c.closes_group.ensures ∙ c.if-closes_group.true))
 
 pub write_expression-loop-opened-preserved-then-closes_group : goal.write_expression-loop-opened-preserved-then-closes_group
 write_expression-loop-opened-preserved-then-closes_group t c =
@@ -198,7 +205,8 @@ pub write_expression-loop-opened-smaller : goal.write_expression-loop-opened-sma
 write_expression-loop-opened-smaller t c =
     let s = c.token_at-token.ensures in
     let b = (c.loop-opened.invariant _ (climb_begins c.skip_groups-first.ensures c.write_operand-so_far.ensures.writes c.write_operand-so_far.ensures.spares)).bounds in
-    let w = c.write_continued-so_far.ensures.bounds in omega (arith, w.within, operator-ahead _ _ s b.within (sym c.ends_at.ensures ∙ c.if-ends_at.false), c.write_continued-so_far.ensures.ahead s.within)
+    let w = c.write_continued-so_far.ensures.bounds in
+    omega (arith, w.within, operator-ahead _ _ s b.within (sym c.ends_at.ensures ∙ c.if-ends_at.false), c.write_continued-so_far.ensures.ahead s.within)
 
 pub write_expression-loop-opened-preserved : goal.write_expression-loop-opened-preserved
 write_expression-loop-opened-preserved t c =
@@ -206,12 +214,14 @@ write_expression-loop-opened-preserved t c =
 
 pub write_function-put_empty_name-name-requires : goal.write_function-put_empty_name-name-requires
 write_function-put_empty_name-name-requires t c =
-    let r = c.requires in omega (arith, r.room, r.within)
+    let r = c.requires in
+    omega (arith, r.room, r.within)
 
 pub write_function-put_parameters-names-requires : goal.write_function-put_parameters-names-requires
 write_function-put_parameters-names-requires t c =
     let r = c.requires in
-    let n = c.put_empty_name-name.ensures.part in record { within = omega (arith, r.within, ap (λ p. p.at) n); room = omega (arith, r.room, ap (λ p. p.at) n, ap (λ p. p.to) n); small = omega arith; few = omega arith }
+    let n = c.put_empty_name-name.ensures.part in
+    record { within = omega (arith, r.within, ap (λ p. p.at) n); room = omega (arith, r.room, ap (λ p. p.at) n, ap (λ p. p.to) n); small = omega arith; few = omega arith }
 
 pub write_function-write_block-block-requires : goal.write_function-write_block-block-requires
 write_function-write_block-block-requires t c =
@@ -288,7 +298,8 @@ write_inside-returns-then-is_list t c =
 
 pub write_inside-put_operator-first-requires : goal.write_inside-put_operator-first-requires
 write_inside-put_operator-first-requires t c =
-    let r = c.requires.ready in omega (arith, r.room, r.within)
+    let r = c.requires.ready in
+    omega (arith, r.room, r.within)
 
 pub write_inside-write_expression-operand-requires : goal.write_inside-write_expression-operand-requires
 write_inside-write_expression-operand-requires t c =
@@ -365,7 +376,8 @@ write_list-loop-so_far-smaller t c =
     let b = c.loop-so_far.invariant.bounds in
     let w = c.write_expression-item.ensures in
     let i = item_on (separating c.token_at-token.result.kind) (sees_on s) c.item_start.ensures in
-    let e = item-ahead s b.within (sym c.closing.ensures ∙ c.if-closing.false) in omega (arith, ap (λ p. p.at) c.joined-so_far.ensures, i.0, w.writes.bounds.within, expression-on w.writes.bounds w.spares i e s.within)
+    let e = item-ahead s b.within (sym c.closing.ensures ∙ c.if-closing.false) in
+    omega (arith, ap (λ p. p.at) c.joined-so_far.ensures, i.0, w.writes.bounds.within, expression-on w.writes.bounds w.spares i e s.within)
 
 pub write_list-loop-so_far-preserved : goal.write_list-loop-so_far-preserved
 write_list-loop-so_far-preserved t c =
@@ -384,7 +396,8 @@ write_one-returns-then-left-eq0 t c =
 
 pub write_one-overflow_add-to : goal.write_one-overflow_add-to
 write_one-overflow_add-to t c =
-    let r = c.requires.0 in omega (arith, r.room, r.within)
+    let r = c.requires.0 in
+    omega (arith, r.room, r.within)
 
 pub write_one-write_clause-inside-requires : goal.write_one-write_clause-inside-requires
 write_one-write_clause-inside-requires t c =
@@ -399,7 +412,8 @@ write_one-close-whole-requires t c =
 
 pub write_one-past_semicolon-requires : goal.write_one-past_semicolon-requires
 write_one-past_semicolon-requires t c =
-    let b = c.write_clause-inside.ensures.writes.bounds in omega (arith, ap (λ p. p.at) c.close-whole.ensures.part, b.within)
+    let b = c.write_clause-inside.ensures.writes.bounds in
+    omega (arith, ap (λ p. p.at) c.close-whole.ensures.part, b.within)
 
 pub write_one-returns : goal.write_one-returns
 write_one-returns t c =
@@ -428,12 +442,14 @@ write_operand-put_leaf-requires t c =
 
 pub write_operand-returns-then-is_leaf : goal.write_operand-returns-then-is_leaf
 write_operand-returns-then-is_leaf t c =
-    let s = c.token_at-token.ensures in let facts = operand_leaf s (sees_ahead s c.requires.0.within c.if-token-eq-ENDED.false) (sym c.is_leaf.ensures ∙ c.if-is_leaf.true) c.put_leaf.ensures in
+    let s = c.token_at-token.ensures in
+    let facts = operand_leaf s (sees_ahead s c.requires.0.within c.if-token-eq-ENDED.false) (sym c.is_leaf.ensures ∙ c.if-is_leaf.true) c.put_leaf.ensures in
     record { writes = facts.0; spares = facts.1 }
 
 pub write_operand-overflow_add-to : goal.write_operand-overflow_add-to
 write_operand-overflow_add-to t c =
-    let r = c.requires.0 in omega (arith, r.room, r.within)
+    let r = c.requires.0 in
+    omega (arith, r.room, r.within)
 
 pub write_operand-overflow_sub-left : goal.write_operand-overflow_sub-left
 write_operand-overflow_sub-left t c =
@@ -457,7 +473,8 @@ pub write_operand-returns : goal.write_operand-returns
 write_operand-returns t c =
     let s = c.token_at-token.ensures in
     let g = c.operand_tag.ensures in
-    let k = c.requires.1 in let facts = operand_deeper (omega arith) s (sees_ahead s c.requires.0.within c.if-token-eq-ENDED.false) (sym c.is_leaf.ensures ∙ c.if-is_leaf.false) c.write_inside-inside.ensures (rw g at c.close.ensures.part) (rw g at c.close.ensures.stored) in
+    let k = c.requires.1 in
+    let facts = operand_deeper (omega arith) s (sees_ahead s c.requires.0.within c.if-token-eq-ENDED.false) (sym c.is_leaf.ensures ∙ c.if-is_leaf.false) c.write_inside-inside.ensures (rw g at c.close.ensures.part) (rw g at c.close.ensures.stored) in
     record { writes = facts.0; spares = facts.1 }
 
 pub write_statements-loop-token-init : goal.write_statements-loop-token-init
@@ -487,7 +504,8 @@ pub write_statements-loop-token-smaller : goal.write_statements-loop-token-small
 write_statements-loop-token-smaller t c =
     let s = c.token_at-token.ensures in
     let b = c.loop-token.invariant.bounds in
-    let w = c.write_one-next.ensures in omega (arith, ap (λ p. p.at) c.joined-so_far.ensures, w.writes.bounds.within, w.onward)
+    let w = c.write_one-next.ensures in
+    omega (arith, ap (λ p. p.at) c.joined-so_far.ensures, w.writes.bounds.within, w.onward)
 
 pub write_statements-loop-token-preserved : goal.write_statements-loop-token-preserved
 write_statements-loop-token-preserved t c =

@@ -1,0 +1,63 @@
+-- `chin::put_form` meets its contract: the main tag, main code, then the constants.
+use Prim.Native.Nat.{◌+◌}
+use native.Mathlib.Omega.{arith}
+use mathlib.Core.Path.{◌∙◌, ap, subst}
+use lib.ListN.{set}
+use Rattle.bytecode.specs.Form.{tag_main_in}
+use Rattle.chin.specs.Rows.{jump_of, TurnsCode}
+use Rattle.chin.proofs.Whole.{image_long, main_at, pool_at, main_bad, image-turned}
+use Rattle.chin.proofs.put_form.Goals as goal
+
+pub length_at-end-requires : goal.length_at-end-requires
+length_at-end-requires c = omega (arith, image_long c.args.from c.args.image.now c.requires.is)
+
+pub overflow_add-end : goal.overflow_add-end
+overflow_add-end c = omega (arith, c.length_at-end.ensures.small)
+
+pub turn_code-requires : goal.turn_code-requires
+turn_code-requires c =
+    let start = c in
+    let a = start.args in
+    record { code = start.requires.image.code; is = main_at a.from a.image.now start.requires.is c.length_at-end.ensures.is }
+
+pub overflow_add-end-in-Fine : goal.overflow_add-end-in-Fine
+overflow_add-end-in-Fine c = omega (arith, c.length_at-end.ensures.small)
+
+pub turn_constants-requires : goal.turn_constants-requires
+turn_constants-requires c =
+    let start = c in
+    let a = start.args in
+    record { pool = start.requires.image.pool; is = pool_at a.from a.image.now start.requires.is c.length_at-end.ensures.is }
+
+pub shape_of-output-in-Bad : goal.shape_of-output-in-Bad
+shape_of-output-in-Bad c = c.turn_code.auto.output ∙ c.put_tag.auto.output
+
+pub returns-in-Bad : goal.returns-in-Bad
+returns-in-Bad c =
+    let start = c in
+    let a = start.args in
+    let b = a.image.now in
+    let turn = c.turn_code in
+    let put = c.put_tag in
+    let len = c.length_at-end in
+    λ m is. main_bad a.from b is len.ensures.is
+    (subst (λ r. TurnsCode (jump_of a.from) b 3 (3 + len.result) m.code put.new.output turn.new.output r) c.in-Bad.is (turn.ensures m.code (main_at a.from b is len.ensures.is)))
+
+pub shape_of-output-in-Fine : goal.shape_of-output-in-Fine
+shape_of-output-in-Fine c = c.turn_constants.auto.output ∙ c.turn_code.auto.output ∙ c.put_tag.auto.output
+
+pub returns-in-Fine : goal.returns-in-Fine
+returns-in-Fine c =
+    let start = c in
+    let a = start.args in
+    let b = a.image.now in
+    let o = a.output.now in
+    let constants = c.turn_constants in
+    let turn = c.turn_code in
+    let put = c.put_tag in
+    let tag = c.main_tag-tag in
+    let other = c.other_form in
+    let len = c.length_at-end in
+    λ m is. image-turned a.from b is len.ensures.is o (put.ensures ∙ ap (set o 0) (tag.ensures ∙ ap tag_main_in other.ensures)) (turn.auto.output ∙ put.auto.output)
+    (subst (λ r. TurnsCode (jump_of a.from) b 3 (3 + len.result) m.code put.new.output turn.new.output r) c.in-Fine.is (turn.ensures m.code (main_at a.from b is len.ensures.is)))
+    (constants.ensures m.pool (pool_at a.from b is len.ensures.is))

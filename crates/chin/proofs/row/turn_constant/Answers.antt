@@ -1,0 +1,74 @@
+-- `chin::row::turn_constant` meets its contract: by the tag.
+use native.Mathlib.Omega.{arith}
+use mathlib.Core.Path.{◌∙◌, ap, sym}
+use lib.ListN.{set}
+use Rattle.bytecode.specs.Form.{tag_function_in}
+use Rattle.chin.proofs.Functions.{const_within, const_stays, function_at, function_turned}
+use Rattle.chin.proofs.row.turn_constant.Goals as goal
+
+pub bounds-image-at : goal.bounds-image-at
+bounds-image-at c = omega (
+  arith,
+  (let start = c in
+      let a = start.args in
+      const_within a.from a.image.now a.at a.end start.requires.is),
+)
+
+pub returns-then-image-at : goal.returns-then-image-at
+returns-then-image-at c =
+    let start = c in
+    let a = start.args in
+    λ x is. const_stays a.from a.image.now a.at a.end x is (λ e. c.if-image-at.true (e ∙ sym c.function_tag-function.ensures)) a.output.now
+
+pub length_at-len-requires : goal.length_at-len-requires
+length_at-len-requires c = omega (
+  arith,
+  (let start = c in
+      let a = start.args in
+      const_within a.from a.image.now a.at a.end start.requires.is),
+)
+
+pub overflow_add-at : goal.overflow_add-at
+overflow_add-at c = omega (
+  arith,
+  (let start = c in
+      let a = start.args in
+      const_within a.from a.image.now a.at a.end start.requires.is),
+)
+
+pub overflow_add-at-2 : goal.overflow_add-at-2
+overflow_add-at-2 c = omega (
+  arith,
+  (let start = c in
+      let a = start.args in
+      const_within a.from a.image.now a.at a.end start.requires.is),
+)
+
+pub overflow_add-at-3 : goal.overflow_add-at-3
+overflow_add-at-3 c = omega (
+  arith,
+  (let start = c in
+      let a = start.args in
+      const_within a.from a.image.now a.at a.end start.requires.is),
+  c.length_at-len.ensures.is,
+)
+
+pub turn_code-requires : goal.turn_code-requires
+turn_code-requires c =
+    let start = c in
+    let a = start.args in
+    function_at a.from a.image.now a.at a.end start.requires.constant start.requires.is (c.if-image-at.false ∙ c.function_tag-function.ensures) c.length_at-len.ensures.is
+
+pub shape_of-output : goal.shape_of-output
+shape_of-output c = c.turn_code.auto.output ∙ c.put_tag.auto.output
+
+pub returns : goal.returns
+returns c =
+    let start = c in
+    let a = start.args in
+    let other = c.other_form in
+    let tag = c.function_tag-tag in
+    let put = c.put_tag in
+    let turn = c.turn_code in
+    λ x is. function_turned a.from a.image.now a.at a.end x is (c.if-image-at.false ∙ c.function_tag-function.ensures) c.length_at-len.ensures.is
+    (put.ensures ∙ ap (set a.output.now a.at) (tag.ensures ∙ ap tag_function_in other.ensures)) turn.ensures

@@ -1,0 +1,71 @@
+-- The measures: the length of the field, or what is left of a row, with a rank; and what each member is given at the measure t and asked below t.
+use Prim.Native.Nat.{ℕ, ◌+◌, ◌*◌, ◌-◌}
+use Rattle.definition.specs.Walk.{walk_stmts, walk_exprs}
+use Rattle.field.specs.Layout.{len}
+use Rattle.scope.specs.Machine.{machine}
+use Rattle.step.specs.Memory.{rest}
+use Rattle.tree.specs.Reads.{ReadsStmts, ReadsExprs}
+use Rattle.walk.proofs.Turns.{Turn}
+use mathlib.Core.List.{List}
+use Rattle.walk.proofs.+walk.Given as goal
+
+-- the length of the field at an offset, doubled, so that there is room for ranks: a function that calls another on the same field has the higher one
+abbrev field : List ℕ → ℕ → ℕ
+field tree at = 2 * (3 + len tree at)
+
+abbrev pub decreases-walk_block : goal.decreases-walk_block
+decreases-walk_block l = 2 * (l.end - l.from) + 2
+
+abbrev pub decreases-walk_branch : goal.decreases-walk_branch
+decreases-walk_branch l = field l.tree.now l.at
+
+abbrev pub decreases-walk_branches : goal.decreases-walk_branches
+decreases-walk_branches l = field l.tree.now l.at + 1
+
+abbrev pub decreases-walk_call : goal.decreases-walk_call
+decreases-walk_call l = field l.tree.now l.at
+
+abbrev pub decreases-walk_else : goal.decreases-walk_else
+decreases-walk_else l = field l.tree.now l.place
+
+abbrev pub decreases-walk_expression : goal.decreases-walk_expression
+decreases-walk_expression l = field l.tree.now l.at + 3
+
+abbrev pub decreases-walk_expressions : goal.decreases-walk_expressions
+decreases-walk_expressions l = 2 * (l.end - l.from) + 4
+
+abbrev pub decreases-walk_function : goal.decreases-walk_function
+decreases-walk_function l = field l.tree.now l.at
+
+abbrev pub decreases-walk_if : goal.decreases-walk_if
+decreases-walk_if l = field l.tree.now l.at + 2
+
+abbrev pub decreases-walk_index : goal.decreases-walk_index
+decreases-walk_index l = field l.tree.now l.at
+
+abbrev pub decreases-walk_infix : goal.decreases-walk_infix
+decreases-walk_infix l = field l.tree.now l.at
+
+abbrev pub decreases-walk_let : goal.decreases-walk_let
+decreases-walk_let l = field l.tree.now l.at
+
+abbrev pub decreases-walk_list : goal.decreases-walk_list
+decreases-walk_list l = field l.tree.now l.at
+
+abbrev pub decreases-walk_prefix : goal.decreases-walk_prefix
+decreases-walk_prefix l = field l.tree.now l.at
+
+abbrev pub decreases-walk_statement : goal.decreases-walk_statement
+decreases-walk_statement l = field l.tree.now l.at + 1
+
+abbrev pub invariant-walk_block-loop-at : goal.invariant-walk_block-loop-at
+invariant-walk_block-loop-at l = Turn l.tree (ReadsStmts l.tree) (walk_stmts machine) l.initial.at l.end l.initial.code (rest l.initial.session l.initial.table) l.initial.v l.at l.code (rest l.session l.table) l.v
+
+abbrev pub decreases-walk_block-loop-at : goal.decreases-walk_block-loop-at
+decreases-walk_block-loop-at l = l.end - l.at
+
+abbrev pub invariant-walk_expressions-loop-at : goal.invariant-walk_expressions-loop-at
+invariant-walk_expressions-loop-at l = Turn l.tree (ReadsExprs l.tree) (walk_exprs machine) l.initial.at l.end l.initial.code (rest l.initial.session l.initial.table) l.initial.v l.at l.code (rest l.session l.table) l.v
+
+abbrev pub decreases-walk_expressions-loop-at : goal.decreases-walk_expressions-loop-at
+decreases-walk_expressions-loop-at l = l.end - l.at
