@@ -18,7 +18,7 @@ use Rattle.definition.specs.Valid.{AreBytes}
 use Rattle.definition.specs.declared.Answer.{Answer}
 use Rattle.definition.specs.declared.Answer.TheVariants.{Refused}
 use Rattle.definition.proofs.Basic.{both_left, both_right}
-use Rattle.compiler.specs.Result.{result, whole_of}
+use Rattle.compiler.specs.Result.{call_result, whole_of}
 use Rattle.compiler.specs.Promise.{Compiles}
 use Rattle.compiler.specs.Stage.{lent_of, Long}
 use Rattle.compiler.proofs.Whole.{call-whole, call_short}
@@ -35,12 +35,12 @@ front_zeroed n l h e = ap (λ x. x ++ drop n l) (e ∙ ap (λ k. replicate k 0) 
 pub cleared_again : (n : ℕ) (x l : List ℕ) → length x ≡ n → cleared n (x ++ drop n l) ≡ cleared n l
 cleared_again n x l e = ap (λ r. replicate n 0 ++ r) (drop_at x (drop n l) n e)
 
--- what was done on the first parts is the whole result
+-- what was done on the first parts is the whole call_result
 pub lent-whole : (tree : Bytes) (l : Lent) {e₁ o₁ : Bytes} (c₁ : Bytes) {c₂ : Bytes} (t₁ : List ℕ) {t₂ : List ℕ} {r : Answer}
-    → record { answer = r; session = e₁; output = o₁ } ≡ result tree (take session_size l.session) l.output
+    → record { answer = r; session = e₁; output = o₁ } ≡ call_result tree (take session_size l.session) l.output
     → length c₁ ≡ code_size → c₂ ≡ cleared code_size (c₁ ++ drop code_size l.code)
     → length t₁ ≡ table_size → t₂ ≡ cleared table_size (t₁ ++ drop table_size l.table)
-    → record { answer = r; lent = lent_of (e₁ ++ drop session_size l.session) o₁ c₂ t₂ } ≡ whole_of l (result tree (take session_size l.session) l.output)
+    → record { answer = r; lent = lent_of (e₁ ++ drop session_size l.session) o₁ c₂ t₂ } ≡ whole_of l (call_result tree (take session_size l.session) l.output)
 lent-whole tree l c₁ t₁ same m code n table =
     let c = code ∙ cleared_again code_size c₁ l.code m in
     let t = table ∙ cleared_again table_size t₁ l.table n in
@@ -66,9 +66,9 @@ long e c t h =
       table = leb-true table_size (length t) (both_left _ (leb session_size (length e)) s);
     }
 
--- past it the whole result keeps the promise
+-- past it the whole call_result keeps the promise
 pub promise_kept : (tree : Bytes) (l : Lent) → enough (request l tree) ≡ true → AreBytes (take session_size l.session) → {r : Answer} {l' : Lent}
-    → record { answer = r; lent = l' } ≡ whole_of l (result tree (take session_size l.session) l.output) → Compiles tree l r l'
+    → record { answer = r; lent = l' } ≡ whole_of l (call_result tree (take session_size l.session) l.output) → Compiles tree l r l'
 promise_kept tree l big a e =
     let same = e ∙ sym (call-whole tree l big a) in
     record { answer = ap (λ (x : Called). x.answer) same; lent = ap (λ (x : Called). x.lent) same }

@@ -29,7 +29,7 @@ use Rattle.bytecode.specs.Checked.{layout_of, layout_answer, session_answer}
 use Rattle.bytecode.specs.declared.SessionLayout.{SessionLayout}
 use Rattle.bytecode.specs.declared.Layout.TheVariants.{Sound, Broken}
 use Rattle.bytecode.proofs.Laid.{laid}
-use Rattle.compiler.specs.Result.{refused_result, step_result, session_result, result}
+use Rattle.compiler.specs.Result.{refused_result, step_result, session_result, call_result}
 use Rattle.compiler.specs.Stage.{words_end, Opened}
 
 -- words and names stand in front of all of a session's bytes
@@ -101,8 +101,8 @@ opened e a size {l} h =
     }
 
 -- where there is none the session is refused
-pub broken : (tree e o : Bytes) → layout_answer Broken ≡ session_answer (read_session e) → result tree e o ≡ refused_result e o (refusal Number.no_session 0)
-unfolding result
+pub broken : (tree e o : Bytes) → layout_answer Broken ≡ session_answer (read_session e) → call_result tree e o ≡ refused_result e o (refusal Number.no_session 0)
+unfolding call_result
 broken tree e o = go (read_session e)
   where
     go : (d : Decoded Session) → layout_answer Broken ≡ session_answer d → session_result tree e o d ≡ refused_result e o (refusal Number.no_session 0)
@@ -110,8 +110,8 @@ broken tree e o = go (read_session e)
     go (malformed p) h = refl
 
 -- a tree that was refused is refused
-pub refused_tree : (tree e o : Bytes) {l : SessionLayout} → Opened e l → {r : Refusal} → verdict (read_tree tree) ≡ Refused r → result tree e o ≡ refused_result e o r
-unfolding result
+pub refused_tree : (tree e o : Bytes) {l : SessionLayout} → Opened e l → {r : Refusal} → verdict (read_tree tree) ≡ Refused r → call_result tree e o ≡ refused_result e o r
+unfolding call_result
 refused_tree tree e o x {r} h = ap (session_result tree e o) x.reads ∙ go (read_tree tree) h
   where
     go : (p : Parsed Stmts) → verdict p ≡ Refused r → step_result e o (translate (length o) x.session p) ≡ refused_result e o r

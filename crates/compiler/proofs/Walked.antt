@@ -38,7 +38,7 @@ use Rattle.symbol_table.specs.Layout.{globals_size}
 use Rattle.symbol_table.specs.Contract.{HasNames, Starts}
 use Rattle.step.specs.Memory.{Rest, rest, symbols_of, no_symbols, settled, memory, FineState, Origin, Walks}
 use Rattle.walk.specs.Parts.{ReadsTree}
-use Rattle.compiler.specs.Result.{refused_result, step_result, session_result, result}
+use Rattle.compiler.specs.Result.{refused_result, step_result, session_result, call_result}
 use Rattle.compiler.specs.Stage.{Opened, Checked}
 use Rattle.compiler.specs.Translated.{Small, start_state, Through, Halted, WalkEnded}
 use Rattle.compiler.proofs.Opened.{opened}
@@ -91,9 +91,9 @@ module _ {e : Bytes} {l : SessionLayout} (x : Opened e l) {t₀ t : List ℕ} (b
   both_end : WalkEnds x.session e (length c) (defined x.session b) (done x.session e c b)
   both_end = walk_ends x.session x.valid e c whole (omega arith) b (read_well_formed tree b n reads)
 
-  -- the call's result hangs on the definition's walk
-  result_is : (o : Bytes) → result tree e o ≡ step_result e o (Definition.finish (length o) x.session (defined x.session b))
-  unfolding result
+  -- the call's call_result hangs on the definition's walk
+  result_is : (o : Bytes) → call_result tree e o ≡ step_result e o (Definition.finish (length o) x.session (defined x.session b))
+  unfolding call_result
   result_is o = ap (session_result tree e o) x.reads ∙ ap (λ p. step_result e o (translate (length o) x.session p)) reads
 
   -- the walk that was done is that on views
@@ -191,5 +191,5 @@ module _ (tree e c' e' : Bytes) (t' : List ℕ) (l : SessionLayout) where
 
 -- zeros over what was added, and the refusal
 pub halted_result : (tree e : Bytes) {e' : Bytes} {l : SessionLayout} {q : Refusal} {s : Memory.State} → Halted tree e e' l q s → {b : Bytes} → b ≡ sets e' l.pool_end (replicate (s.pool_end - l.pool_end) 0)
-    → (o : Bytes) → record { answer = Refused q; session = b; output = o } ≡ result tree e o
+    → (o : Bytes) → record { answer = Refused q; session = b; output = o } ≡ call_result tree e o
 halted_result tree e {q = q} h k o = (λ i. refused_result ((k ∙ h.restores) i) o q) ∙ sym (h.same o)

@@ -23,7 +23,7 @@ use Rattle.definition.specs.declared.Answer.TheVariants.{Refused}
 use Rattle.definition.proofs.Basic.{both_right, pick_true, pick_false}
 use Rattle.definition.proofs.Sessions.{write_session, session_length}
 use Rattle.definition.proofs.Steps.{compile-valid}
-use Rattle.compiler.specs.Result.{result_of, step_result, session_result, result, whole_of}
+use Rattle.compiler.specs.Result.{result_of, step_result, session_result, call_result, whole_of}
 
 -- the call by number 1's test
 pub call-enough : (tree : Bytes) (l : Lent) → enough (request l tree) ≡ true → call tree l ≡ in_session l tree (read_session (take session_size l.session))
@@ -66,6 +66,6 @@ module _ (tree : Bytes) (l : Lent) (big : enough (request l tree) ≡ true) wher
   session_whole (malformed p) v = λ i. record { answer = Refused (refusal Number.no_session 0); lent = ended (sym same_front i) l.output l }
 
   -- the whole call, where the buffers are large enough
-  pub call-whole : AreBytes front → call tree l ≡ whole_of l (result tree front l.output)
-  unfolding result
+  pub call-whole : AreBytes front → call tree l ≡ whole_of l (call_result tree front l.output)
+  unfolding call_result
   call-whole a = call-enough tree l big ∙ session_whole (read_session front) (λ z n e. (write_session front a (long_front tree l big) e).sound)

@@ -37,9 +37,9 @@ session_result tree e o (decoded z n) = step_result e o (translate (length o) z 
 session_result tree e o (malformed p) = refused_result e o (refusal Number.no_session 0)
 
 -- a tree, a session of 65,536 bytes, an output
-unfoldable pub result : Bytes → Bytes → Bytes → Result
-result tree e o = session_result tree e o (read_session e)
+unfoldable pub call_result : Bytes → Bytes → Bytes → Result
+call_result tree e o = session_result tree e o (read_session e)
 
--- a result, with the rest of what is lent: the bytes behind the session's, and the work areas zeroed
+-- a call_result, with the rest of what is lent: the bytes behind the session's, and the work areas zeroed
 abbrev pub whole_of : Lent → Result → Called
 whole_of l x = record { answer = x.answer; lent = ended (x.session ++ drop session_size l.session) x.output l }

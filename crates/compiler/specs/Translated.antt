@@ -17,7 +17,7 @@ use Rattle.scope.specs.declared.Walked.TheVariants.{On, Stop}
 use Rattle.refinement.specs.Relation.{Compiled}
 use Rattle.bytecode.specs.declared.SessionLayout.{SessionLayout}
 use Rattle.step.specs.Memory.{rest, symbols_of, FineState}
-use Rattle.compiler.specs.Result.{Result, refused_result, step_result, result}
+use Rattle.compiler.specs.Result.{Result, refused_result, step_result, call_result}
 use Rattle.compiler.specs.Stage.{layout_at}
 
 -- the numbers of a layout are within the limits, so that the compiler's state holds them
@@ -44,21 +44,21 @@ pub record Translated (tree c b : Bytes) (t : List ℕ) (l : SessionLayout) (s :
   pub fine : FineState tree (rest b t) s
   pub level : s.level ≡ 0
 
--- the result that the definition gives at the walk's end, for an output
+-- the call_result that the definition gives at the walk's end, for an output
 abbrev pub final_result : {tree c b : Bytes} {t : List ℕ} {l : SessionLayout} {s : Memory.State} → Translated tree c b t l s → Bytes → Result
 final_result p o = step_result (session_bytes p.session) o (Definition.finish (length o) p.session (on tt p.state))
 
--- the walk went through: what is there, and what the call's result is
+-- the walk went through: what is there, and what the call's call_result is
 pub record Through (tree e c' e' : Bytes) (t' : List ℕ) (l : SessionLayout) (s : Memory.State) : Type 0 where
   pub translated : Translated tree c' e' t' l s
-  pub same : (o : Bytes) → result tree e o ≡ final_result translated o
+  pub same : (o : Bytes) → call_result tree e o ≡ final_result translated o
 
--- the walk stopped: zeros restore the session, and the refusal is the call's result
+-- the walk stopped: zeros restore the session, and the refusal is the call's call_result
 pub record Halted (tree e e' : Bytes) (l : SessionLayout) (q : Refusal) (s : Memory.State) : Type 0 where
   pub low : l.pool_end ≤ s.pool_end
   pub high : s.pool_end ≤ session_size
   pub restores : sets e' l.pool_end (replicate (s.pool_end - l.pool_end) 0) ≡ e
-  pub same : (o : Bytes) → result tree e o ≡ refused_result e o q
+  pub same : (o : Bytes) → call_result tree e o ≡ refused_result e o q
 
 -- how the walk ended
 abbrev pub WalkEnded : Bytes → Bytes → Bytes → Bytes → List ℕ → SessionLayout → Walked → Type 0

@@ -8,7 +8,7 @@ ghost use Rattle.std.specs.Prelude.{◌≡◌, ◌≤◌, length, take, leb};
 ghost use Rattle.definition.specs.Basic.{both};
 ghost use Rattle.definition.specs.Limit.{session_size, code_size, table_size};
 ghost use Rattle.definition.specs.Call.{cleared};
-ghost use Rattle.compiler.specs.Result.{result, whole_of};
+ghost use Rattle.compiler.specs.Result.{call_result, whole_of};
 ghost use Rattle.compiler.specs.Promise.{Compiles, Makes, MakesWords};
 ghost use Rattle.compiler.specs.Stage.{lent_of, Long, Lengths};
 
@@ -21,14 +21,14 @@ use tree::Checked;
 
 // Makes a fresh session of document 01's two fields.
 pub fn make_session(session: &mut [u8]) -> Answer
-    ensures* { λ r. ⌜ Makes session.old r session.new ⌝ }
+    ensures { Makes session.old result session.new }
 {
     session::write_fresh(session)
 }
 
 // Makes a session of three fields with words that are handed over as name fields: at most 24, none repeated.
 pub fn make_session_words(session: &mut [u8], names: &[u8]) -> Answer
-    ensures* { λ r. ⌜ MakesWords session.old names.now r session.new ⌝ }
+    ensures { MakesWords session.old names.now result session.new }
 {
     if session.len() < SESSION_SIZE {
         return Answer::Refused(Refusal {
@@ -48,7 +48,7 @@ pub fn make_session_words(session: &mut [u8], names: &[u8]) -> Answer
 
 // Whether all that is lent is as long as number 1 asks.
 pub fn long_enough(session: &[u8], code: &[u8], table: &[u32]) -> bool
-    ensures* { λ r. ⌜ r ≡ both (leb code_size (length code.now)) (both (leb table_size (length table.now)) (leb session_size (length session.now))) ⌝ }
+    ensures { result ≡ both (leb code_size (length code.now)) (both (leb table_size (length table.now)) (leb session_size (length session.now))) }
 {
     if code.len() < CODE_SIZE {
         return false;
@@ -62,7 +62,7 @@ pub fn long_enough(session: &[u8], code: &[u8], table: &[u32]) -> bool
 // Zeroes the code area.
 pub fn clear_code(code: &mut [u8])
     requires { code_size ≤ length code.old }
-    ensures* { λ _. ⌜ code.new ≡ cleared code_size code.old ⌝ }
+    ensures { code.new ≡ cleared code_size code.old }
 {
     session::zero::clear(&mut code[..CODE_SIZE]);
 }
@@ -70,7 +70,7 @@ pub fn clear_code(code: &mut [u8])
 // Zeroes the table area.
 pub fn clear_table(table: &mut [u32])
     requires { table_size ≤ length table.old }
-    ensures* { λ _. ⌜ table.new ≡ cleared table_size table.old ⌝ }
+    ensures { table.new ≡ cleared table_size table.old }
 {
     session::zero::clear_numbers(&mut table[..TABLE_SIZE]);
 }
@@ -84,7 +84,7 @@ fn compile_in(
     table: &mut [u32],
 ) -> Answer
     requires { Lengths session.old code.old table.old }
-    ensures* { λ r. ⌜ record { answer = r; session = session.new; output = output.new } ≡ result tree.now session.old output.old ⌝ }
+    ensures { record { answer = result; session = session.new; output = output.new } ≡ call_result tree.now session.old output.old }
 {
     match read_layout(session) {
         Layout::Broken => Answer::Refused(Refusal {
@@ -107,7 +107,7 @@ fn compile_lent(
     table: &mut [u32],
 ) -> Answer
     requires { Long session.old code.old table.old }
-    ensures* { λ r. ⌜ record { answer = r; lent = lent_of session.new output.new code.new table.new } ≡ whole_of (lent_of session.old output.old code.old table.old) (result tree.now (take session_size session.old) output.old) ⌝ }
+    ensures { record { answer = result; lent = lent_of session.new output.new code.new table.new } ≡ whole_of (lent_of session.old output.old code.old table.old) (call_result tree.now (take session_size session.old) output.old) }
 {
     let answer = compile_in(
         &mut session[..SESSION_SIZE],
@@ -129,7 +129,7 @@ pub fn compile(
     code: &mut [u8],
     table: &mut [u32],
 ) -> Answer
-    ensures* { λ r. ⌜ Compiles tree.now (lent_of session.old output.old code.old table.old) r (lent_of session.new output.new code.new table.new) ⌝ }
+    ensures { Compiles tree.now (lent_of session.old output.old code.old table.old) result (lent_of session.new output.new code.new table.new) }
 {
     if long_enough(session, code, table) {
         return compile_lent(session, tree, output, code, table);

@@ -1,6 +1,6 @@
 // Translating a tree that was checked, in a session whose layout is known: the walk, then image and session, or all restored.
 ghost use Rattle.std.specs.Prelude.{◌≡◌, ◌≤◌, length};
-ghost use Rattle.compiler.specs.Result.{result};
+ghost use Rattle.compiler.specs.Result.{call_result};
 ghost use Rattle.compiler.specs.Stage.{Checked};
 ghost use Rattle.compiler.specs.Translated.{Small, start_state, image_length, Translated, final_result, WalkEnded};
 
@@ -16,7 +16,7 @@ use walk::compile_tree;
 // The state as the walk starts: an empty chunk.
 fn start_state(layout: SessionLayout) -> State
     requires { Small layout }
-    ensures* { λ r. ⌜ r ≡ start_state layout ⌝ }
+    ensures { result ≡ start_state layout }
 {
     State {
         chunk: Chunk {
@@ -46,7 +46,7 @@ fn accept(
     requires translated { Translated tree.now code.now session.old table.now layout s }
     requires total_value { total ≡ image_length layout s }
     requires total_in_bounds { total ≤ length output.old }
-    ensures* { λ r. ⌜ ((p : Translated tree.now code.now session.old table.now layout s) → record { answer = r; session = session.new; output = output.new } ≡ final_result p output.old) ⌝ }
+    ensures { ((p : Translated tree.now code.now session.old table.now layout s) → record { answer = result; session = session.new; output = output.new } ≡ final_result p output.old) }
 {
     let chunk = s.chunk;
     let len = chunk.len as usize;
@@ -71,7 +71,7 @@ fn finish(
     s: State,
 ) -> Answer
     requires { Translated tree.now code.now session.old table.now layout s }
-    ensures* { λ r. ⌜ ((p : Translated tree.now code.now session.old table.now layout s) → record { answer = r; session = session.new; output = output.new } ≡ final_result p output.old) ⌝ }
+    ensures { ((p : Translated tree.now code.now session.old table.now layout s) → record { answer = result; session = session.new; output = output.new } ≡ final_result p output.old) }
 {
     let chunk = s.chunk;
     let end = s.pool_end as usize;
@@ -95,7 +95,7 @@ fn walk_tree(
     layout: SessionLayout,
 ) -> Walked
     requires { Checked tree.now session.old code.old table.old layout }
-    ensures* { λ r. ⌜ WalkEnded tree.now session.old code.new session.new table.new layout r ⌝ }
+    ensures { WalkEnded tree.now session.old code.new session.new table.new layout result }
 {
     symbol_table::start(session, table, layout.words_end);
     compile_tree(tree, session, code, table, start_state(layout))
@@ -111,7 +111,7 @@ pub fn translate(
     layout: SessionLayout,
 ) -> Answer
     requires { Checked tree.now session.old code.old table.old layout }
-    ensures* { λ r. ⌜ record { answer = r; session = session.new; output = output.new } ≡ result tree.now session.old output.old ⌝ }
+    ensures { record { answer = result; session = session.new; output = output.new } ≡ call_result tree.now session.old output.old }
 {
     match walk_tree(tree, session, code, table, layout) {
         Walked::Stop(r, s) => {

@@ -17,7 +17,7 @@ use Rattle.definition.proofs.ImagePlaces.{image-place}
 use Rattle.definition.proofs.Images.{write-image}
 use Rattle.definition.proofs.Instructions.{code-length, code-count}
 use Rattle.heights.specs.Judgement.{counted, Tops}
-use Rattle.heights.specs.Pass.{Verdict, judged, bad_heights, verdict_answer, heights_answer}
+use Rattle.heights.specs.Pass.{Verdict, bad_heights, verdict_answer, heights_answer}
 use Rattle.heights.specs.Proposal.{proposal_answer}
 use Rattle.heights.proofs.Verdicts.{Right, judged_right, within}
 

@@ -1,17 +1,16 @@
 -- The same on lent memory: what a series of compile calls writes passes where each reached instruction is offered its height.
-use Prim.Native.Nat.{ℕ, ◌≤◌}
+use Prim.Native.Nat.{ℕ}
 use native.Mathlib.Omega.{arith}
 use mathlib.Core.List.{List, [], ◌∷◌}
 use mathlib.Core.Path.{◌≡◌, refl, sym, ap, subst, ◌∙◌}
 use lib.ListN.{length, take}
 use Rattle.definition.specs.Basic.{Bytes}
-use Rattle.definition.specs.Limit.{session_size}
 use Rattle.definition.specs.Bytecode.{Image, image_bytes}
 use Rattle.definition.specs.Session.{Words, Session, begun}
 use Rattle.definition.specs.Decode.{decoded, read_image}
 use Rattle.definition.specs.Compile.{Outcome, Step, Request, compile, steps}
-use Rattle.definition.specs.Call.{Called, request}
-use Rattle.definition.specs.Series.{Call, Start, lent, calls}
+use Rattle.definition.specs.Call.{Called, call, request}
+use Rattle.definition.specs.Series.{Call, Start, lent, session_after, calls}
 use Rattle.definition.specs.Output.{output_answer}
 use Rattle.definition.specs.Valid.{All}
 use Rattle.definition.specs.declared.Answer.TheVariants.{Length}
@@ -42,7 +41,7 @@ paired s z h [] = ([], Paired.none)
 paired s z h (c ∷ cs) =
     let d = call_does s z h c in
     let q = request (lent s c) c.tree in
-    let r = paired _ (compile z q).session d.holds cs in
+    let r = paired (session_after s (call c.tree (lent s c)).lent.session) (compile z q).session d.holds cs in
     (q ∷ r.0, Paired.more d.gave r.1)
 
 -- one call

@@ -82,6 +82,7 @@ chunk Kind.function h = let n = named h in Chunk.function n.index n.is
 
 -- a function's heights
 function_level : {m : Image} {cs : List Const} {place first : ℕ} {c : Code} → All LevelConst cs → ChunkOf m cs place Kind.function first c → FunctionLevel c
+function_level All.none h = elim h [ ]
 function_level (All.more l ls) ChunkOf.last = l
 function_level (All.more l ls) (ChunkOf.before h) = function_level ls h
 

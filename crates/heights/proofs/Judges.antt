@@ -1,7 +1,7 @@
 -- The chunks of an image one after the other: what one answers, and what stands in the output then.
 use Prim.Native.Nat.{ℕ, suc, ◌+◌, ◌≤◌, ◌<◌}
 use native.Mathlib.Omega.{arith}
-use mathlib.Core.List.{List, [], ◌∷◌, ◌++◌}
+use mathlib.Core.List.{List, ◌∷◌}
 use mathlib.Core.Path.{◌≡◌, refl, sym, ap, subst, ◌∙◌}
 use mathlib.Core.Bool.{Bool, true, false}
 use lib.Dec.{eqb}
@@ -17,7 +17,7 @@ use Rattle.bytecode.proofs.Heads.{both_true}
 use Rattle.bytecode.proofs.Fields.{Good, head_read, const_end, const_ends}
 use Rattle.listing.specs.Reads.{CodeAt, PoolAt, function_of}
 use Rattle.listing.proofs.Items.{Reading, next}
-use Rattle.listing.proofs.Constants.{constant_within, Function, function_is}
+use Rattle.listing.proofs.Constants.{constant_within, function_is}
 use Rattle.heights.specs.Judgement.{Kind, instructions}
 use Rattle.heights.specs.Pass.{Top, top_of}
 use Rattle.heights.specs.Marks.{Blank, chunk_answer, ChunkReady, ChunkEnds}

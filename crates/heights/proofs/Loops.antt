@@ -10,10 +10,10 @@ use borrow.Author.Tests.{lt-ltb, le-ltb}
 use Rattle.definition.specs.Basic.{Bytes, byte_at, pick, both}
 use Rattle.definition.specs.Opcode.{Instr, size}
 use Rattle.definition.specs.Bytecode.{Code, size_of}
-use Rattle.definition.specs.Decode.{Decoded, decoded, read_instr}
+use Rattle.definition.specs.Decode.{read_instr}
 use Rattle.definition.specs.Effect.{takes, gives, flow_of, falls, leaps}
 use Rattle.definition.specs.declared.Refusal.{Refusal}
-use Rattle.opcode.specs.Decoding.{instruction, instr_of, read_before, decode_answer}
+use Rattle.opcode.specs.Decoding.{instr_of, read_before, decode_answer}
 use Rattle.opcode.proofs.Decoding.{before_within, answered, unanswered}
 use Rattle.opcode.specs.declared.Instruction.{Instruction}
 use Rattle.opcode.specs.declared.Decoded.{Decoded as Answer}

@@ -5,7 +5,7 @@ use mathlib.Core.List.{List, [], ◌∷◌, ◌++◌}
 use mathlib.Core.Path.{◌≡◌, refl, sym, ap, ◌∙◌}
 use lib.ListN.{length, get_or, length-append, get_or-append}
 use lib.Seq.{get_or-append_seam}
-use Rattle.definition.specs.Opcode.{Instr, size}
+use Rattle.definition.specs.Opcode.{Instr}
 use Rattle.definition.specs.Bytecode.{Code, size_of, Const, Image}
 use Rattle.definition.specs.Session.{Session}
 use Rattle.definition.specs.Valid.{All}
@@ -35,12 +35,12 @@ ordered_length [] = refl
 ordered_length (m ∷ ms) = let h = ordered_length ms in omega (arith, length-append (ordered ms) (m ∷ []))
 
 -- an index below that of the code's end
-placed_below : {c : Code} {i : Instr} {p k : ℕ} → Placed i p k c → k < length c
+placed_below : {i : Instr} {c : Code} {p k : ℕ} → Placed i p k c → k < length c
 placed_below Placed.last = omega arith
 placed_below (Placed.before b) = let l = placed_below b in omega arith
 
 -- the height at an edge is the one in the list
-at_edge : {c : Code} {ms : List ℕ} {n p k x : ℕ} {i : Instr} → Placed i p k c → length ms ≡ length c → EdgeHeight 0 c ms n p x → get_or (ordered ms) k 0 ≡ x
+at_edge : {i : Instr} {c : Code} {ms : List ℕ} {n p k x : ℕ} → Placed i p k c → length ms ≡ length c → EdgeHeight 0 c ms n p x → get_or (ordered ms) k 0 ≡ x
 unfolding ordered
 at_edge (Placed.last {c}) l (EdgeHeight.end e) = absurd (omega arith)
 at_edge (Placed.last {c}) l (EdgeHeight.earlier {ms = ms} {m = m} e) =

@@ -1,8 +1,8 @@
 -- The pool: a loop that judges a constant a turn; the first that fails decides.
-use Prim.Native.Nat.{ℕ, suc, ◌+◌, ◌≤◌, ◌<◌}
+use Prim.Native.Nat.{ℕ, suc, ◌+◌, ◌≤◌}
 use native.Mathlib.Omega.{arith}
 use mathlib.Core.List.{List, [], ◌∷◌, ◌++◌}
-use mathlib.Core.Path.{◌≡◌, refl, sym, ap, subst, ◌∙◌}
+use mathlib.Core.Path.{◌≡◌, refl, sym, ap, ◌∙◌}
 use lib.ListN.{length, set, length-append}
 use lib.Seq.{sets}
 use Rattle.definition.specs.Basic.{Bytes, byte_at}
@@ -19,7 +19,6 @@ use Rattle.heights.specs.Chunks.{top_answer, top_into, constant_answer, constant
 use Rattle.heights.specs.declared.image.Progress.{Progress}
 use Rattle.heights.specs.declared.image.ConstantCheck.{ConstantCheck}
 use Rattle.heights.specs.declared.image.ConstantCheck.TheVariants.{On, Fails}
-use Rattle.heights.specs.declared.image.PoolCheck.{PoolCheck}
 use Rattle.heights.specs.declared.image.PoolCheck.TheVariants.{Tops as PoolTops, Fails as PoolFails}
 use Rattle.heights.proofs.Judges.{not_on, Turn}
 

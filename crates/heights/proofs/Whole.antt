@@ -1,9 +1,9 @@
 -- A sound image: main, then the pool; and what checking its heights answers.
 use Prim.Native.Nat.{ℕ, zero, suc, ◌+◌, ◌≤◌, ◌<◌}
 use native.Mathlib.Omega.{arith}
-use mathlib.Core.List.{List, [], ◌∷◌, ◌++◌}
-use mathlib.Core.Path.{◌≡◌, refl, sym, ap, subst, ◌∙◌}
-use lib.ListN.{length, get_or, set, replicate, length-replicate}
+use mathlib.Core.List.{List, [], ◌∷◌}
+use mathlib.Core.Path.{◌≡◌, refl, sym, ap, ◌∙◌}
+use lib.ListN.{length, get_or, replicate, length-replicate}
 use Rattle.definition.specs.Basic.{Bytes, byte_at}
 use Rattle.definition.specs.Limit.{image_limit}
 use Rattle.definition.specs.Field.{head}
@@ -11,17 +11,16 @@ use Rattle.definition.specs.Bytecode.{Const, Image}
 use Rattle.definition.specs.Valid.{AreBytes}
 use Rattle.definition.proofs.Images.{write-image}
 use Rattle.definition.proofs.Places.{image_within}
-use Rattle.listing.specs.Reads.{ImageAt, HasImage}
+use Rattle.listing.specs.Reads.{ImageAt}
 use Rattle.listing.proofs.Images.{parts}
 use Rattle.heights.specs.Judgement.{Kind}
 use Rattle.heights.specs.Pass.{Top, top_of, Verdict, also, judged}
-use Rattle.heights.specs.Marks.{Blank, ChunkReady}
+use Rattle.heights.specs.Marks.{ChunkReady}
 use Rattle.heights.specs.Chunks.{top_answer, top_into, pool_answer, Judges, PoolReady, SoFar, PoolJudges}
 use Rattle.heights.specs.declared.image.Progress.{Progress}
 use Rattle.heights.specs.declared.image.ConstantCheck.{ConstantCheck}
 use Rattle.heights.specs.declared.image.ConstantCheck.TheVariants.{On, Fails}
-use Rattle.heights.specs.declared.image.PoolCheck.{PoolCheck}
-use Rattle.heights.specs.declared.image.PoolCheck.TheVariants.{Tops as PoolTops, Fails as PoolFails}
+use Rattle.heights.specs.declared.image.PoolCheck.TheVariants.{Fails as PoolFails}
 use Rattle.heights.proofs.Judges.{not_on, blank_later}
 use Rattle.heights.proofs.Pools.{not_fails, judged_failed}
 

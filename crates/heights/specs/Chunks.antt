@@ -1,9 +1,9 @@
 -- What judging the chunks of an image one after the other answers and stores.
-use Rattle.std.specs.Prelude.{ℕ, suc, ◌+◌, ◌≤◌, ◌<◌, List, [], ◌≡◌, length, set}
+use Rattle.std.specs.Prelude.{ℕ, suc, ◌+◌, ◌≤◌, ◌<◌, List, ◌≡◌, length, set}
 use Rattle.std.proofs.lemmas.List.Edits.{sets}
 use Rattle.definition.specs.Basic.{Bytes, byte_at}
 use Rattle.definition.specs.Field.{head}
-use Rattle.definition.specs.Bytecode.{Code, Const, Image}
+use Rattle.definition.specs.Bytecode.{Const, Image}
 use Rattle.listing.specs.Reads.{ConstantAt, HasPool}
 use Rattle.heights.specs.Judgement.{Kind, counted}
 use Rattle.heights.specs.Pass.{Top, top_of, Verdict, judged}

@@ -8,7 +8,7 @@ use Rattle.definition.specs.Decode.{Decoded, decoded, malformed}
 use Rattle.definition.specs.Effect.{takes, gives, flow_of, falls, leaps}
 use Rattle.definition.specs.Output.{output_answer, output_after}
 use Rattle.definition.specs.declared.Answer.{Answer}
-use Rattle.definition.specs.declared.Answer.TheVariants.{Length, Refused}
+use Rattle.definition.specs.declared.Answer.TheVariants.{Refused}
 use Rattle.heights.specs.Judgement.{Kind, counted}
 
 -- what arrives at each position: 0 nothing, 1 no way from the start, h + 2 the height h

@@ -1,5 +1,5 @@
 -- Bytes written into parts of what is lent, one behind the other.
-use Rattle.std.proofs.Common.{◌≡◌, ℕ, zero, suc, ◌+◌, ◌≤◌, [], ◌∷◌, ◌++◌, length, take, drop, set, sym, refl, ap, ◌∙◌, append_assoc, arith, length-append, take-append-drop, drop-drop, take_at, drop_at}
+use Rattle.std.proofs.Common.{◌≡◌, ℕ, zero, suc, ◌≤◌, [], ◌∷◌, ◌++◌, length, take, drop, sym, refl, ap, ◌∙◌, append_assoc, arith, length-append, take-append-drop, drop-drop, take_at, drop_at}
 use lib.Seq.{sets}
 use borrow.Rule.Slice.PartMut.{put_mid, mid_of}
 use Rattle.definition.specs.Basic.{Bytes}

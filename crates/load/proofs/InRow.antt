@@ -1,8 +1,8 @@
 -- Parts written one behind the other are a row.
-use Rattle.std.proofs.Common.{◌≡◌, ℕ, zero, suc, ◌+◌, ◌-◌, ◌*◌, ◌≤◌, List, [], ◌∷◌, ◌++◌, length, sym, refl, ap, ◌∙◌, subst, subst₂, arith}
+use Rattle.std.proofs.Common.{◌≡◌, ℕ, zero, suc, ◌+◌, ◌-◌, ◌*◌, ◌≤◌, List, [], ◌∷◌, length, sym, refl, ap, ◌∙◌, subst, subst₂, arith}
 use borrow.Rule.Slice.PartMut.{put_mid, mid_of}
 use Rattle.definition.specs.Basic.{Bytes}
-use Rattle.load.specs.Node.{Node, Nodes, size, size_all}
+use Rattle.load.specs.Node.{Node, Nodes, size}
 use Rattle.load.specs.Draw.{Drawn, Part, needs, times, row}
 use Rattle.load.specs.Writing.{Wrote, WroteAll}
 use Rattle.load.specs.declared.Grown.{Grown}

@@ -4,12 +4,12 @@ use lib.Seq.{sets}
 use borrow.Rule.Slice.PartMut.{put_mid, mid_of}
 use Rattle.definition.specs.Basic.{Bytes, pick, both}
 use Rattle.definition.specs.Tag.{tag_block, tag_expr_stmt}
-use Rattle.definition.proofs.Basic.{both_left, both_right}
+use Rattle.definition.proofs.Basic.{both_right}
 use Rattle.session.specs.Write.{heading}
 use Rattle.session.proofs.Stores.{sets_over}
-use Rattle.load.specs.Node.{Node, leaf, node, Nodes, written, size}
+use Rattle.load.specs.Node.{Node, leaf, node, written, size}
 use Rattle.load.specs.Draw.{Drawn, drawn, bind, draw, next, Part, times, row, field_of}
-use Rattle.load.specs.Load.{Leaf, leaves, leaf_of, identifier, Row, rows, simple, expression_of, StatementRow, statement_rows, expr_row, statement_of, block_of, pairs, choices, statement_choices, empty_block, expression, statement, yielding, block, branch, function_name, function_parameters, an_expression, a_statement, a_block, a_branch, a_yielding}
+use Rattle.load.specs.Load.{leaves, leaf_of, identifier, Row, rows, simple, expression_of, StatementRow, statement_rows, expr_row, statement_of, block_of, pairs, choices, statement_choices, empty_block, expression, statement, yielding, block, branch, function_name, function_parameters, an_expression, a_statement, a_block, a_branch, a_yielding}
 use Rattle.load.specs.Writing.{Wrote, WroteAll}
 use Rattle.load.specs.declared.Grown.{Grown}
 use Rattle.load.proofs.Leaves.{fine_function_name, fine_parameters}

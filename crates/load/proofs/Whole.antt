@@ -1,9 +1,9 @@
 -- The whole tree: a Program's row, and what is written to the output.
-use Rattle.std.proofs.Common.{◌≡◌, ℕ, zero, suc, ◌+◌, ◌/◌, ◌%◌, ◌<◌, ◌≤◌, List, [], ◌∷◌, ◌++◌, length, take, drop, sym, refl, ap, ◌∙◌, arith, length-take-le, take_at}
+use Rattle.std.proofs.Common.{◌≡◌, ℕ, zero, suc, ◌+◌, ◌/◌, ◌%◌, ◌<◌, ◌≤◌, List, ◌∷◌, ◌++◌, length, take, drop, sym, refl, ap, ◌∙◌, arith, length-take-le, take_at}
 use lib.Seq.{sets}
 use Rattle.definition.specs.Basic.{Bytes}
 use Rattle.definition.specs.Number.{refusal, output_short}
-use Rattle.definition.specs.Output.{over, output_answer, output_after}
+use Rattle.definition.specs.Output.{output_answer, output_after}
 use Rattle.definition.specs.Tag.{tag_program}
 use Rattle.definition.specs.declared.Answer.TheVariants.{Length, Refused}
 use Rattle.opcode.proofs.Encoding.{placing, refusing}

@@ -1,5 +1,5 @@
 -- A product modulo a number by halves.
-use Rattle.std.proofs.Common.{◌≡◌, ℕ, ◌+◌, ◌*◌, ◌/◌, ◌%◌, sym, refl, ap, ◌∙◌, mul-zero, mul-one, mul-add, arith}
+use Rattle.std.proofs.Common.{◌≡◌, ℕ, ◌+◌, ◌*◌, ◌/◌, ◌%◌, sym, ap, ◌∙◌, mul-zero, mul-one, mul-add, arith}
 use native.Mathlib.Nat.{add-mod, mod-add-mod, zero-mod}
 
 -- with 0

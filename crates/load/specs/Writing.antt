@@ -1,5 +1,5 @@
 -- What a function leaves that writes drawn fields at the start of what it is lent.
-use Rattle.std.specs.Prelude.{◌≡◌, ℕ, ◌≤◌, length}
+use Rattle.std.specs.Prelude.{◌≡◌, ◌≤◌, length}
 use Rattle.definition.specs.Basic.{Bytes}
 use Rattle.definition.specs.Output.{over}
 use Rattle.load.specs.Node.{Node, Nodes, written, written_all, size, size_all}

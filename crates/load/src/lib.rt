@@ -93,7 +93,7 @@ fn nothing(state: u32) -> Grown
 }
 
 // An expression, with so many levels below.
-#[cycle(block_body_branch_branches_construct_counted_expression_expressions_function_row_if_row_infix_row_let_row_one_statement_operand_row_operation_prefix_row_signature_row_statements_yield_row_yielding)]
+#[cycle(rows)]
 fn expression(out: &mut [u8], below: usize, state: u32) -> Grown
     requires in_bounds { 11 ≤ length out.old }
     requires below_bound { below ≤ 12 }
@@ -114,7 +114,7 @@ fn expression(out: &mut [u8], below: usize, state: u32) -> Grown
 }
 
 // The rows from Prefix to Hash, of expressions with so many levels below.
-#[cycle(block_body_branch_branches_construct_counted_expression_expressions_function_row_if_row_infix_row_let_row_one_statement_operand_row_operation_prefix_row_signature_row_statements_yield_row_yielding)]
+#[cycle(rows)]
 fn operation(out: &mut [u8], below: usize, k: u32, s: u32) -> Grown
     requires in_bounds { 48 ≤ length out.old }
     requires below_bound { below ≤ 12 }
@@ -138,7 +138,7 @@ fn operation(out: &mut [u8], below: usize, k: u32, s: u32) -> Grown
 }
 
 // Call, Array and Hash: a number of expressions is drawn.
-#[cycle(block_body_branch_branches_construct_counted_expression_expressions_function_row_if_row_infix_row_let_row_one_statement_operand_row_operation_prefix_row_signature_row_statements_yield_row_yielding)]
+#[cycle(rows)]
 fn counted(out: &mut [u8], below: usize, k: u32, s: u32) -> Grown
     requires in_bounds { 48 ≤ length out.old }
     requires below_bound { below ≤ 12 }
@@ -164,7 +164,7 @@ fn counted(out: &mut [u8], below: usize, k: u32, s: u32) -> Grown
 }
 
 // If, If with else, and Function.
-#[cycle(block_body_branch_branches_construct_counted_expression_expressions_function_row_if_row_infix_row_let_row_one_statement_operand_row_operation_prefix_row_signature_row_statements_yield_row_yielding)]
+#[cycle(rows)]
 fn construct(out: &mut [u8], below: usize, k: u32, s: u32) -> Grown
     requires in_bounds { 96 ≤ length out.old }
     requires below_bound { below ≤ 12 }
@@ -185,7 +185,7 @@ fn construct(out: &mut [u8], below: usize, k: u32, s: u32) -> Grown
 }
 
 // So many expressions, one after the other.
-#[cycle(block_body_branch_branches_construct_counted_expression_expressions_function_row_if_row_infix_row_let_row_one_statement_operand_row_operation_prefix_row_signature_row_statements_yield_row_yielding)]
+#[cycle(rows)]
 fn expressions(out: &mut [u8], below: usize, n: usize, state: u32) -> Grown
     requires n_in_bounds { 11 * n ≤ length out.old }
     requires below_bound { below ≤ 12 }
@@ -203,7 +203,7 @@ fn expressions(out: &mut [u8], below: usize, n: usize, state: u32) -> Grown
 }
 
 // Minus or Bang, and an expression.
-#[cycle(block_body_branch_branches_construct_counted_expression_expressions_function_row_if_row_infix_row_let_row_one_statement_operand_row_operation_prefix_row_signature_row_statements_yield_row_yielding)]
+#[cycle(rows)]
 fn prefix_row(out: &mut [u8], below: usize, state: u32) -> Grown
     requires in_bounds { 15 ≤ length out.old }
     requires below_bound { below ≤ 12 }
@@ -215,7 +215,7 @@ fn prefix_row(out: &mut [u8], below: usize, state: u32) -> Grown
 }
 
 // An operator, and an expression.
-#[cycle(block_body_branch_branches_construct_counted_expression_expressions_function_row_if_row_infix_row_let_row_one_statement_operand_row_operation_prefix_row_signature_row_statements_yield_row_yielding)]
+#[cycle(rows)]
 fn operand_row(out: &mut [u8], below: usize, state: u32) -> Grown
     requires in_bounds { 15 ≤ length out.old }
     requires below_bound { below ≤ 12 }
@@ -227,7 +227,7 @@ fn operand_row(out: &mut [u8], below: usize, state: u32) -> Grown
 }
 
 // An expression, an operator, an expression.
-#[cycle(block_body_branch_branches_construct_counted_expression_expressions_function_row_if_row_infix_row_let_row_one_statement_operand_row_operation_prefix_row_signature_row_statements_yield_row_yielding)]
+#[cycle(rows)]
 fn infix_row(out: &mut [u8], below: usize, state: u32) -> Grown
     requires in_bounds { 26 ≤ length out.old }
     requires below_bound { below ≤ 12 }
@@ -241,7 +241,7 @@ fn infix_row(out: &mut [u8], below: usize, state: u32) -> Grown
 }
 
 // A condition and so many branches.
-#[cycle(block_body_branch_branches_construct_counted_expression_expressions_function_row_if_row_infix_row_let_row_one_statement_operand_row_operation_prefix_row_signature_row_statements_yield_row_yielding)]
+#[cycle(rows)]
 fn if_row(out: &mut [u8], below: usize, n: usize, state: u32) -> Grown
     requires n_in_bounds { 11 + 39 * n ≤ length out.old }
     requires below_bound { below ≤ 12 }
@@ -256,7 +256,7 @@ fn if_row(out: &mut [u8], below: usize, n: usize, state: u32) -> Grown
 }
 
 // So many branches, one after the other.
-#[cycle(block_body_branch_branches_construct_counted_expression_expressions_function_row_if_row_infix_row_let_row_one_statement_operand_row_operation_prefix_row_signature_row_statements_yield_row_yielding)]
+#[cycle(rows)]
 fn branches(out: &mut [u8], below: usize, n: usize, state: u32) -> Grown
     requires n_in_bounds { 39 * n ≤ length out.old }
     requires below_bound { below ≤ 12 }
@@ -274,7 +274,7 @@ fn branches(out: &mut [u8], below: usize, n: usize, state: u32) -> Grown
 }
 
 // A function's name or none, its parameters, its Block.
-#[cycle(block_body_branch_branches_construct_counted_expression_expressions_function_row_if_row_infix_row_let_row_one_statement_operand_row_operation_prefix_row_signature_row_statements_yield_row_yielding)]
+#[cycle(rows)]
 fn function_row(out: &mut [u8], below: usize, state: u32) -> Grown
     requires in_bounds { 54 ≤ length out.old }
     requires below_bound { below ≤ 12 }
@@ -287,7 +287,7 @@ fn function_row(out: &mut [u8], below: usize, state: u32) -> Grown
 }
 
 // A function's parameters and its Block.
-#[cycle(block_body_branch_branches_construct_counted_expression_expressions_function_row_if_row_infix_row_let_row_one_statement_operand_row_operation_prefix_row_signature_row_statements_yield_row_yielding)]
+#[cycle(rows)]
 fn signature_row(out: &mut [u8], below: usize, state: u32) -> Grown
     requires in_bounds { 50 ≤ length out.old }
     requires below_bound { below ≤ 12 }
@@ -300,7 +300,7 @@ fn signature_row(out: &mut [u8], below: usize, state: u32) -> Grown
 }
 
 // A statement, with so many levels below.
-#[cycle(block_body_branch_branches_construct_counted_expression_expressions_function_row_if_row_infix_row_let_row_one_statement_operand_row_operation_prefix_row_signature_row_statements_yield_row_yielding)]
+#[cycle(rows)]
 fn one_statement(out: &mut [u8], below: usize, state: u32) -> Grown
     requires in_bounds { 18 ≤ length out.old }
     requires below_bound { below ≤ 12 }
@@ -327,7 +327,7 @@ fn one_statement(out: &mut [u8], below: usize, state: u32) -> Grown
 }
 
 // A name and its value.
-#[cycle(block_body_branch_branches_construct_counted_expression_expressions_function_row_if_row_infix_row_let_row_one_statement_operand_row_operation_prefix_row_signature_row_statements_yield_row_yielding)]
+#[cycle(rows)]
 fn let_row(out: &mut [u8], below: usize, state: u32) -> Grown
     requires in_bounds { 15 ≤ length out.old }
     requires below_bound { below ≤ 12 }
@@ -339,7 +339,7 @@ fn let_row(out: &mut [u8], below: usize, state: u32) -> Grown
 }
 
 // So many statements, one after the other.
-#[cycle(block_body_branch_branches_construct_counted_expression_expressions_function_row_if_row_infix_row_let_row_one_statement_operand_row_operation_prefix_row_signature_row_statements_yield_row_yielding)]
+#[cycle(rows)]
 fn statements(out: &mut [u8], below: usize, n: usize, state: u32) -> Grown
     requires n_in_bounds { 18 * n ≤ length out.old }
     requires below_bound { below ≤ 12 }
@@ -357,7 +357,7 @@ fn statements(out: &mut [u8], below: usize, n: usize, state: u32) -> Grown
 }
 
 // A Block of none to two statements, with so many levels below them.
-#[cycle(block_body_branch_branches_construct_counted_expression_expressions_function_row_if_row_infix_row_let_row_one_statement_operand_row_operation_prefix_row_signature_row_statements_yield_row_yielding)]
+#[cycle(rows)]
 fn block(out: &mut [u8], below: usize, state: u32) -> Grown
     requires in_bounds { 39 ≤ length out.old }
     requires below_bound { below ≤ 12 }
@@ -370,7 +370,7 @@ fn block(out: &mut [u8], below: usize, state: u32) -> Grown
 }
 
 // The Block of a function, with so many levels below.
-#[cycle(block_body_branch_branches_construct_counted_expression_expressions_function_row_if_row_infix_row_let_row_one_statement_operand_row_operation_prefix_row_signature_row_statements_yield_row_yielding)]
+#[cycle(rows)]
 fn body(out: &mut [u8], below: usize, state: u32) -> Grown
     requires in_bounds { 39 ≤ length out.old }
     requires below_bound { below ≤ 12 }
@@ -383,7 +383,7 @@ fn body(out: &mut [u8], below: usize, state: u32) -> Grown
 }
 
 // A branch: a statement or none, then one that yields a value.
-#[cycle(block_body_branch_branches_construct_counted_expression_expressions_function_row_if_row_infix_row_let_row_one_statement_operand_row_operation_prefix_row_signature_row_statements_yield_row_yielding)]
+#[cycle(rows)]
 fn branch(out: &mut [u8], below: usize, state: u32) -> Grown
     requires in_bounds { 39 ≤ length out.old }
     requires below_bound { below ≤ 12 }
@@ -399,7 +399,7 @@ fn branch(out: &mut [u8], below: usize, state: u32) -> Grown
 }
 
 // A statement or none, and an ExprStmt.
-#[cycle(block_body_branch_branches_construct_counted_expression_expressions_function_row_if_row_infix_row_let_row_one_statement_operand_row_operation_prefix_row_signature_row_statements_yield_row_yielding)]
+#[cycle(rows)]
 fn yield_row(out: &mut [u8], below: usize, n: usize, state: u32) -> Grown
     requires in_bounds { 36 ≤ length out.old }
     requires below_bound { below ≤ 12 }
@@ -417,7 +417,7 @@ fn yield_row(out: &mut [u8], below: usize, n: usize, state: u32) -> Grown
 }
 
 // The ExprStmt that a branch ends with.
-#[cycle(block_body_branch_branches_construct_counted_expression_expressions_function_row_if_row_infix_row_let_row_one_statement_operand_row_operation_prefix_row_signature_row_statements_yield_row_yielding)]
+#[cycle(rows)]
 fn yielding(out: &mut [u8], below: usize, state: u32) -> Grown
     requires in_bounds { 18 ≤ length out.old }
     requires below_bound { below ≤ 12 }

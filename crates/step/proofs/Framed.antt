@@ -7,7 +7,7 @@ use mathlib.Core.Path.{◌≡◌, refl, sym, ap, subst, ◌∙◌}
 use lib.Dec.{leb, ltb, eqb}
 use lib.ListN.{length, set, length-set}
 use lib.Seq.{sets, length-sets, get_or-set_other}
-use borrow.Author.Tests.{le-leb, lt-ltb, eq-eqb, ne_eqb, ltb-true}
+use borrow.Author.Tests.{le-leb, lt-ltb, eq-eqb, ltb-true}
 use Rattle.definition.specs.Basic.{Bytes, byte_at, pick, both}
 use Rattle.definition.specs.Limit.{code_size, constants_limit, pool_limit}
 use Rattle.definition.specs.Number
@@ -16,15 +16,14 @@ use Rattle.definition.specs.Field.{field}
 use Rattle.definition.specs.Opcode.{Instr, instr, plain, size, bytes_of, op_pop, op_return_value, op_return, op_closure}
 use Rattle.definition.specs.SymbolTable.{Symbol, Table, load_of}
 use Rattle.definition.specs.Walk.{Res, on, stop, bind, refuse}
-use Rattle.definition.specs.declared.Refusal.{Refusal}
 use Rattle.definition.proofs.Basic.{both_left}
 use Rattle.definition.proofs.Instructions.{size-bytes}
 use Rattle.scope.specs.declared.State.{State}
 use Rattle.scope.specs.declared.Walked.{Walked}
 use Rattle.scope.specs.declared.Walked.TheVariants.{On, Stop}
-use Rattle.scope.specs.View.{View, view, outline, then}
+use Rattle.scope.specs.View.{View, view, outline}
 use Rattle.scope.specs.Machine.{here, put, emit, last_is, returned, with_constant, add_constant, outside, chunk_bytes, function_content, loads_size, loads, close_over, leave}
-use Rattle.step.specs.Memory.{Rest, rest, state_of, symbols_of, no_symbols, settled, memory, Deeper}
+use Rattle.step.specs.Memory.{Rest, rest, state_of, symbols_of, no_symbols, settled, memory}
 use Rattle.step.specs.Contract.{FineFor, LeavesBeside}
 use Rattle.step.specs.Frame.{Range, range, in_range, in_ranges, Unchanged, view_in, completed, outside_end, code_ranges, session_ranges, LeavesAlone}
 

@@ -23,7 +23,7 @@ use Rattle.scope.specs.declared.Walked.TheVariants.{On, Stop}
 use Rattle.scope.specs.View.{view, Fits, Sound, Refuses}
 use Rattle.scope.specs.Machine.{inside, enter}
 use Rattle.step.specs.Memory.{rest, names_of, symbols_of, settled, FineState}
-use Rattle.step.specs.Contract.{HeadAt, Enters, EntersBeside}
+use Rattle.step.specs.Contract.{HeadAt, EntersBeside}
 use Rattle.step.proofs.Memory.{stop_deeper, on_deeper, refuses_is}
 
 -- a walk that goes on has its chunk within the code area

@@ -28,7 +28,7 @@ use Rattle.scope.specs.View.{Symbols, View, view, Ready, Done, Refuses}
 use Rattle.scope.specs.Machine.{define, placed, with_tables, load, loaded, emit}
 use Rattle.step.specs.declared.Defining.{Defining}
 use Rattle.step.specs.Memory.{rest, names_of, symbols_of, settled, result, FineState, Fine, Keeps}
-use Rattle.step.specs.Contract.{Steps, placed_at, Defines, FineBeside, DefinesBeside}
+use Rattle.step.specs.Contract.{Steps, placed_at, FineBeside, DefinesBeside}
 use Rattle.step.proofs.Memory.{stop_deeper, keeps_refl, done_steps, refuses_is}
 
 -- the table area after a step on it, with as many open functions

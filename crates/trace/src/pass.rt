@@ -62,7 +62,7 @@ fn log_identifier(
 }
 
 // Logs the records of what stands at `at`, behind n of them. How many there are then.
-#[cycle(name_field_name_function_name_infix_name_let_name_row)]
+#[cycle(pass)]
 fn name_field(
     tree: &[u8],
     names: &[u8],
@@ -97,7 +97,7 @@ fn name_field(
 }
 
 // Logs the records of the fields from an offset up to an end.
-#[cycle(name_field_name_function_name_infix_name_let_name_row)]
+#[cycle(pass)]
 fn name_row(
     tree: &[u8],
     names: &[u8],
@@ -122,7 +122,7 @@ fn name_row(
 }
 
 // A let: its name is defined before its value.
-#[cycle(name_field_name_function_name_infix_name_let_name_row)]
+#[cycle(pass)]
 fn name_let(
     tree: &[u8],
     names: &[u8],
@@ -143,7 +143,7 @@ fn name_let(
 }
 
 // An infix: for `<` its right operand comes first.
-#[cycle(name_field_name_function_name_infix_name_let_name_row)]
+#[cycle(pass)]
 fn name_infix(
     tree: &[u8],
     names: &[u8],
@@ -168,7 +168,7 @@ fn name_infix(
 }
 
 // A function: its body, with a table of its own.
-#[cycle(name_field_name_function_name_infix_name_let_name_row)]
+#[cycle(pass)]
 fn name_function(
     tree: &[u8],
     names: &[u8],

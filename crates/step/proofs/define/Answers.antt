@@ -1,5 +1,4 @@
 -- `step::define` meets its contract: the symbol table's answer, told.
-use borrow.Author.Rules.{rules}
 use Rattle.step.proofs.Symbols.{beside-base, beside_good, define-on, define_stop}
 use Rattle.step.proofs.define.Goals as goal
 

@@ -12,18 +12,18 @@ returns-then-n-gt-ARGUMENTS_LIMIT c = search enter-many
 
 pub enter-requires : goal.enter-requires
 enter-requires c = record {
-      part_size_in_bounds = search beside-part;
-      tree_len_bound = search rules;
-      stands = search rules;
-      row = search params_stand;
-      n_le_arguments_limit = search rules;
-    }
+  part_size_in_bounds = search beside-part;
+  tree_len_bound = search rules;
+  stands = search rules;
+  row = search params_stand;
+  n_le_arguments_limit = search rules;
+}
 
 pub inside-requires : goal.inside-requires
 inside-requires c = record {
-      fits = search sound_on;
-      level_lt_nesting_limit = search rules;
-    }
+  fits = search sound_on;
+  level_lt_nesting_limit = search rules;
+}
 
 pub returns-else-n-gt-ARGUMENTS_LIMIT : goal.returns-else-n-gt-ARGUMENTS_LIMIT
 returns-else-n-gt-ARGUMENTS_LIMIT c =

@@ -1,6 +1,5 @@
 -- `step::load` meets its contract: a lookup among the session's names and the tables, and the load of what it finds.
 use mathlib.Core.Path.{refl}
-use borrow.Author.Rules.{rules}
 use Rattle.definition.specs.Number
 use Rattle.scope.proofs.Leaves.{ready_on}
 use Rattle.step.proofs.Memory.{stays}
@@ -22,9 +21,9 @@ resolve_name-requires-clause-good c = fine_good _ _ _ c.in-On.is c.requires.fine
 
 pub emit_operand-requires : goal.emit_operand-requires
 emit_operand-requires c = record {
-      ready = ready_on c.in-On.is c.requires.ready;
-      n_value = c.load_of-l.ensures.sized;
-    }
+  ready = ready_on c.in-On.is c.requires.ready;
+  n_value = c.load_of-l.ensures.sized;
+}
 
 pub returns-in-Found : goal.returns-in-Found
 returns-in-Found c = load_found _ c.in-On.is c.resolve_name.auto.table c.requires.fine c.resolve_name.ensures c.in-Found.is c.load_of-l.ensures.is c.emit_operand.ensures

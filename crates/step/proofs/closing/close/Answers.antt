@@ -7,10 +7,10 @@ returns-then-c-k-gt-CODE_SIZE c = closes_full _ _ c.requires c.captures-n.ensure
 
 pub emit_function-requires : goal.emit_function-requires
 emit_function-requires c = record {
-      ready = closes_ready c.requires c.add_function-added.ensures;
-      part_size_in_bounds = c.requires.table;
-      n_le_free_limit = few_captures c.requires c.captures-n.ensures;
-    }
+  ready = closes_ready c.requires c.add_function-added.ensures;
+  part_size_in_bounds = c.requires.table;
+  n_le_free_limit = few_captures c.requires c.captures-n.ensures;
+}
 
 pub returns : goal.returns
 returns c = closes_on _ _ c.requires c.captures-n.ensures c.loads_size.ensures.is c.definitions.ensures c.add_function-added.ensures c.if-c-k-gt-CODE_SIZE.false c.emit_function.ensures

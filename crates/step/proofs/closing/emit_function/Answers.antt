@@ -1,5 +1,4 @@
 -- `step::closing::emit_function` meets its contract: the loads, then Closure.
-use borrow.Author.Rules.{rules}
 use Rattle.step.proofs.Closed.{done_from}
 use Rattle.step.proofs.closing.emit_function.Goals as goal
 

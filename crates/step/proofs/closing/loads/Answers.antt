@@ -1,5 +1,4 @@
 -- `step::closing::loads` meets its contract: the loads of the originals passed are done.
-use Prim.Native.Nat.{◌-◌}
 use native.Mathlib.Omega.{arith}
 use Rattle.step.proofs.Loads.{load_holds, load_again, load_ends}
 use Rattle.step.proofs.closing.loads.Goals as goal
@@ -9,9 +8,9 @@ loop-i-init c = search load_holds
 
 pub emit_operand-v-requires : goal.emit_operand-v-requires
 emit_operand-v-requires c = record {
-      ready = c.loop-i.invariant.done.ready;
-      n_value = c.load_of-l.ensures.sized;
-    }
+  ready = c.loop-i.invariant.done.ready;
+  n_value = c.load_of-l.ensures.sized;
+}
 
 pub overflow_add-i : goal.overflow_add-i
 overflow_add-i c = omega arith

@@ -1,5 +1,4 @@
 -- `step::closing::loads_size` meets its contract: the sum over the originals passed.
-use Prim.Native.Nat.{◌-◌}
 use native.Mathlib.Omega.{arith}
 use Rattle.definition.proofs.Instructions.{width_most}
 use Rattle.step.proofs.Loads.{size_holds, size_again, size_ends}

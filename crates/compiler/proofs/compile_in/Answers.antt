@@ -1,0 +1,26 @@
+-- `compile_in` gives the call's result: a broken session, a refused tree, or the translation. Assumes nothing.
+use native.Mathlib.Omega.{arith}
+use mathlib.Core.Path.{sym, ap, ◌∙◌}
+use Rattle.bytecode.specs.Checked.{layout_answer}
+use Rattle.compiler.proofs.Opened.{opened, broken, refused_tree}
+use Rattle.compiler.proofs.compile_in.Goals as goal
+
+pub translate-requires : goal.translate-requires
+translate-requires c =
+    let k = c in
+    let r = k in
+    record { lengths = c.requires; layout = sym r.read_layout.ensures.layout ∙ k.in-Sound.is; good = sym k.check.ensures ∙ c.in-Good.is }
+
+pub returns-in-Broken : goal.returns-in-Broken
+returns-in-Broken c =
+    let r = c in
+    let e = c in
+    sym (broken e.args.tree.now e.args.session.now e.args.output.now (sym (ap layout_answer c.in-Broken.is) ∙ r.read_layout.ensures.answer))
+
+pub returns-in-Refused : goal.returns-in-Refused
+returns-in-Refused c =
+    let l = c in
+    let e = c in
+    sym (refused_tree e.args.tree.now e.args.session.now e.args.output.now ((let r = c in
+    opened c.args.session.now (record { below = λ i. omega (arith, r.slice_known-1.given i) }) c.requires.session
+    (sym r.read_layout.ensures.layout ∙ c.in-Sound.is))) (sym c.check.ensures ∙ c.in-Refused.is))

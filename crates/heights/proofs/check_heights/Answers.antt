@@ -1,0 +1,70 @@
+-- `heights::check_heights` meets its contract: the check, the chunks, then the output.
+use native.Mathlib.Omega.{arith}
+use mathlib.Core.Path.{◌∙◌, ap, subst}
+use lib.ListN.{length}
+use Rattle.definition.specs.Valid.{AreBytes}
+use Rattle.heights.specs.Chunks.{PoolJudges}
+use Rattle.heights.proofs.Answers.{empty-part, sound, wrong, fails, long, written}
+use Rattle.heights.proofs.check_heights.Goals as goal
+
+pub judge-requires : goal.judge-requires
+judge-requires c = (let a = c.args in
+    let b : AreBytes a.image.now = record { below = λ i. omega (arith, c.type_inv.image i) } in
+    sound a.image.now c.check_image.ensures c.in-Sound.is b)
+
+pub shape_of-output-then-output-count : goal.shape_of-output-then-output-count
+shape_of-output-then-output-count c = (ap length (empty-part c.judge.new.output c.args.output.now c.judge.auto.output))
+
+pub returns-then-output-count : goal.returns-then-output-count
+returns-then-output-count c =
+    let a = c.args in
+    let h = (let a = c.args in
+    let b : AreBytes a.image.now = record { below = λ i. omega (arith, c.type_inv.image i) } in
+    sound a.image.now c.check_image.ensures c.in-Sound.is b) in
+    let j = c.judge in
+    let k = long a.image.now h.is a.heights.now a.output.now (j.ensures h.image h.is) c.in-Tops.is (omega (arith, c.if-output-count.true, ap length (empty-part j.new.output a.output.now j.auto.output))) in
+    record {
+      answers = k.0;
+      writes = empty-part j.new.output a.output.now j.auto.output ∙ k.1;
+    }
+
+pub judge-requires-in-Tops : goal.judge-requires-in-Tops
+judge-requires-in-Tops c = (let a = c.args in
+    let b : AreBytes a.image.now = record { below = λ i. omega (arith, c.type_inv.image i) } in
+    sound a.image.now c.check_image.ensures c.in-Sound.is b)
+
+pub returns-in-Refused : goal.returns-in-Refused
+returns-in-Refused c = let a = c.args in let facts = wrong a.image.now c.check_image.ensures c.in-Refused.is a.heights.now a.output.now in
+    record { answers = facts.0; writes = facts.1 }
+
+pub shape_of-output-in-Fails : goal.shape_of-output-in-Fails
+shape_of-output-in-Fails c = (ap length (empty-part c.judge.new.output c.args.output.now c.judge.auto.output))
+
+pub returns-in-Fails : goal.returns-in-Fails
+returns-in-Fails c =
+    let a = c.args in
+    let h = (let a = c.args in
+    let b : AreBytes a.image.now = record { below = λ i. omega (arith, c.type_inv.image i) } in
+    sound a.image.now c.check_image.ensures c.in-Sound.is b) in
+    let j = c.judge in
+    let k = fails a.image.now h.is a.heights.now a.output.now (j.ensures h.image h.is) c.in-Fails.is in
+    record {
+      answers = k.0;
+      writes = empty-part j.new.output a.output.now j.auto.output ∙ k.1;
+    }
+
+pub shape_of-output-else-output-count : goal.shape_of-output-else-output-count
+shape_of-output-else-output-count c = c.judge-in-Tops.auto.output ∙ (ap length (empty-part c.judge.new.output c.args.output.now c.judge.auto.output))
+
+pub returns-else-output-count : goal.returns-else-output-count
+returns-else-output-count c =
+    let a = c.args in
+    let h = (let a = c.args in
+    let b : AreBytes a.image.now = record { below = λ i. omega (arith, c.type_inv.image i) } in
+    sound a.image.now c.check_image.ensures c.in-Sound.is b) in
+    let j = c.judge in
+    let g = c.judge-in-Tops in
+    let e = empty-part j.new.output a.output.now j.auto.output in
+    let facts = written a.image.now h.is a.heights.now a.output.now (j.ensures h.image h.is) c.in-Tops.is (omega (arith, c.if-output-count.false, ap length e))
+    (subst (λ o. PoolJudges a.heights.now h.image h.image.pool o g.result g.new.output) e (g.ensures h.image h.is)) in
+    record { answers = facts.0; writes = facts.1 }

@@ -1,0 +1,27 @@
+-- `heights::image::judge_constant` meets its contract: by its tag.
+use native.Mathlib.Omega.{arith}
+use Rattle.heights.specs.Judgement.{Kind}
+use mathlib.Core.Path.{refl}
+use Rattle.heights.proofs.Judges.{standing_within, standing_head, no_chunk, chunk, chunk_judges, chunk_ready}
+use Rattle.heights.proofs.image.judge_constant.Goals as goal
+
+pub bounds-image-at : goal.bounds-image-at
+bounds-image-at c =
+    let start = c in
+    let s = start.requires.stands.is in
+    omega (arith, standing_within start.args.image.now s, standing_head start.args.image.now s)
+
+pub returns-then-image-at-ne-FUNCTION_CONST : goal.returns-then-image-at-ne-FUNCTION_CONST
+returns-then-image-at-ne-FUNCTION_CONST c =
+    let start = c in
+    let a = start.args in
+    λ x s. no_chunk a.image.now s c.if-image-at-ne-FUNCTION_CONST.true a.heights.now a.before a.output.now a.marks.now start.requires.blank
+
+pub judge_chunk-requires : goal.judge_chunk-requires
+judge_chunk-requires c = let start = c in chunk_ready start.args.image.now start.args.marks.now start.requires c.if-image-at-ne-FUNCTION_CONST.false
+
+pub returns : goal.returns
+returns c =
+    let a = c.args in
+    let e = c.if-image-at-ne-FUNCTION_CONST.false in
+    λ x s. let k = chunk a.image.now s e in chunk_judges a.image.now s e a.heights.now a.before a.output.now (c.judge_chunk.ensures k.code k.stands Kind.function refl)

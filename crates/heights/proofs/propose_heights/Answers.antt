@@ -1,0 +1,64 @@
+-- `heights::propose_heights` meets its contract: the check, how many there are, then the list.
+use native.Mathlib.Omega.{arith}
+use mathlib.Core.Path.{◌∙◌, ap, sym, refl}
+use lib.ListN.{length, drop}
+use Rattle.definition.specs.Valid.{AreBytes}
+use Rattle.definition.specs.Decode.{read_image}
+use Rattle.heights.specs.Proposal.{proposal_size}
+use Rattle.heights.proofs.Answers.{empty-part, sound}
+use Rattle.heights.proofs.Flows.{proposal_wrong, proposal_long, proposal_fits}
+use Rattle.heights.proofs.propose_heights.Goals as goal
+
+pub propose-count-requires : goal.propose-count-requires
+propose-count-requires c = (let a = c.args in
+    let b : AreBytes a.image.now = record { below = λ i. omega (arith, c.type_inv.image i) } in
+    sound a.image.now c.check_image.ensures c.in-Sound.is b)
+
+pub shape_of-heights-then-heights-count : goal.shape_of-heights-then-heights-count
+shape_of-heights-then-heights-count c = ap length ((empty-part c.propose-count.new.heights c.args.heights.now c.propose-count.auto.heights))
+
+pub returns-then-heights-count : goal.returns-then-heights-count
+returns-then-heights-count c =
+    let a = c.args in
+    let h = (let a = c.args in
+    let b : AreBytes a.image.now = record { below = λ i. omega (arith, c.type_inv.image i) } in
+    sound a.image.now c.check_image.ensures c.in-Sound.is b) in
+    let j = c.propose-count in
+    let e = (empty-part c.propose-count.new.heights c.args.heights.now c.propose-count.auto.heights) in
+    let k = proposal_long a.image.now h.is (j.ensures h.image h.is).many (length a.heights.now) (omega (arith, c.if-heights-count.true, ap length e)) in
+    record {
+      answers = k.0;
+      stays = ap (drop (proposal_size (read_image a.image.now) (length a.heights.now))) e;
+    }
+
+pub propose-requires : goal.propose-requires
+propose-requires c = (let a = c.args in
+    let b : AreBytes a.image.now = record { below = λ i. omega (arith, c.type_inv.image i) } in
+    sound a.image.now c.check_image.ensures c.in-Sound.is b)
+
+pub returns-in-Refused : goal.returns-in-Refused
+returns-in-Refused c = let a = c.args in let k = proposal_wrong a.image.now c.check_image.ensures c.in-Refused.is (length a.heights.now) in record {
+  answers = k.0;
+  stays = refl;
+}
+
+pub shape_of-heights : goal.shape_of-heights
+shape_of-heights c = c.propose.auto.heights ∙ ap length ((empty-part c.propose-count.new.heights c.args.heights.now c.propose-count.auto.heights))
+
+pub returns-else-heights-count : goal.returns-else-heights-count
+returns-else-heights-count c =
+    let a = c.args in
+    let h = (let a = c.args in
+    let b : AreBytes a.image.now = record { below = λ i. omega (arith, c.type_inv.image i) } in
+    sound a.image.now c.check_image.ensures c.in-Sound.is b) in
+    let j = c.propose-count in
+    let g = c.propose in
+    let e = (empty-part c.propose-count.new.heights c.args.heights.now c.propose-count.auto.heights) in
+    let p = g.ensures h.image h.is in
+    let q = j.ensures h.image h.is in
+    let k = proposal_fits a.image.now h.is q.many (length a.heights.now) (omega (arith, c.if-heights-count.false, ap length e)) in
+    let z = k.1 ∙ q.many ∙ sym p.many in
+    record {
+      answers = k.0;
+      stays = ap (λ n. drop n g.new.heights) z ∙ p.rest ∙ ap (drop g.result) e ∙ sym (ap (λ n. drop n a.heights.now) z);
+    }

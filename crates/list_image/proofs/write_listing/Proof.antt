@@ -1,9 +1,0 @@
--- `list_image::write_listing` meets its contract: a part that was tested is as long as it says.
-use native.Mathlib.Omega.{arith}
-use lib.ListN.{length-take}
-use borrow.Author.Rules.{rules}
-use Rattle.list_image.proofs.write_listing.Statement.{statement}
-use Rattle.list_image.proofs.write_listing.Tie as tie
-
-pub write-listing-spec : {M : Type 1} → statement M
-write-listing-spec = tie.close (tie.spec (λ c. simp length-take (omega arith)) (λ c κs. search rules) (λ c. search rules) (λ c. search rules))
