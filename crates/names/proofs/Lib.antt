@@ -1,4 +1,2 @@
 pub mod Rows
 pub mod Whole
-pub mod Again
-pub mod Facts
