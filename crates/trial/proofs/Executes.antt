@@ -83,7 +83,7 @@ pub data Rests (c : Code) : Run → Type 0 where
   stopped : {k q : ℕ} → Rests c (Run.stopped k q)
 
 -- an instruction stands before the code's end
-stands_before : {c : Code} {j : Instr} {q : ℕ} → Stands j q c → q < size_of c
+stands_before : {j : Instr} {c : Code} {q : ℕ} → Stands j q c → q < size_of c
 stands_before (Stands.last {c}) = omega arith
 stands_before (Stands.before s) = let l = stands_before s in omega arith
 

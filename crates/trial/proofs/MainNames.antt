@@ -44,9 +44,9 @@ pub if_runnable : {pool : List Const} (at : ℕ) (c d g : Code) → Runnable poo
 if_runnable at c d g a = let b = all_rest (all_first g a) in record { condition = all_rest (all_first d b); branch = all_then d _ b; other = all_then g _ a }
 
 -- a branch as it was walked: nothing is dropped but a Pop
-pub all_walked : {pool : List Const} {c d : Code} → Yields c d → Runnable pool d → Runnable pool c
-all_walked {pool} (Yields.popped {i} e) a = All.more (subst (λ o. T (runnable pool (instr o i.a i.b))) (sym e) tt) a
-all_walked (Yields.returned e) a = a
+pub all_walked : (pool : List Const) {c d : Code} → Yields c d → Runnable pool d → Runnable pool c
+all_walked pool (Yields.popped {i} e) a = All.more (subst (λ o. T (runnable pool (instr o i.a i.b))) (sym e) tt) a
+all_walked pool (Yields.returned e) a = a
 
 -- the global that a name stands for
 pub record IsGlobal (gs : List Bytes) (n : Bytes) (y : Symbol) (ts : List Table) : Type 0 where
@@ -114,7 +114,7 @@ module _ (pool : List Const) where
 
     pub behind_else : (e : Else) {at : ℕ} {v w : Known} {c : Code} → ElseCode e at v c w → Runnable pool c → v.tables ≡ [] → Behind v w (names_else e v.globals)
     behind_else Else.no_else (ElseCode.no_else {v = v}) a t = record { tables = t; names = refl; pool = pool_same v.pool }
-    behind_else (Else.else b) (ElseCode.else x y) a t = behind_stmts b x (all_walked y a) t
+    behind_else (Else.else b) (ElseCode.else x y) a t = behind_stmts b x (all_walked pool y a) t
 
     pub behind_expr : (e : Expr) {at : ℕ} {v w : Known} {c : Code} → ExprCode e at v c w → Runnable pool c → v.tables ≡ [] → Behind v w (names_expr e v.globals)
     behind_expr (Expr.identifier p n) (ExprCode.identifier {v = v} q) (All.more h a) t = record { tables = (is_global pool v.words v.globals n t q h).tables; names = refl; pool = pool_same v.pool }
@@ -128,7 +128,7 @@ module _ (pool : List Const) where
     behind_expr (Expr.if p e b f) (ExprCode.if {at = at} {c = c} {d' = d} {g = g} x y q z) a t =
         let parts = if_runnable at c d g a in
         let k = behind_expr e x parts.condition t in
-        let l = behind_then (names_stmts b) k (behind_stmts b y (all_walked q parts.branch) k.tables) in
+        let l = behind_then (names_stmts b) k (behind_stmts b y (all_walked pool q parts.branch) k.tables) in
         behind_then (names_else f) l (behind_else f z parts.other l.tables)
     behind_expr (Expr.function p n ps b) (ExprCode.function few x q) (All.more h a) t = absurd h
     behind_expr (Expr.call p e es) (ExprCode.call x y) (All.more h a) t = absurd h
@@ -138,3 +138,4 @@ module _ (pool : List Const) where
     behind_expr (Expr.array p es) (ExprCode.array x) (All.more h a) t = absurd h
     behind_expr (Expr.index p l i) (ExprCode.index x y) (All.more h a) t = absurd h
     behind_expr (Expr.hash p es) (ExprCode.hash x) (All.more h a) t = absurd h
+    behind_expr (Expr.macro p) x a t = elim x [ ]

@@ -40,6 +40,7 @@ module _ (pool : List Const) (f : Marks) where
 
   -- none refused: all are taken
   pub all_taken : (c : Code) → first_refused pool f c ≡ none → {i : Instr} {p : ℕ} → Stands i p c → taken pool f p i ≡ true
+  all_taken [] e s = elim s [ ]
   all_taken (i ∷ c) e (Stands.last) = go (first_refused pool f c) (taken pool f (size_of c) i) (sym (refused_more i c) ∙ e)
     where
       go : (o : Option ℕ) (b : Bool) → or_else o (pick b none (some (size_of c))) ≡ none → b ≡ true

@@ -86,7 +86,7 @@ module _ (pool : List Const) where
     run_else : (e : Else) {at : ℕ} {v w : Known} {c : Code} → ElseCode e at v c w → Runnable pool c → PoolGrows w.pool pool → v.tables ≡ [] → (st : List Value) (g : Globals) (n : ℕ)
         → Gives pool at c st st g n (eval_else e v.globals g)
     run_else Else.no_else ElseCode.no_else a f t st g n = alone (plain op_null) Meets.on
-    run_else (Else.else b) (ElseCode.else x y) a f t st g n = yields y (run_stmts b x (all_walked y a) f t st none g n)
+    run_else (Else.else b) (ElseCode.else x y) a f t st g n = yields y (run_stmts b x (all_walked pool y a) f t st none g n)
 
     run_expr : (e : Expr) {at : ℕ} {v w : Known} {c : Code} → ExprCode e at v c w → Runnable pool c → PoolGrows w.pool pool → v.tables ≡ [] → (st : List Value) (g : Globals) (n : ℕ)
         → Gives pool at c st st g n (eval_expr e v.globals g)
@@ -112,10 +112,10 @@ module _ (pool : List Const) where
     run_expr (Expr.if p e b z) (ExprCode.if {at = at} {c = c} {d' = d} {g = k} x y q w) a f t st g n =
         let parts = if_runnable at c d k a in
         let i = behind_expr pool e x parts.condition t in
-        let j = behind_stmts pool b y (all_walked q parts.branch) i.tables in
+        let j = behind_stmts pool b y (all_walked pool q parts.branch) i.tables in
         let l = behind_else pool z w parts.other j.tables in
         chosen_gives pool at c d k (run_expr e x parts.condition (pool_then j.pool (pool_then l.pool f)) t st g n)
-        (λ h m. subst (λ gs. Gives pool (after_jump at c) d st st h m (and_then (eval_stmts b gs none h) branch_value)) i.names (yields q (run_stmts b y (all_walked q parts.branch) (pool_then l.pool f) i.tables st none h m)))
+        (λ h m. subst (λ gs. Gives pool (after_jump at c) d st st h m (and_then (eval_stmts b gs none h) branch_value)) i.names (yields q (run_stmts b y (all_walked pool q parts.branch) (pool_then l.pool f) i.tables st none h m)))
         (λ h m. subst (λ gs. Gives pool (after_jump (after_jump at c) d) k st st h m (eval_else z gs h)) (j.names ∙ ap (names_stmts b) i.names) (run_else z w parts.other f j.tables st h m))
     run_expr (Expr.function p m ps b) (ExprCode.function few x q) (All.more h a) f t st g n = absurd h
     run_expr (Expr.call p e es) (ExprCode.call x y) (All.more h a) f t st g n = absurd h
@@ -130,6 +130,7 @@ module _ (pool : List Const) where
     run_expr (Expr.array p es) (ExprCode.array x) (All.more h a) f t st g n = absurd h
     run_expr (Expr.index p l i) (ExprCode.index x y) (All.more h a) f t st g n = absurd h
     run_expr (Expr.hash p es) (ExprCode.hash x) (All.more h a) f t st g n = absurd h
+    run_expr (Expr.macro p) x a f t st g n = elim x [ ]
 
 -- Programs
 

@@ -15,18 +15,18 @@ run_chunk-requires c = let b : AreBytes c.args.image.now = record { below = λ i
 
 pub returns-in-Refused : goal.returns-in-Refused
 returns-in-Refused c = let o = wrong_image c.args.image.now c.check_image.ensures c.in-Refused.is c.args.heights.now (length c.args.output.now) in record {
-      answers = sym (ap outcome_answer o);
-      writes = sym (ap (λ o. outcome_into o c.args.output.now) o);
-    }
+  answers = sym (ap outcome_answer o);
+  writes = sym (ap (λ o. outcome_into o c.args.output.now) o);
+}
 
 pub returns-in-Fails : goal.returns-in-Fails
 returns-in-Fails c = let b : AreBytes c.args.image.now = record { below = λ i. omega (arith, c.shared_slice_known-1.given i) } in let h = sound c.args.image.now c.check_image.ensures c.in-Sound.is b in let o = chunk_failing c.args.image.now h.is c.args.heights.now (length c.args.output.now) (c.judge.ensures h.image h.is).answers c.in-Fails.is in record {
-      answers = c.refused.ensures ∙ sym (ap outcome_answer o);
-      writes = sym (ap (λ o. outcome_into o c.args.output.now) o);
-    }
+  answers = c.refused.ensures ∙ sym (ap outcome_answer o);
+  writes = sym (ap (λ o. outcome_into o c.args.output.now) o);
+}
 
 pub returns-in-Tops : goal.returns-in-Tops
 returns-in-Tops c = let b : AreBytes c.args.image.now = record { below = λ i. omega (arith, c.shared_slice_known-1.given i) } in let h = sound c.args.image.now c.check_image.ensures c.in-Sound.is b in let o = taken-image c.args.image.now h.is c.args.heights.now (length c.args.output.now) (c.judge.ensures h.image h.is).answers c.in-Tops.is in record {
-      answers = c.run_chunk.ensures.answers h.image h.is ∙ sym (ap outcome_answer o);
-      writes = c.run_chunk.ensures.writes h.image h.is ∙ sym (ap (λ o. outcome_into o c.args.output.now) o);
-    }
+  answers = c.run_chunk.ensures.answers h.image h.is ∙ sym (ap outcome_answer o);
+  writes = c.run_chunk.ensures.writes h.image h.is ∙ sym (ap (λ o. outcome_into o c.args.output.now) o);
+}

@@ -7,7 +7,7 @@ run_image-answer-requires c = c.clear.ensures ∙ ap (λ n. replicate n 0) (c.re
 
 pub returns : goal.returns
 returns c = record {
-      answers = c.run_image-answer.ensures.answers;
-      writes = c.run_image-answer.ensures.writes;
-      clears = c.clear-2.ensures ∙ ap (λ n. replicate n 0) (c.run_image-answer.auto.work ∙ c.clear.auto.work ∙ c.requires);
-    }
+  answers = c.run_image-answer.ensures.answers;
+  writes = c.run_image-answer.ensures.writes;
+  clears = c.clear-2.ensures ∙ ap (λ n. replicate n 0) (c.run_image-answer.auto.work ∙ c.clear.auto.work ∙ c.requires);
+}

@@ -10,7 +10,7 @@ pub returns-else-m-lt9223372036854775808 : goal.returns-else-m-lt922337203685477
 returns-else-m-lt9223372036854775808 c = plus-over c.args.plus c.args.m (cc) (omega arith)
 
 pub returns-then-m-le9223372036854775808 : goal.returns-then-m-le9223372036854775808
-returns-then-m-le9223372036854775808 c = minus-fits c.args.plus c.args.m c.wrapping_sub_u64.result (cc) (omega arith) (omega arith) c.wrapping_sub_u64.ensures
+returns-then-m-le9223372036854775808 c = minus-fits c.args.plus c.args.m c.wrapping_sub_u64.result (cc) (omega arith) (omega arith) c.wrapping_sub_u64.ensures.value
 
 pub returns-else-m-le9223372036854775808 : goal.returns-else-m-le9223372036854775808
 returns-else-m-le9223372036854775808 c = minus-over c.args.plus c.args.m (cc) (omega arith)
