@@ -1,5 +1,5 @@
 /*
- * The profile compiler for C: link target/staticlib/libcapi.a (rt staticlib capi; x86-64). The bytes of trees, sessions and images: docs/FORMAT.md.
+ * The profile compiler for C: link target/staticlib/libcapi.a (tools/staticlib; x86-64). The bytes of trees, sessions and images: docs/FORMAT.md.
  *
  * Buffers
  *   Each is a pointer and a length. A length counts elements: bytes, for the table area and lists of heights 32-bit numbers, and for the work area of

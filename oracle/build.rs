@@ -11,11 +11,11 @@ fn sources() -> PathBuf {
     PathBuf::from(folder)
 }
 
-/// The folder of libcapi.a: that of `rt staticlib capi`, or another.
+/// The folder of libcapi.a: that of `tools/staticlib`, or another.
 fn library() -> PathBuf {
     println!("cargo:rerun-if-env-changed=CAPI_DIR");
     let folder = env::var("CAPI_DIR").unwrap_or("../target/staticlib".into());
-    fs::canonicalize(folder).expect("libcapi.a's folder: run `rt staticlib capi`")
+    fs::canonicalize(folder).expect("libcapi.a's folder: run `tools/staticlib`")
 }
 
 fn files_below(folder: &Path, found: &mut Vec<PathBuf>) {
