@@ -1,0 +1,17 @@
+-- `capi::count_answer` meets its contract: by the count's case.
+use mathlib.Core.Path.{◌∙◌, sym, ap, subst}
+use Rattle.capi.specs.Packed.{Fits}
+use Rattle.capi.specs.Framed.{count_answer}
+use Rattle.capi.proofs.count_answer.Goals as goal
+
+pub pair-requires : goal.pair-requires
+pair-requires c =
+    let start = c in
+    let fits = subst (λ x. Fits (count_answer x)) c.in-Counted.is start.requires in
+    fits.value
+
+pub returns-in-Counted : goal.returns-in-Counted
+returns-in-Counted c = c.pair.ensures ∙ sym (ap count_answer c.in-Counted.is)
+
+pub returns-in-Refused : goal.returns-in-Refused
+returns-in-Refused c = sym (ap count_answer c.in-Refused.is)

@@ -1,0 +1,20 @@
+-- `capi::monkey_from_chin` meets its contract: the answer of `from_chin`, as one number.
+use native.Mathlib.Omega.{arith}
+use Rattle.definition.specs.Valid.{AreBytes}
+use Rattle.bytecode.specs.declared.Form.TheVariants.{Chin}
+use Rattle.capi.proofs.Fits.{fits_as, packs_as, turn-fits}
+use Rattle.capi.proofs.monkey_from_chin.Goals as goal
+
+pub pack-requires : goal.pack-requires
+pack-requires c =
+    let k = c in
+    let entry = k in
+    let image = entry.args.image.now in
+    let bytes : AreBytes image = record { below = λ i. omega (arith, entry.shared_slice_known-1.given i) } in
+    fits_as k.from_chin-answer.ensures.answers (turn-fits Chin image bytes _)
+
+pub returns : goal.returns
+returns c =
+    let pack = c.pack in
+    let turn = c.from_chin-answer in
+    record { answer = packs_as turn.ensures.answers pack.ensures; output = turn.ensures.writes }
