@@ -1,17 +1,16 @@
 -- Counts, places and refusals of frames fit an answer's halves, and the low half is the pair.
 use Prim.Native.Nat.{ℕ, ◌%◌, ◌<◌}
 use native.Mathlib.Omega.{arith}
-use mathlib.Core.Path.{◌≡◌, sym, ap, subst, ◌∙◌}
+use mathlib.Core.Path.{◌≡◌, subst}
 use Rattle.definition.specs.Basic.{Bytes}
 use Rattle.definition.specs.Valid.{AreBytes}
 use Rattle.definition.specs.declared.Refusal.{Refusal}
-use Rattle.definition.specs.declared.Answer.{Answer}
-use Rattle.definition.specs.declared.Answer.TheVariants.{Length, Refused}
+use Rattle.definition.specs.declared.Answer.TheVariants.{Refused}
 use Rattle.frames.specs.Frames.{count_frames, find_frame, refusal_of, frame_refusal}
 use Rattle.frames.specs.declared.FrameCount.{FrameCount}
-use Rattle.frames.specs.declared.FrameCount.TheVariants.{Counted, Refused as Uncounted}
+use Rattle.frames.specs.declared.FrameCount.TheVariants.{Counted}
 use Rattle.frames.specs.declared.FramePlace.{FramePlace}
-use Rattle.frames.specs.declared.FramePlace.TheVariants.{At, Refused as Nowhere}
+use Rattle.frames.specs.declared.FramePlace.TheVariants.{At}
 use Rattle.frames.proofs.Small.{SmallRefusal, SmallCount, SmallPlace, count_small, place_small}
 use Rattle.capi.specs.Packed.{half_bound, Fits, Packs}
 use Rattle.capi.specs.Framed.{paired, Pairs, count_answer, place_answer}

@@ -9,7 +9,7 @@ use Rattle.definition.specs.Limit.{session_size, code_size, tree_limit, image_li
 use Rattle.definition.specs.Valid.{AreBytes}
 use Rattle.definition.specs.Call.{Lent}
 use Rattle.definition.specs.declared.Answer.{Answer}
-use Rattle.definition.specs.declared.Answer.TheVariants.{Length, Refused}
+use Rattle.definition.specs.declared.Answer.TheVariants.{Length}
 use Rattle.definition.proofs.Places.{Within}
 use Rattle.definition.proofs.Numbers.{below}
 use Rattle.records.specs.Call.{records_numbers}

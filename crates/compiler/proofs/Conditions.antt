@@ -15,7 +15,7 @@ use Rattle.definition.specs.Session.{Words, word_list, field_count, Session, ses
 use Rattle.definition.specs.Decode.{Decoded, decoded, malformed, read_session}
 use Rattle.definition.specs.Compile.{Outcome, Step, enough, compile}
 use Rattle.definition.specs.Call.{Lent, Called, answered, in_session, request, call}
-use Rattle.definition.specs.Series.{Call, session_after, Start, lent, calls, AllAlike, shapes, Indistinguishable}
+use Rattle.definition.specs.Series.{Call, session_after, Start, calls, AllAlike, shapes, Indistinguishable}
 use Rattle.definition.specs.declared.Refusal.{Refusal}
 use Rattle.definition.specs.declared.Answer.{Answer}
 use Rattle.definition.specs.declared.Answer.TheVariants.{Refused}

@@ -7,7 +7,7 @@ use mathlib.Core.Path.{◌≡◌, refl, sym, ap, ◌∙◌}
 use lib.ListN.{length, length-append}
 use lib.Dec.{eqb}
 use borrow.Author.Tests.{eq-eqb, ne_eqb, eqb-true}
-use Rattle.definition.specs.Basic.{Bytes, pick, both}
+use Rattle.definition.specs.Basic.{Bytes, pick}
 use Rattle.definition.specs.Bytecode.{written}
 use Rattle.definition.specs.Decode.{Decoded, decoded, malformed, then, ending, items}
 use Rattle.definition.specs.Valid.{All, none, more}

@@ -1,11 +1,10 @@
 -- A compile call in a session: it keeps the session valid, and does not see literals.
-use Prim.Native.Nat.{ℕ, ◌≤◌, ◌<◌}
+use Prim.Native.Nat.{ℕ, ◌≤◌}
 use native.Mathlib.Omega.{arith}
 use mathlib.Core.Bool.{Bool, true, false}
-use mathlib.Core.List.{List, [], ◌∷◌}
 use mathlib.Core.Logic.{◌↔◌}
 use mathlib.Core.Option.{none, some}
-use mathlib.Core.Path.{◌≡◌, refl, sym, ap, subst, ◌∙◌}
+use mathlib.Core.Path.{◌≡◌, refl, sym, ap, subst}
 use lib.ListN.{length}
 use lib.Dec.{leb, T, leb→le}
 use borrow.Author.Tests.{leb-true}
@@ -22,7 +21,7 @@ use Rattle.definition.specs.Tree.{Read, Parsed, judged, read_program, read_tree}
 use Rattle.definition.specs.Shape.{shape}
 use Rattle.definition.specs.Session.{Words, six, listed, word_list, Session, begun}
 use Rattle.definition.specs.Compile.{Outcome, Step, Request, image_of, session_of, start, turned_down, finish, translate, enough, compile}
-use Rattle.definition.specs.Valid.{All, IsName, ValidImage, ValidPool, ValidList, ValidWords, ValidSession}
+use Rattle.definition.specs.Valid.{All, IsName, ValidImage, ValidList, ValidWords, ValidSession}
 use Rattle.definition.specs.declared.Refusal.{Refusal}
 use Rattle.definition.proofs.Basic.{picked, chosen}
 use Rattle.definition.proofs.Numbers.{among}

@@ -15,9 +15,9 @@ use Rattle.definition.specs.Number
 use Rattle.definition.specs.Number.{refusal}
 use Rattle.definition.specs.Opcode.{Instr, size}
 use Rattle.definition.specs.Bytecode.{size_of}
-use Rattle.definition.specs.Walk.{Res, refuse}
+use Rattle.definition.specs.Walk.{refuse}
 use Rattle.definition.specs.SymbolTable.{Symbol, Entry, Table, Resolved, same, find, find_global, find_builtin, outermost, capture, cross, or_outer, resolve, load_of}
-use Rattle.definition.specs.Compiler.{State, with_code, with_tables, emit_beside, emit, loaded, load}
+use Rattle.definition.specs.Compiler.{State, with_tables, emit_beside, emit, loaded, load}
 use Rattle.definition.specs.Valid.{All}
 use Rattle.definition.proofs.Basic.{pick_false, chosen}
 

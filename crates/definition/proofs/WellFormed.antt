@@ -1,5 +1,5 @@
 -- What holds of a tree that was read: names, integers and counts have the sizes that their fields allow.
-use Prim.Native.Nat.{ℕ, ◌≤◌, ◌<◌}
+use Prim.Native.Nat.{◌≤◌, ◌<◌}
 use mathlib.Core.Path.{◌≡◌}
 use lib.ListN.{length}
 use Rattle.definition.specs.Limit.{name_limit}

@@ -1,6 +1,6 @@
 -- Instructions: their bytes and operands.
-use Rattle.std.specs.Prelude.{ℕ, zero, suc, ◌+◌, ◌*◌, ◌/◌, ◌%◌, Bool, List, [], ◌∷◌, length, get_or, leb}
-use Rattle.definition.specs.Basic.{Bytes, byte_at, pick, both}
+use Rattle.std.specs.Prelude.{ℕ, zero, suc, ◌+◌, ◌*◌, ◌/◌, ◌%◌, Bool, List, [], ◌∷◌, get_or, leb}
+use Rattle.definition.specs.Basic.{Bytes, both}
 
 abbrev pub op_constant : ℕ
 op_constant = 0x00

@@ -1,5 +1,5 @@
 -- Shapes, the places of literal bytes, and two alike series, computed: condition 3's terms on small inputs.
-use Rattle.std.specs.Prelude.{ℕ, zero, suc, Bool, List, [], ◌∷◌, ◌++◌, map, ◌≡◌, refl, replicate, take}
+use Rattle.std.specs.Prelude.{ℕ, zero, suc, List, [], ◌∷◌, map, ◌≡◌, refl, replicate, take}
 use Rattle.std.proofs.Common.{sym, subst}
 use Rattle.definition.specs.Basic.{Bytes, pick}
 use Rattle.definition.specs.Limit.{session_size, code_size, table_size}
@@ -7,11 +7,10 @@ use Rattle.definition.specs.Tag.{tag_program, tag_expr_stmt, tag_array, tag_inte
 use Rattle.definition.specs.Field.{field}
 use Rattle.definition.specs.Tree.{read_tree, read_program, read_stmt}
 use Rattle.definition.specs.Walk.{walk_stmts}
-use Rattle.definition.specs.SymbolTable.{same, find, find_global, find_builtin, resolve}
-use Rattle.definition.specs.Compiler.{emit_beside, add_constant, load, define, dropped, jump, patch, enter, returned, loads, leave}
+use Rattle.definition.specs.Compiler.{emit_beside, add_constant}
 use Rattle.definition.specs.Bytecode.{Image, image_bytes}
 use Rattle.definition.specs.Session.{fresh}
-use Rattle.definition.specs.Decode.{Decoded, decoded, malformed, items, read_image, read_image_of, read_session}
+use Rattle.definition.specs.Decode.{Decoded, decoded, malformed, items, read_image, read_image_of}
 use Rattle.definition.specs.Shape.{shape}
 use Rattle.definition.specs.Literal.{Mask, image_mask, session_mask}
 use Rattle.definition.specs.Compile.{Outcome, Step, Request, compile, steps}

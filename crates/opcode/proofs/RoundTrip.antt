@@ -8,12 +8,11 @@ use lib.ListN.{length, take, drop}
 use borrow.Author.Tests.{le-leb}
 use Rattle.definition.specs.Basic.{Bytes, byte_at, pick}
 use Rattle.definition.specs.Number.{refusal, output_short, bad_instruction}
-use Rattle.definition.specs.Opcode.{Instr, bytes_of, size}
+use Rattle.definition.specs.Opcode.{Instr, bytes_of}
 use Rattle.definition.specs.Decode.{decoded, malformed, read_instr}
 use Rattle.definition.specs.Decode as Decode
 use Rattle.definition.specs.Output.{over, output_after}
 use Rattle.definition.specs.Valid.{AreBytes}
-use Rattle.definition.specs.declared.Refusal.{Refusal}
 use Rattle.definition.specs.declared.Answer.{Answer}
 use Rattle.definition.specs.declared.Answer.TheVariants.{Length, Refused}
 use Rattle.definition.proofs.Basic.{pick_true}

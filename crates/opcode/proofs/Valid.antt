@@ -1,5 +1,4 @@
 -- The test of the code is the definition's `ValidInstr`.
-use Prim.Native.Nat.{ℕ}
 use mathlib.Core.Path.{◌≡◌}
 use mathlib.Core.Bool.{true}
 use lib.Dec.{leb, ltb}

@@ -1,21 +1,18 @@
 -- Records do not see literals: a tree and its shape have the same ones.
-use Prim.Native.Nat.{ℕ, ◌≤◌}
+use Prim.Native.Nat.{ℕ}
 use mathlib.Core.List.{List, reverse}
 use mathlib.Core.Path.{◌≡◌, refl, ap, subst}
 use lib.ListN.{length}
 use lib.Dec.{leb}
 use Rattle.definition.specs.Basic.{Bytes}
-use Rattle.definition.specs.Limit.{arguments_limit}
 use Rattle.definition.specs.Syntax.{Stmts}
 use Rattle.definition.specs.Walk.{Res, walk_stmts}
 use Rattle.definition.specs.SymbolTable.{resolve, crossed}
 use Rattle.definition.specs.Compiler.{State, machine}
 use Rattle.definition.specs.Tree.{read_tree}
 use Rattle.definition.specs.Session.{Session}
-use Rattle.definition.specs.Compile.{Outcome, Step, Request, start, enough}
-use Rattle.definition.specs.Valid.{ValidInstr}
+use Rattle.definition.specs.Compile.{Outcome, Step, Request, enough}
 use Rattle.records.specs.Records.{noted, Logged, logged, beside, load_noted, logging, Traced, untraced, traced, handed, finish_records, translate_records, compile_records}
-use Rattle.definition.specs.declared.Refusal.{Refusal}
 use Rattle.records.specs.declared.Record.{Record}
 use Rattle.definition.proofs.Basic.{picked}
 use Rattle.definition.proofs.WellFormed.{WfStmts}
@@ -23,7 +20,6 @@ use Rattle.definition.proofs.Blank.{blank, map_stmts}
 use Rattle.definition.proofs.ReadShape.{map_parsed, read-shape}
 use Rattle.definition.proofs.Simulation.{Both, Simulation, both_stmts}
 use Rattle.definition.proofs.Erase.{erase, Alike, alike}
-use Rattle.definition.proofs.Agreement.{erase_session}
 use Rattle.definition.proofs.Steps.{by_reading, OutcomeLike, SessionLike, StepLike, with_shape, turned_down_like, finish_like}
 
 -- states that differ in literals alone, with the same records

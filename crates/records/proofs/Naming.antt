@@ -14,7 +14,7 @@ use Rattle.definition.specs.Opcode.{Instr, instr, plain, size, op_constant, op_p
 use Rattle.definition.specs.Bytecode.{Const, Image, size_of, pool_size, image_bytes}
 use Rattle.definition.specs.Walk.{Res, refuse, bind, walk_stmts}
 use Rattle.definition.specs.SymbolTable.{Symbol, Table, Resolved, Defined, resolve, crossed, load_of, place, named, with_params}
-use Rattle.definition.specs.Compiler.{State, machine, emit_beside, add_constant, literal, boolean_of, load, loaded, define, placed, last_is, dropped, unpatched, jump, patch, enter, returned, loads, close_over, leave, with_tables}
+use Rattle.definition.specs.Compiler.{State, emit_beside, add_constant, literal, boolean_of, load, loaded, define, placed, last_is, dropped, unpatched, jump, patch, enter, returned, loads, close_over, leave, with_tables}
 use Rattle.definition.specs.Tree.{Parsed, read_tree}
 use Rattle.definition.specs.Session.{Session, word_list}
 use Rattle.definition.specs.Compile.{Outcome, Request, start, image_of, session_of, turned_down, enough}

@@ -2,7 +2,7 @@
 -- Identifiers met so far. Simulation.antt has more to go on (well-formed trees, jumps not yet patched); here nothing is asked of the tree.
 use Prim.Native.Nat.{ℕ}
 use mathlib.Core.Bool.{Bool, true, false}
-use mathlib.Core.List.{List, [], ◌∷◌}
+use mathlib.Core.List.{List, ◌∷◌}
 use mathlib.Core.Option.{Option, none, some}
 use lib.ListN.{length, get_or}
 use lib.Dec.{T, eqb, ltb}

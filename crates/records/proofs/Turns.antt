@@ -1,7 +1,7 @@
 -- Series in which each call is a plain one or one with records: sessions read back, condition 3 with the records, and P2.
 use Prim.Native.Nat.{ℕ, ◌≤◌}
 use native.Mathlib.Omega.{arith}
-use mathlib.Core.Bool.{Bool, true, false}
+use mathlib.Core.Bool.{false}
 use mathlib.Core.List.{List, [], ◌∷◌}
 use mathlib.Core.Path.{◌≡◌, refl, sym, ap, subst, ◌∙◌}
 use lib.ListN.{length, take}
@@ -15,7 +15,7 @@ use Rattle.definition.specs.Tree.{read_tree}
 use Rattle.definition.specs.Session.{Words, word_list, field_count, Session, begun, session_fields}
 use Rattle.definition.specs.Decode.{read_session}
 use Rattle.definition.specs.Compile.{Step, Request, turned_down, enough, compile}
-use Rattle.definition.specs.Call.{Lent, Called, request}
+use Rattle.definition.specs.Call.{Called, request}
 use Rattle.definition.specs.Valid.{All, ValidSession}
 use Rattle.definition.specs.Series.{Call, Start, lent, Alike as AlikeCalls, shaped, ReadsBack, session_after}
 use Rattle.definition.specs.Trusted.{TrustedCall, TrustedStep}
@@ -28,7 +28,7 @@ use Rattle.definition.proofs.Basic.{chosen, pick_false}
 use Rattle.definition.proofs.Steps.{not_two, ValidStep, CompileNumber, compile-valid, turned_down-valid, SessionLike, like_itself, StepLike, with_shape, compile_like}
 use Rattle.definition.proofs.Sessions.{read-session, session_length}
 use Rattle.definition.proofs.Series.{Holds, CallIs, front, before_length, kept, written, lent_room, lent_reads, call_does, answer_sound, start_holds, same_step, begun_like}
-use Rattle.definition.proofs.Invariant.{KeepsSession, keeps_compile}
+use Rattle.definition.proofs.Invariant.{keeps_compile}
 use Rattle.definition.proofs.Trusted.{FitSession, fitting, begun-fits, trusted_step, wrote}
 use Rattle.records.proofs.Logged.{Agrees, compile_agrees}
 use Rattle.records.proofs.LoggedAlike.{TracedLike, compile_records_like}

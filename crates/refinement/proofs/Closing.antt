@@ -15,7 +15,7 @@ use Rattle.definition.specs.Opcode.{Instr, instr, op_closure}
 use Rattle.definition.specs.Bytecode.{Const, encode, size_of, content}
 use Rattle.definition.specs.Session.{Session}
 use Rattle.definition.specs.Valid.{ValidSession}
-use Rattle.definition.specs.Walk.{Res, stop, bind, refuse}
+use Rattle.definition.specs.Walk.{Res, bind, refuse}
 use Rattle.definition.specs.SymbolTable.{Table}
 use Rattle.definition.specs.Compiler as Structured
 use Rattle.definition.specs.Compiler.{State, with_code, with_pool}

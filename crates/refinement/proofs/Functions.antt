@@ -11,7 +11,7 @@ use Rattle.definition.specs.Limit.{code_size, arguments_limit, nesting_limit}
 use Rattle.definition.specs.Opcode.{plain, op_pop, op_return_value, op_return}
 use Rattle.definition.specs.Session.{Session}
 use Rattle.definition.specs.Valid.{All}
-use Rattle.definition.specs.Walk.{Res, on, stop}
+use Rattle.definition.specs.Walk.{Res}
 use Rattle.definition.specs.SymbolTable.{named, with_params}
 use Rattle.definition.specs.Compiler as Structured
 use Rattle.definition.specs.Compiler.{State, without_last}

@@ -1,5 +1,5 @@
 -- The walk's machine on views: the steps as the code takes them, on bytes.
-use Rattle.std.specs.Prelude.{ℕ, ◌+◌, ◌/◌, ◌%◌, Bool, List, [], ◌∷◌, ◌++◌, length, set, take, drop, leb, ltb, eqb}
+use Rattle.std.specs.Prelude.{ℕ, ◌+◌, ◌/◌, ◌%◌, Bool, List, [], ◌∷◌, length, set, take, drop, leb, ltb, eqb}
 use Rattle.std.proofs.lemmas.List.Edits.{sets}
 use Rattle.definition.specs.Basic.{Bytes, byte_at, pick, both}
 use Rattle.definition.specs.Limit.{code_size, constants_limit, pool_limit, arguments_limit, nesting_limit}
@@ -11,7 +11,7 @@ use Rattle.definition.specs.SymbolTable.{Symbol, Table, Resolved, Defined, resol
 use Rattle.definition.specs.Decode.{words_in}
 use Rattle.definition.specs.Walk.{Res, on, refuse, bind, Go, Machine}
 use Rattle.definition.specs.Compiler.{boolean_of, unpatched}
-use Rattle.scope.specs.View.{Symbols, View, view}
+use Rattle.scope.specs.View.{View, view}
 use Rattle.scope.specs.declared.Chunk.{Chunk}
 use Rattle.scope.specs.declared.State.{State}
 

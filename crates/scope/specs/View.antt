@@ -4,7 +4,6 @@ use Rattle.definition.specs.Basic.{Bytes}
 use Rattle.definition.specs.Limit.{code_size}
 use Rattle.definition.specs.SymbolTable.{Table}
 use Rattle.definition.specs.Walk.{Res, on, stop, refuse, bind, Go}
-use Rattle.scope.specs.declared.Chunk.{Chunk}
 use Rattle.scope.specs.declared.State.{State}
 use Rattle.scope.specs.declared.Walked.{Walked}
 use Rattle.scope.specs.declared.Walked.TheVariants.{On, Stop}

@@ -1,11 +1,11 @@
 -- Condition 3 of two rows that `compile_row` ran.
 use Prim.Native.Nat.{ℕ, ◌≤◌}
 use native.Mathlib.Omega.{arith}
-use mathlib.Core.Bool.{Bool, true, false}
+use mathlib.Core.Bool.{true}
 use mathlib.Core.List.{List, [], ◌∷◌, map}
 use mathlib.Core.Path.{◌≡◌, refl, sym, ap, subst, ◌∙◌}
 use lib.Dec.{leb}
-use lib.ListN.{length, take, drop, replicate, length-append, length-drop, length-replicate}
+use lib.ListN.{length, take, length-append, length-drop, length-replicate}
 use borrow.Author.Tests.{le-leb, leb-true}
 use Rattle.definition.specs.Basic.{Bytes}
 use Rattle.definition.specs.Limit.{session_size, code_size, table_size}

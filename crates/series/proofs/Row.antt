@@ -11,7 +11,7 @@ use lib.Seq.{take_all, length-take-le, drop-drop, drop-cons}
 use borrow.Author.Tests.{leb-true, leb-false}
 use Rattle.definition.specs.Basic.{Bytes, pick}
 use Rattle.definition.specs.Limit.{session_size}
-use Rattle.definition.specs.Call.{Lent, Called, call, made}
+use Rattle.definition.specs.Call.{Lent, Called, call}
 use Rattle.definition.specs.Output.{over}
 use Rattle.definition.specs.Series.{Call, session_before, session_after, session_made, lent}
 use Rattle.definition.specs.declared.Answer.{Answer}

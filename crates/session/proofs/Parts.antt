@@ -1,10 +1,10 @@
 -- A part of a list that is lent and comes back, as bytes stored in the whole.
 use Prim.Native.Nat.{ℕ, ◌+◌, ◌≤◌}
 use native.Mathlib.Omega.{arith}
-use mathlib.Core.List.{◌++◌, append_assoc, append-nil}
+use mathlib.Core.List.{◌++◌, append_assoc}
 use mathlib.Core.Path.{◌≡◌, sym, ap, ◌∙◌}
-use lib.ListN.{length, take, drop, replicate, length-drop, length-replicate, drop_of_length-le}
-use lib.Seq.{sets, sets-eq, drop-drop, take-length, length-take-le}
+use lib.ListN.{length, take, drop, replicate, length-drop, length-replicate}
+use lib.Seq.{sets, sets-eq, drop-drop, length-take-le}
 use borrow.Rule.Slice.PartMut.{put_mid}
 use Rattle.definition.specs.Basic.{Bytes}
 

@@ -1,21 +1,20 @@
 -- What a call with records promises, from the plain call: with few records, with enough, refused or accepted.
-use Prim.Native.Nat.{ℕ, ◌+◌, ◌*◌, ◌≤◌, ◌<◌}
+use Prim.Native.Nat.{ℕ, ◌+◌, ◌≤◌, ◌<◌}
 use native.Mathlib.Omega.{arith}
 use mathlib.Core.Bool.{Bool, true, false}
-use mathlib.Core.List.{List, [], ◌++◌, reverse}
+use mathlib.Core.List.{List, [], reverse}
 use mathlib.Core.Path.{◌≡◌, refl, sym, ap, subst, ◌∙◌}
 use lib.ListN.{length, take, drop, replicate, length-append, length-replicate}
-use lib.Dec.{leb, eqb}
+use lib.Dec.{leb}
 use lib.Seq.{take_at}
-use borrow.Author.Tests.{le-leb, lt-leb, eq-eqb, ne_eqb}
+use borrow.Author.Tests.{le-leb, lt-leb, ne_eqb}
 use Rattle.definition.specs.Basic.{Bytes, pick}
-use Rattle.definition.specs.Limit.{session_size, code_size, table_size}
+use Rattle.definition.specs.Limit.{session_size}
 use Rattle.definition.specs.Number
 use Rattle.definition.specs.Number.{refusal}
 use Rattle.definition.specs.Tag.{tag_main, tag_pool}
 use Rattle.definition.specs.Field.{field}
 use Rattle.definition.specs.Bytecode.{Image, encode, pool_bytes, image_bytes}
-use Rattle.definition.specs.Output.{over}
 use Rattle.definition.specs.Syntax.{Stmts}
 use Rattle.definition.specs.Tree.{Parsed, read_tree}
 use Rattle.definition.specs.Walk.{Res, walk_stmts}
@@ -24,23 +23,20 @@ use Rattle.definition.specs.Decode.{decoded, read_session}
 use Rattle.definition.specs.Compile.{Outcome, Step, image_of, session_of, turned_down, finish, translate, enough, compile}
 use Rattle.definition.specs.Call.{Lent, Called, cleared, refused_call, answered, request, call}
 use Rattle.definition.specs.declared.Refusal.{Refusal}
-use Rattle.definition.specs.declared.Answer.{Answer}
 use Rattle.definition.specs.declared.Answer.TheVariants.{Length, Refused}
 use Rattle.definition.specs.Valid.{AreBytes, ValidSession}
 use Rattle.definition.proofs.Sessions.{write_session, session_length}
 use Rattle.definition.proofs.Steps.{compile-valid}
-use Rattle.compiler.specs.Promise.{Compiles}
 use Rattle.compiler.proofs.Whole.{compile_is}
 use Rattle.compiler.proofs.Lent.{cleared_again}
 use Rattle.field.specs.Layout.{after}
-use Rattle.records.specs.Records.{Logged, handed, traced, untraced, finish_records}
+use Rattle.records.specs.Records.{Logged, traced, untraced}
 use Rattle.records.specs.Naming.{names, names_of, naming}
 use Rattle.records.specs.Call.{Recorded, unrecorded, over_records, recorded, call_records}
 use Rattle.records.specs.declared.Record.{Record}
 use Rattle.trace.specs.Log.{log_of}
-use Rattle.trace.specs.Promise.{without_log, LogFits, few_of, Counts, LooksAhead, HasOlder, Used, Traces}
+use Rattle.trace.specs.Promise.{few_of, Counts, LooksAhead, HasOlder, Traces}
 use Rattle.trace.specs.Pass.{Logs, PassesTree}
-use Rattle.trace.specs.declared.CallTrace.{CallTrace}
 use Rattle.trace.specs.declared.Outlook.{Outlook}
 use Rattle.trace.proofs.Calls.{with_output, Seen}
 use Rattle.trace.proofs.Grown.{Grew, walk_grew}

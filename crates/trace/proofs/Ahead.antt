@@ -1,7 +1,7 @@
 -- The pass before a tree is compiled: the session's names and words, and the number of records.
 use Prim.Native.Nat.{ℕ, zero, suc, ◌+◌, ◌-◌, ◌≤◌}
 use native.Mathlib.Omega.{arith}
-use mathlib.Core.List.{List, []}
+use mathlib.Core.List.{[]}
 use mathlib.Core.Path.{◌≡◌, refl, sym, ap, ◌∙◌}
 use lib.ListN.{length, take}
 use Rattle.definition.specs.Basic.{Bytes}
@@ -10,17 +10,14 @@ use Rattle.definition.specs.Tag.{tag_names}
 use Rattle.definition.specs.Syntax.{Stmts}
 use Rattle.definition.specs.Tree.{Parsed, read_tree}
 use Rattle.definition.specs.Walk.{Res, walk_stmts}
-use Rattle.definition.specs.Session.{six, Session, word_list, names_bytes}
+use Rattle.definition.specs.Session.{six, Session, word_list}
 use Rattle.definition.specs.Decode.{Decoded, decoded, malformed, list_in, words_in, read_session}
-use Rattle.field.specs.Layout.{after}
 use Rattle.field.proofs.Reading.{names-read}
 use Rattle.bytecode.specs.Checked.{layout_answer, session_answer}
 use Rattle.bytecode.specs.declared.SessionLayout.{SessionLayout}
-use Rattle.bytecode.specs.declared.Layout.{Layout}
 use Rattle.bytecode.specs.declared.Layout.TheVariants.{Broken}
 use Rattle.session.proofs.Sessions.{front_length}
 use Rattle.tree.specs.Check.{verdict}
-use Rattle.tree.specs.declared.Checked.{Checked}
 use Rattle.tree.specs.declared.Checked.TheVariants.{Refused}
 use Rattle.definition.specs.declared.Refusal.{Refusal}
 use Rattle.symbol_table.specs.Contract.{HasItems}

@@ -1,12 +1,12 @@
 -- A call with records beside plain calls: refused alike, or by its walk's end.
-use Prim.Native.Nat.{ℕ, ◌+◌, ◌≤◌, ◌<◌}
+use Prim.Native.Nat.{ℕ}
 use native.Mathlib.Omega.{arith}
-use mathlib.Core.Bool.{Bool, true, false, not}
+use mathlib.Core.Bool.{true, false, not}
 use mathlib.Core.List.{List, []}
 use mathlib.Core.Path.{◌≡◌, refl, sym, ap, subst, ◌∙◌}
-use lib.ListN.{length, take, length-append}
-use lib.Dec.{T, leb, eqb}
-use Rattle.definition.specs.Basic.{Bytes, pick}
+use lib.ListN.{length, take}
+use lib.Dec.{T, eqb}
+use Rattle.definition.specs.Basic.{Bytes}
 use Rattle.definition.specs.Limit.{session_size, code_size, table_size}
 use Rattle.definition.specs.Number
 use Rattle.definition.specs.Number.{refusal, is_one_of, tree_numbers, walk_numbers}
@@ -16,8 +16,8 @@ use Rattle.definition.specs.Walk.{Res, walk_stmts}
 use Rattle.definition.specs.Compiler.{State, machine}
 use Rattle.definition.specs.Session.{six, Session, word_list}
 use Rattle.definition.specs.Decode.{Decoded, decoded, malformed, read_session}
-use Rattle.definition.specs.Compile.{Outcome, Step, Request, start, turned_down, finish, translate, enough, compile}
-use Rattle.definition.specs.Call.{Lent, Called, cleared, refused_call, answered, in_session, request, call}
+use Rattle.definition.specs.Compile.{Outcome, Step, start, turned_down, finish, translate, enough, compile}
+use Rattle.definition.specs.Call.{Lent, cleared, refused_call, answered, in_session, request, call}
 use Rattle.definition.specs.declared.Refusal.{Refusal}
 use Rattle.definition.specs.declared.Answer.TheVariants.{Refused}
 use Rattle.definition.proofs.Basic.{pick_true}
@@ -25,9 +25,9 @@ use Rattle.definition.proofs.Numbers.{each, of_each}
 use Rattle.definition.proofs.ReadPlaces.{PlacedParsed, read-places}
 use Rattle.definition.proofs.WalkPlaces.{Refuses, refuses_stmts, machine_local}
 use Rattle.compiler.proofs.Whole.{call-enough, compile_is}
-use Rattle.records.specs.Records.{Logged, logged, logging, mentions, Traced, untraced, finish_records, translate_records, compile_records}
+use Rattle.records.specs.Records.{Logged, logged, logging, Traced, untraced, finish_records, translate_records, compile_records}
 use Rattle.records.specs.Naming.{Names, names, names_of, naming}
-use Rattle.records.specs.Call.{Recorded, unrecorded, recorded, over_records, in_session_records, call_records}
+use Rattle.records.specs.Call.{unrecorded, recorded, over_records, in_session_records, call_records}
 use Rattle.records.specs.declared.Record.{Record}
 use Rattle.records.proofs.Track.{Tracked}
 use Rattle.records.proofs.Logged.{Erased, walk_erased}

@@ -1,15 +1,14 @@
 -- A record more in the log.
 use Prim.Native.Nat.{ℕ, zero, suc, ◌+◌, ◌*◌, ◌/◌, ◌%◌, ◌≤◌, ◌<◌}
 use native.Mathlib.Omega.{arith}
-use mathlib.Core.List.{List, ◌∷◌}
-use mathlib.Core.Path.{◌≡◌, refl, sym, ap, ◌∙◌}
-use lib.ListN.{length, get_or, set, length-set}
+use mathlib.Core.List.{◌∷◌}
+use mathlib.Core.Path.{◌≡◌, refl, ◌∙◌}
+use lib.ListN.{length, set, length-set}
 use lib.Seq.{get_or-set_same, get_or-set_other}
 use Rattle.definition.specs.Basic.{Bytes, byte_at}
 use Rattle.definition.specs.Limit.{tree_limit}
 use Rattle.symbol_table.specs.Layout.{symbol_of}
 use Rattle.records.specs.Records.{record_of}
-use Rattle.records.specs.declared.Record.{Record}
 use Rattle.trace.specs.Log.{packed_record, record_at, log_of}
 
 -- records are those of their bytes

@@ -1,7 +1,7 @@
 -- A lookup crosses no more functions than are open; and words that stand in front are read, whatever stands behind them.
 use Prim.Native.Nat.{ℕ, zero, suc, ◌+◌, ◌≤◌, ◌<◌}
-use mathlib.Core.List.{List, [], ◌∷◌, reverse, reverse_aux, reverse-reverse}
-use mathlib.Core.Path.{◌≡◌, refl, sym, ap, ◌∙◌}
+use mathlib.Core.List.{List, reverse, reverse_aux, reverse-reverse}
+use mathlib.Core.Path.{◌≡◌, refl, ap, ◌∙◌}
 use lib.ListN.{length}
 use lib.Dec.{eqb}
 use Rattle.definition.specs.Basic.{pick}

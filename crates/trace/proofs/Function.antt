@@ -2,26 +2,24 @@
 use Prim.Native.Nat.{ℕ, zero, suc, ◌+◌, ◌≤◌, ◌<◌}
 use native.Mathlib.Omega.{arith}
 use native.Mathlib.Numerals.{add-one}
-use mathlib.Core.Bool.{true, false}
-use mathlib.Core.List.{List, [], ◌∷◌}
-use mathlib.Core.Path.{◌≡◌, refl, sym, ap, subst, ◌∙◌}
+use mathlib.Core.List.{List, ◌∷◌}
+use mathlib.Core.Path.{◌≡◌, refl, sym, ap, ◌∙◌}
 use lib.ListN.{length}
-use lib.Dec.{leb, ltb}
 use borrow.Author.Tests.{le-leb, lt-leb, lt-ltb, le-ltb}
 use Rattle.definition.specs.Basic.{Bytes}
 use Rattle.definition.specs.Limit.{nesting_limit, arguments_limit}
-use Rattle.definition.specs.Syntax.{Expr, Stmts}
-use Rattle.definition.specs.SymbolTable.{Table, named, with_params}
-use Rattle.definition.specs.Walk.{Res, on, bind, Go, walk_stmts, walk_expr}
+use Rattle.definition.specs.Syntax.{Expr}
+use Rattle.definition.specs.SymbolTable.{named, with_params}
+use Rattle.definition.specs.Walk.{on, bind, Go, walk_stmts, walk_expr}
 use Rattle.definition.specs.Decode.{words_in}
 use Rattle.field.specs.Layout.{len, after, content, Whole}
-use Rattle.tree.specs.At.{ParamsAt, FunctionAt}
+use Rattle.tree.specs.At.{FunctionAt}
 use Rattle.tree.specs.Reads.{Some, ReadsBlock, Counted}
 use Rattle.symbol_table.specs.Name.{Row, fields}
-use Rattle.symbol_table.specs.Layout.{part_size, base, tables_of, globals_of, globals_in, Good}
+use Rattle.symbol_table.specs.Layout.{part_size, base, tables_of, globals_of, Good}
 use Rattle.symbol_table.specs.Contract.{Enters}
 use Rattle.step.proofs.Functions.{row-fields, row_stands}
-use Rattle.records.specs.Naming.{Names, names, closed, enter_name, naming}
+use Rattle.records.specs.Naming.{Names, names, enter_name, naming}
 use Rattle.trace.specs.Log.{log_of}
 use Rattle.trace.specs.Pass.{names_at, Follows, Node, walk_node, ReadsNode, Standing, Passes}
 use Rattle.trace.proofs.Sequence.{follows_then}

@@ -13,7 +13,6 @@ use Rattle.definition.specs.Syntax.{Stmts}
 use Rattle.definition.specs.Opcode.{instr, op_set_global, op_set_local}
 use Rattle.definition.specs.SymbolTable.{Table, Resolved, Defined, resolve, crossed, place, with_local, named, with_params}
 use Rattle.definition.specs.Walk.{Res, refuse, walk_stmts}
-use Rattle.records.specs.Records.{mentions}
 use Rattle.records.specs.Naming.{Names, names, looked_up, look_up, placed_name, define_name, enter_name, closed, naming}
 use Rattle.records.specs.declared.Record.{Record}
 use Rattle.records.proofs.Track.{Tracked, Jumped, Tracking, track_stmts}

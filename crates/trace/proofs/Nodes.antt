@@ -1,26 +1,26 @@
 -- What stands at an offset of a tree, by its tag: its children, in a row, whose walk one after the other is its own.
 use Prim.Native.Nat.{ℕ, ◌+◌, ◌≤◌, ◌<◌}
 use native.Mathlib.Omega.{arith}
-use mathlib.Core.Bool.{Bool, true, false}
+use mathlib.Core.Bool.{true, false}
 use mathlib.Core.List.{List, [], ◌∷◌}
 use mathlib.Core.Logic.{◌⊎◌, inl, inr}
 use mathlib.Core.Option.{Option, none, some}
-use mathlib.Core.Path.{◌≡◌, refl, sym, ap, subst, ◌∙◌}
+use mathlib.Core.Path.{◌≡◌, refl, sym, ap, subst}
 use lib.ListN.{length, get_or}
-use lib.Dec.{ltb, eqb}
-use borrow.Author.Tests.{eq-eqb, ne_eqb}
-use Rattle.definition.specs.Basic.{Bytes, byte_at, pick}
+use lib.Dec.{ltb}
+use borrow.Author.Tests.{ne_eqb}
+use Rattle.definition.specs.Basic.{Bytes, byte_at}
 use Rattle.definition.specs.Limit.{arguments_limit}
-use Rattle.definition.specs.Tag.{tag_expr_stmt, tag_block, tag_let, tag_return, tag_identifier, tag_prefix, tag_infix, tag_if, tag_function, tag_call, tag_array, tag_index, tag_hash, tag_macro, tag_name, tag_operator}
+use Rattle.definition.specs.Tag.{tag_let, tag_identifier, tag_infix, tag_function, tag_macro, tag_name, tag_operator}
 use Rattle.definition.specs.Syntax.{Stmt, Stmts, Else, Expr, Exprs, count}
-use Rattle.definition.specs.Walk.{Res, on, stop, bind, Go, operate, prefixes, infixes, less_than, walk_stmt, walk_stmts, walk_else, walk_expr, walk_exprs}
-use Rattle.field.specs.Layout.{tag, len, after, content, Whole}
+use Rattle.definition.specs.Walk.{on, bind, Go, operate, prefixes, infixes, less_than, walk_stmt, walk_stmts, walk_else, walk_expr, walk_exprs}
+use Rattle.field.specs.Layout.{tag, after, Whole}
 use Rattle.tree.specs.At.{Row, stmt_list, expr_list, LetAt, PrefixAt, InfixAt, IfAt, CallAt, IndexAt, ElseAt}
-use Rattle.tree.specs.Reads.{Some, ReadsStmt, ReadsExpr, ReadsStmts, ReadsExprs, ReadsBlock}
+use Rattle.tree.specs.Reads.{Some, ReadsStmt, ReadsExpr, ReadsStmts, ReadsBlock}
 use Rattle.tree.proofs.Parts.{stmt_is, expr_is}
-use Rattle.tree.proofs.Table.{Each, between}
-use Rattle.records.specs.Naming.{Names, naming, look_up}
-use Rattle.trace.specs.Pass.{is_parent, Node, walk_node, walk_nodes, ReadsNode, ReadsNodes, QuietAt}
+use Rattle.tree.proofs.Table.{between}
+use Rattle.records.specs.Naming.{Names, naming}
+use Rattle.trace.specs.Pass.{is_parent, Node, walk_node, walk_nodes, ReadsNode, ReadsNodes}
 use Rattle.trace.proofs.Sequence.{Below, below_same, below-bind, below_end, below-pick}
 
 never : {A : Type 0} → false ≡ true → A

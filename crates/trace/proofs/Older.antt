@@ -1,7 +1,7 @@
 -- In an accepted session the names that there were before lie in front of its names, behind its words.
-use Prim.Native.Nat.{ℕ, ◌+◌, ◌-◌, ◌≤◌, ◌<◌}
+use Prim.Native.Nat.{ℕ, ◌+◌, ◌-◌, ◌≤◌}
 use native.Mathlib.Omega.{arith}
-use mathlib.Core.List.{List, [], ◌++◌, reverse}
+use mathlib.Core.List.{List, ◌++◌, reverse}
 use mathlib.Core.Path.{◌≡◌, refl, sym, ap, subst, ◌∙◌}
 use lib.ListN.{length, take, replicate, length-append, length-take}
 use lib.Seq.{length-take-le, take-take}
@@ -11,15 +11,14 @@ use Rattle.definition.specs.Tag.{tag_words, tag_names, tag_pool}
 use Rattle.definition.specs.Field.{field}
 use Rattle.definition.specs.Bytecode.{Const, pool_bytes}
 use Rattle.definition.specs.Session.{listed, Session, name_bytes, names_bytes, words_field, front_fields, session_fields, session_bytes}
-use Rattle.definition.specs.Decode.{decoded, items, read_name_field, read_words, list_in, words_in}
+use Rattle.definition.specs.Decode.{decoded, read_words, list_in, words_in}
 use Rattle.definition.specs.Valid.{All, IsName, ValidSession}
 use Rattle.definition.proofs.Bytes.{bytes_slice, Stands, stands_at, stands_left, stands_right, stands_front, stands_take}
 use Rattle.definition.proofs.Fields.{stands_content, head-field}
 use Rattle.definition.proofs.Items.{read-items}
-use Rattle.definition.proofs.Sessions.{words-length, names-length, reads_name, session_length}
+use Rattle.definition.proofs.Sessions.{words-length, reads_name}
 use Rattle.session.proofs.Sessions.{written-append, front_length}
-use Rattle.field.specs.Layout.{after, Whole}
-use Rattle.symbol_table.specs.Contract.{HasWords, HasItems}
+use Rattle.field.specs.Layout.{after}
 use Rattle.trace.specs.Promise.{HasOlder}
 use Rattle.trace.proofs.Front.{read-listed}
 

@@ -1,5 +1,5 @@
 -- From what the parts of a construct did to what the pass did: an Identifier, a let, an infix, and what has children in a row.
-use Prim.Native.Nat.{ℕ, suc, ◌+◌, ◌-◌, ◌*◌, ◌≤◌, ◌<◌}
+use Prim.Native.Nat.{ℕ, ◌+◌, ◌-◌, ◌≤◌, ◌<◌}
 use native.Mathlib.Omega.{arith}
 use mathlib.Core.Bool.{Bool, true, false}
 use mathlib.Core.List.{List, [], ◌∷◌}
@@ -9,21 +9,19 @@ use mathlib.Core.Path.{◌≡◌, refl, sym, ap, subst, ◌∙◌}
 use lib.ListN.{length, get_or}
 use borrow.Author.Tests.{eq-eqb}
 use Rattle.definition.specs.Basic.{Bytes, byte_at}
-use Rattle.definition.specs.Limit.{tree_limit, nesting_limit}
 use Rattle.definition.specs.Tag.{tag_identifier, tag_let, tag_infix, tag_function}
 use Rattle.definition.specs.Syntax.{Stmt, Expr}
-use Rattle.definition.specs.SymbolTable.{Symbol, Table, Resolved, resolve, crossed}
-use Rattle.definition.specs.Walk.{Res, on, bind, Go, operate, infixes, less_than, walk_stmt, walk_expr}
+use Rattle.definition.specs.SymbolTable.{Symbol, Table, Resolved, crossed}
+use Rattle.definition.specs.Walk.{on, bind, Go, operate, infixes, less_than, walk_stmt, walk_expr}
 use Rattle.definition.specs.Decode.{words_in}
 use Rattle.field.specs.Layout.{tag, len, after, content, Whole}
 use Rattle.tree.specs.At.{LetAt, InfixAt, FunctionAt}
 use Rattle.tree.specs.Reads.{Some, ReadsExpr, ReadsBlock}
 use Rattle.tree.proofs.Parts.{expr_is}
-use Rattle.symbol_table.specs.Name.{Stands}
-use Rattle.symbol_table.specs.Layout.{base, symbol_of, tables_of, globals_of, globals_in, Good}
-use Rattle.symbol_table.specs.Contract.{resolved_of, defined_of, HasWords, Resolves, Defines}
+use Rattle.symbol_table.specs.Layout.{base, symbol_of, tables_of, globals_of, globals_in}
+use Rattle.symbol_table.specs.Contract.{resolved_of, defined_of, Resolves, Defines}
 use Rattle.symbol_table.specs.declared.Lookup.{Lookup}
-use Rattle.symbol_table.specs.declared.Lookup.TheVariants.{Found, Undefined, Full}
+use Rattle.symbol_table.specs.declared.Lookup.TheVariants.{Found}
 use Rattle.symbol_table.specs.declared.Definition.{Definition}
 use Rattle.symbol_table.specs.declared.Definition.TheVariants.{Global, Local, GlobalsFull, LocalsFull}
 use Rattle.trace.proofs.Front.{few_crossed}
@@ -33,7 +31,7 @@ use Rattle.trace.specs.Log.{log_of}
 use Rattle.trace.specs.Pass.{Anything, names_at, Follows, is_parent, Node, walk_node, walk_nodes, ReadsNode, ReadsNodes, Standing, Passes}
 use Rattle.trace.proofs.Small.{Small, SmallResolved, code_small, lookup_small}
 use Rattle.trace.proofs.Sequence.{Below, below-bind, below_follows, follows_then, passes_as}
-use Rattle.trace.proofs.Nodes.{Inner, children, silent, infix_inner, as_let, as_expr}
+use Rattle.trace.proofs.Nodes.{children, silent, infix_inner, as_let, as_expr}
 
 -- An Identifier
 

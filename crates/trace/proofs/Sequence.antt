@@ -8,7 +8,7 @@ use lib.ListN.{length}
 use Rattle.definition.specs.Basic.{Bytes, pick}
 use Rattle.definition.specs.Walk.{Res, bind, Go}
 use Rattle.definition.specs.declared.Refusal.{Refusal}
-use Rattle.field.specs.Layout.{after, len, Whole}
+use Rattle.field.specs.Layout.{after, len}
 use Rattle.tree.specs.Reads.{Some}
 use Rattle.tree.proofs.Rows.{First}
 use Rattle.records.specs.Naming.{Names}

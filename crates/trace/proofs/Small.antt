@@ -4,13 +4,13 @@ use native.Mathlib.Omega.{arith}
 use mathlib.Core.Bool.{Bool, true, false}
 use mathlib.Core.List.{List, [], ◌∷◌}
 use mathlib.Core.Option.{Option, none, some}
-use mathlib.Core.Path.{◌≡◌, refl, subst}
+use mathlib.Core.Path.{◌≡◌, refl}
 use lib.ListN.{length, get_or, take}
 use lib.Dec.{leb, ltb}
-use borrow.Author.Tests.{lt-ltb, le-ltb, ltb-true, ltb-false}
+use borrow.Author.Tests.{le-ltb, ltb-true, ltb-false}
 use Rattle.definition.specs.Basic.{Bytes, pick}
 use Rattle.definition.specs.Limit.{globals_limit, free_limit}
-use Rattle.definition.specs.SymbolTable.{Symbol, Entry, Table, Resolved, same, find, find_global, find_builtin, outermost, with_free, capture, cross, or_outer, resolve}
+use Rattle.definition.specs.SymbolTable.{Symbol, Entry, Table, Resolved, same, find, find_global, find_builtin, outermost, capture, cross, or_outer, resolve}
 use Rattle.definition.specs.Valid.{All}
 use Rattle.symbol_table.specs.Layout.{globals_size, part, symbol_of, code_in, entries_at, entries, entry_of, back, table_of, tables_of, global_name, globals_of, globals_in, Good}
 use Rattle.symbol_table.proofs.Back.{length_back}

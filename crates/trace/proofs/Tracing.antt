@@ -1,5 +1,5 @@
 -- From the functions that a call with records is made of to its promise.
-use Prim.Native.Nat.{ℕ, ◌+◌, ◌*◌, ◌≤◌, ◌<◌}
+use Prim.Native.Nat.{ℕ, ◌+◌, ◌≤◌, ◌<◌}
 use native.Mathlib.Omega.{arith}
 use mathlib.Core.Bool.{Bool, true, false}
 use mathlib.Core.List.{List, [], ◌∷◌, ◌++◌, reverse}
@@ -8,12 +8,11 @@ use lib.ListN.{length, take, drop, replicate, length-append, length-replicate, l
 use lib.Dec.{leb, eqb}
 use lib.Seq.{length_front}
 use borrow.Author.Tests.{le-leb}
-use Rattle.definition.specs.Basic.{Bytes, byte_at, pick, both}
+use Rattle.definition.specs.Basic.{Bytes, pick, both}
 use Rattle.definition.specs.Limit.{session_size, code_size, table_size, tree_limit}
 use Rattle.definition.specs.Number
 use Rattle.definition.specs.Number.{refusal}
-use Rattle.definition.specs.Syntax.{Stmts}
-use Rattle.definition.specs.Tree.{Parsed, read_tree}
+use Rattle.definition.specs.Tree.{read_tree}
 use Rattle.definition.specs.Walk.{Res, walk_stmts}
 use Rattle.definition.specs.Decode.{words_in}
 use Rattle.definition.specs.Compile.{enough}
@@ -31,15 +30,15 @@ use Rattle.compiler.specs.Promise.{Compiles}
 use Rattle.compiler.specs.Stage.{lent_of, Long, Lengths}
 use Rattle.compiler.proofs.Lent.{front_length, cleared_again}
 use Rattle.records.specs.Naming.{Names, names, naming}
-use Rattle.records.specs.Call.{Recorded, unrecorded, over_records, in_session_records, call_records}
+use Rattle.records.specs.Call.{Recorded, unrecorded, over_records, call_records}
 use Rattle.records.specs.declared.Record.{Record}
 use Rattle.trace.specs.Log.{log_of}
 use Rattle.trace.specs.Pass.{Logs, PassesTree}
-use Rattle.trace.specs.Promise.{without_log, few_of, LooksAhead, HasOlder, Used, Traces}
+use Rattle.trace.specs.Promise.{few_of, LooksAhead, HasOlder, Used, Traces}
 use Rattle.trace.specs.declared.CallTrace.{CallTrace}
 use Rattle.trace.specs.declared.Outlook.{Outlook}
 use Rattle.trace.proofs.Entries.{logs_same}
-use Rattle.trace.proofs.Tree.{Read, good_reads}
+use Rattle.trace.proofs.Tree.{good_reads}
 use Rattle.trace.proofs.Ahead.{log_length}
 use Rattle.trace.proofs.Calls.{with_output, seen, used_records}
 use Rattle.trace.proofs.Accepts.{untraced-call, few_call, enough-refused, counted, AcceptedBy, accepted_by, cleared_twice, has-older, second_logs}

@@ -1,8 +1,8 @@
 -- The pass over a whole tree.
-use Prim.Native.Nat.{ℕ, ◌+◌, ◌-◌, ◌*◌, ◌≤◌}
+use Prim.Native.Nat.{ℕ, ◌-◌, ◌≤◌}
 use native.Mathlib.Omega.{arith}
 use mathlib.Core.List.{List, []}
-use mathlib.Core.Path.{◌≡◌, refl, sym, ap, subst, ◌∙◌}
+use mathlib.Core.Path.{◌≡◌, refl, ap}
 use lib.ListN.{length, take}
 use Rattle.definition.specs.Basic.{Bytes}
 use Rattle.definition.specs.Limit.{tree_limit, code_size, table_size}
@@ -17,11 +17,11 @@ use Rattle.tree.specs.declared.Checked.TheVariants.{Good}
 use Rattle.tree.proofs.Stands.{tree_stands}
 use Rattle.walk.proofs.Tree.{tree_short}
 use Rattle.symbol_table.specs.Layout.{tables_of, globals_in}
-use Rattle.symbol_table.specs.Contract.{HasWords, HasItems, StartsFrom}
+use Rattle.symbol_table.specs.Contract.{HasWords, StartsFrom}
 use Rattle.records.specs.Naming.{Names, names, naming}
 use Rattle.trace.specs.Log.{log_of}
-use Rattle.trace.specs.Pass.{names_at, Follows, Node, walk_nodes, ReadsNodes, Standing, Passes, Logs, PassesTree}
-use Rattle.trace.proofs.Sequence.{Below, below_follows}
+use Rattle.trace.specs.Pass.{names_at, Follows, walk_nodes, ReadsNodes, Standing, Passes, Logs, PassesTree}
+use Rattle.trace.proofs.Sequence.{below_follows}
 use Rattle.trace.proofs.Nodes.{tree_nodes}
 
 -- a tree that was checked reads

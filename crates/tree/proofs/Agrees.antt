@@ -7,7 +7,6 @@ use lib.Dec.{leb}
 use borrow.Author.Tests.{leb-true, lt-ltb, le-ltb}
 use Rattle.definition.specs.Basic.{pick, both}
 use Rattle.definition.specs.Limit.{level_limit}
-use Rattle.definition.specs.Number
 use Rattle.definition.specs.Field.{Head, fits, head}
 use Rattle.definition.specs.Tree.{Read, seq, read, fault, met, head_at, Parsed, judged}
 use Rattle.definition.specs.declared.Refusal.{Refusal}

@@ -16,7 +16,7 @@ use Rattle.definition.specs.Tree.{read_stmt, read_block, read_expr, read_program
 use Rattle.definition.proofs.Basic.{both_true, pick_true, pick_false}
 use Rattle.definition.proofs.ReadWellFormed.{Sized, sized}
 use Rattle.definition.proofs.Gives.{Gives, right, wrong, gives-seq, gives-pick, gives-met, gives-child, gives_end, gives_head, gives-one_byte, gives-map, judged-gives}
-use Rattle.field.specs.Layout.{tag, len, after, content, Whole}
+use Rattle.field.specs.Layout.{tag, len, after, Whole}
 use Rattle.tree.specs.At.{stmt_list, expr_list, FieldAt, ValueAt, ListAt, StmtIs, ExprKind, kind, expr_kind, ExprIs}
 use Rattle.tree.specs.Reads.{StmtAt, BlockAt, ExprAt, ReadsStmts}
 use Rattle.field.proofs.Content.{content-bytes}

@@ -1,16 +1,16 @@
 -- Bounds of the answers: the globals and the steps, the numbers, the places.
-use Rattle.std.proofs.Common.{◌≡◌, ℕ, suc, ◌+◌, ◌*◌, ◌<◌, ◌≤◌, Bool, true, false, T, eqb, ltb, leb, List, [], ◌∷◌, length, get_or, sym, refl, ap, ◌∙◌, subst, arith, eqb-true}
+use Rattle.std.proofs.Common.{◌≡◌, ℕ, ◌+◌, ◌*◌, ◌<◌, ◌≤◌, Bool, true, false, eqb, ltb, leb, List, [], ◌∷◌, length, get_or, sym, refl, ap, ◌∙◌, arith, eqb-true}
 use mathlib.Core.Option.{Option, none, some}
 use Rattle.definition.specs.Basic.{Bytes, pick}
 use Rattle.definition.specs.Limit.{image_limit}
-use Rattle.definition.specs.Number.{refusal, short_buffer, output_short, bad_image, is_one_of}
+use Rattle.definition.specs.Number.{refusal, short_buffer, output_short, bad_image}
 use Rattle.definition.specs.Opcode.{Instr}
 use Rattle.definition.specs.Bytecode.{Code, size_of, Const, Image}
 use Rattle.definition.specs.Decode.{Decoded, decoded, malformed, read_image}
 use Rattle.definition.specs.Valid.{AreBytes}
 use Rattle.definition.specs.Trusted.{constant_at}
 use Rattle.definition.specs.declared.Answer.{Answer}
-use Rattle.definition.specs.declared.Answer.TheVariants.{Length, Refused}
+use Rattle.definition.specs.declared.Answer.TheVariants.{Refused}
 use Rattle.definition.specs.declared.Refusal.{Refusal}
 use Rattle.definition.proofs.Basic.{chosen}
 use Rattle.definition.proofs.Images.{read-image, write-image}
@@ -22,10 +22,10 @@ use Rattle.heights.proofs.Bounds.{heights_numbers, heights_within}
 use Rattle.heights.proofs.Whole.{image_short}
 use Rattle.trial.specs.Stop
 use Rattle.trial.specs.Value.{Value, Globals, combined, changed}
-use Rattle.trial.specs.Run.{Action, push, combine, change, constant, pop, jump_not_truthy, jump, get_global, set_global, return_value, other, action_of, integer_in, or_else, Frame, frame, Run, top, below, given, acted, come_to, pass, Trial, trial_of, trial, unset_globals}
+use Rattle.trial.specs.Run.{Action, push, combine, change, constant, pop, jump_not_truthy, jump, get_global, set_global, return_value, other, action_of, integer_in, or_else, Frame, frame, Run, top, below, given, acted, come_to, pass, trial_of, trial, unset_globals}
 use Rattle.trial.specs.Output.{named_globals}
 use Rattle.trial.specs.Cells.{work_size}
-use Rattle.trial.specs.Call.{taken, first_refused, refused_with, Outcome, trial_outcome, room_outcome, taken_outcome, judged_outcome, image_outcome, run_outcome}
+use Rattle.trial.specs.Call.{taken, first_refused, refused_with, Outcome, trial_outcome, taken_outcome, judged_outcome, image_outcome, run_outcome}
 use Rattle.trial.proofs.Passes.{trial-steps}
 use Rattle.trial.proofs.Running.{few}
 use Rattle.trial.proofs.Scanning.{refused_more, refused_none}

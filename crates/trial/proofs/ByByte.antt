@@ -1,5 +1,5 @@
 -- What holds of the instructions byte by byte.
-use Rattle.std.proofs.Common.{◌≡◌, ℕ, zero, suc, ◌+◌, ◌<◌, ◌≤◌, Bool, true, false, ltb, List, get_or, sym, refl, ap, ◌∙◌, arith, le-ltb, lt-ltb}
+use Rattle.std.proofs.Common.{◌≡◌, ℕ, zero, suc, ◌+◌, ◌<◌, ◌≤◌, true, false, ltb, List, get_or, sym, refl, ap, ◌∙◌, arith, le-ltb, lt-ltb}
 use Rattle.definition.specs.Basic.{pick}
 use Rattle.definition.specs.Bytecode.{Const}
 use Rattle.definition.proofs.Basic.{pick_true, pick_false}

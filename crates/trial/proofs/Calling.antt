@@ -1,13 +1,12 @@
 -- The whole call: what each test of it says of the outcome.
-use Rattle.std.proofs.Common.{◌≡◌, ℕ, zero, suc, ◌+◌, ◌-◌, ◌*◌, ◌<◌, ◌≤◌, Bool, true, false, ltb, leb, List, [], ◌∷◌, ◌++◌, length, get_or, drop, set, replicate, sym, refl, ap, ◌∙◌, subst, arith, le-ltb, lt-ltb, le-leb}
+use Rattle.std.proofs.Common.{◌≡◌, ℕ, zero, suc, ◌+◌, ◌-◌, ◌*◌, ◌<◌, ◌≤◌, true, leb, List, [], ◌∷◌, ◌++◌, length, get_or, drop, replicate, sym, refl, ap, ◌∙◌, arith, le-ltb, lt-ltb, le-leb}
 use mathlib.Core.Option.{Option, none, some}
 use lib.ListN.{length-replicate}
 use borrow.Author.Tests.{lt-leb}
 use Rattle.definition.specs.Basic.{Bytes, byte_at, pick}
-use Rattle.definition.specs.Limit.{globals_limit}
 use Rattle.definition.specs.Number.{refusal, short_buffer, output_short, bad_image}
 use Rattle.definition.specs.Opcode.{Instr}
-use Rattle.definition.specs.Bytecode.{Code, size_of, Const, Image}
+use Rattle.definition.specs.Bytecode.{size_of, Const, Image}
 use Rattle.definition.specs.Decode.{Decoded, decoded, malformed, read_image}
 use Rattle.definition.specs.Call.{cleared}
 use Rattle.definition.specs.Trusted.{Stands}
@@ -15,28 +14,27 @@ use Rattle.definition.specs.declared.Refusal.{Refusal}
 use Rattle.definition.proofs.Basic.{pick_true, pick_false}
 use Rattle.bytecode.specs.Checked.{image_answer}
 use Rattle.bytecode.specs.declared.ImageCheck.{ImageCheck}
-use Rattle.bytecode.specs.declared.ImageCheck.TheVariants.{Sound, Refused as Wrong}
+use Rattle.bytecode.specs.declared.ImageCheck.TheVariants.{Refused as Wrong}
 use Rattle.listing.specs.Reads.{CodeAt, ImageAt}
 use Rattle.listing.proofs.Lines.{code-size}
 use Rattle.heights.specs.Judgement.{Kind, Reaches, ChunkOf, Passes}
-use Rattle.heights.specs.Pass.{Passing, Passed, onwards, pass, Verdict, judged, bad_heights, Top, top_of, lastly}
-use Rattle.heights.specs.Marks.{marks_from, Blank, ChunkReady, PassEnds}
+use Rattle.heights.specs.Pass.{Passing, Passed, onwards, pass, Verdict, judged, bad_heights, Top, lastly}
+use Rattle.heights.specs.Marks.{marks_from, ChunkReady, PassEnds}
 use Rattle.heights.specs.Chunks.{pool_answer}
 use Rattle.heights.specs.declared.image.PoolCheck.{PoolCheck}
 use Rattle.heights.specs.declared.image.PoolCheck.TheVariants.{Tops as PoolTops, Fails as PoolFails}
 use Rattle.heights.specs.declared.chunk.ChunkCheck.{ChunkCheck}
-use Rattle.heights.proofs.Accepts.{Held, IsHeld, pass_holds, arrives}
+use Rattle.heights.proofs.Accepts.{IsHeld, pass_holds, arrives}
 use Rattle.heights.proofs.Refuses.{passing}
 use Rattle.heights.proofs.Verdicts.{Right, judged_right}
 use Rattle.trial.specs.Stop
 use Rattle.trial.specs.Value.{Globals}
-use Rattle.trial.specs.Run.{Action, actions, runnable, runnable_as, action_of, Trial, trial}
-use Rattle.trial.specs.Output.{names_as, named_globals, shown}
-use Rattle.trial.specs.Cells.{Keeping, KeepsGlobals, work_size, stack_limit}
+use Rattle.trial.specs.Run.{runnable, Trial, trial}
+use Rattle.trial.specs.Output.{named_globals}
+use Rattle.trial.specs.Cells.{Keeping, work_size, stack_limit}
 use Rattle.trial.specs.Machine.{Safe, EndsAs}
-use Rattle.trial.specs.Call.{taken, first_refused, refused_with, Outcome, trial_outcome, taken_outcome, judged_outcome, image_outcome, run_outcome, outcome_answer, outcome_into, work_after, scan_answer, ScanReady, ChunkToRun}
+use Rattle.trial.specs.Call.{first_refused, refused_with, Outcome, trial_outcome, taken_outcome, judged_outcome, image_outcome, run_outcome, outcome_answer, outcome_into, work_after, scan_answer, ScanReady}
 use Rattle.trial.specs.declared.RunAnswer.{RunAnswer}
-use Rattle.trial.specs.declared.RunAnswer.TheVariants.{Ran, Refused}
 use Rattle.trial.specs.declared.scan.Scanned.{Scanned}
 use Rattle.trial.specs.declared.scan.Scanned.TheVariants.{Names, Refuses}
 use Rattle.trial.specs.declared.machine.Ended.{Ended}

@@ -1,8 +1,8 @@
 -- Values in cells: what the operators make of them.
-use Rattle.std.proofs.Common.{◌≡◌, ℕ, ◌^◌, ◌<◌, Bool, true, false, not, eqb, List, [], ◌∷◌, get_or, ℤ, sym, refl, ap, ◌∙◌, subst, arith}
+use Rattle.std.proofs.Common.{◌≡◌, ℕ, ◌^◌, ◌<◌, Bool, true, false, eqb, List, [], ◌∷◌, get_or, ℤ, sym, refl, ap, ◌∙◌, subst, arith}
 use mathlib.Core.Option.{Option, none, some}
 use Rattle.definition.specs.Basic.{both}
-use Rattle.trial.specs.Value.{Value, integer, boolean, null, signed_of, truthy, equal, Infix, Prefix, combined, changed}
+use Rattle.trial.specs.Value.{Value, integer, boolean, signed_of, truthy, equal, Infix, Prefix, combined, changed}
 use Rattle.trial.specs.Words.{integer_in}
 use Rattle.trial.specs.Cells.{word_from, Keeps}
 use Rattle.trial.specs.Machine.{InfixAt, PrefixAt}

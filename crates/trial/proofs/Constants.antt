@@ -1,8 +1,8 @@
 -- The constant of an index in a pool that is read one after the other.
-use Rattle.std.proofs.Common.{◌≡◌, ℕ, suc, ◌+◌, ◌<◌, ◌≤◌, Bool, true, false, eqb, List, [], ◌∷◌, length, sym, refl, ap, ◌∙◌, subst, arith, eq-eqb, ne_eqb, eqb-true}
-use mathlib.Core.Option.{Option, none, some}
+use Rattle.std.proofs.Common.{◌≡◌, ℕ, ◌+◌, ◌<◌, ◌≤◌, Bool, true, false, eqb, List, [], ◌∷◌, length, sym, refl, ap, ◌∙◌, arith, eq-eqb, ne_eqb}
+use mathlib.Core.Option.{none, some}
 use borrow.Author.Tests.{eqb-false}
-use Rattle.definition.specs.Basic.{Bytes, byte_at, pick}
+use Rattle.definition.specs.Basic.{Bytes, byte_at}
 use Rattle.definition.specs.Limit.{constants_limit}
 use Rattle.definition.specs.Tag.{tag_integer_const, tag_string_const}
 use Rattle.definition.specs.Field.{head, bytes}
@@ -17,7 +17,6 @@ use Rattle.listing.proofs.Constants.{integer-length, function_is}
 use Rattle.heights.specs.Chunks.{Standing}
 use Rattle.heights.proofs.Judges.{Turn, turn}
 use Rattle.trial.specs.Run.{integer_in}
-use Rattle.trial.specs.Cells.{Keeps}
 
 -- a constant by its tag
 module _ (b : Bytes) {at next : ℕ} {x : Const} (s : Standing b at next x) where

@@ -2,7 +2,6 @@
 use Rattle.std.proofs.Common.{◌≡◌, ℕ, ◌*◌, ◌≤◌, Bool, true, false, T, ltb, leb, List, [], ◌∷◌, length, take, sym, refl, ap, ◌∙◌, subst, arith}
 use mathlib.Core.Option.{Option, none, some}
 use Rattle.definition.specs.Basic.{Bytes, pick}
-use Rattle.definition.specs.Limit.{session_size}
 use Rattle.definition.specs.Number.{refusal, short_buffer, output_short}
 use Rattle.definition.specs.Opcode.{Instr}
 use Rattle.definition.specs.Bytecode.{Code, size_of, Const, Image, image_bytes}

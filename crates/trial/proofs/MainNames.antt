@@ -6,7 +6,7 @@ use Rattle.definition.specs.Limit.{globals_limit}
 use Rattle.definition.specs.Number
 use Rattle.definition.specs.Syntax.{Stmt, Stmts, Else, Expr}
 use Rattle.definition.specs.Opcode.{Instr, instr, op_set_global}
-use Rattle.definition.specs.Bytecode.{Code, size_of, Const}
+use Rattle.definition.specs.Bytecode.{Code, Const}
 use Rattle.definition.specs.SymbolTable.{Symbol, Table, Resolved, Defined, find_global, find_builtin, outermost, resolve, load_of, place}
 use Rattle.definition.specs.Valid.{All}
 use Rattle.trial.specs.Run.{runnable}

@@ -1,14 +1,13 @@
 -- The instructions that put a value, and those that do not: what the definition makes of each.
-use Rattle.std.proofs.Common.{◌≡◌, ℕ, zero, suc, ◌+◌, ◌-◌, ◌<◌, ◌≤◌, Bool, true, false, T, eqb, List, [], ◌∷◌, length, get_or, set, sym, refl, ap, ◌∙◌, subst, arith}
+use Rattle.std.proofs.Common.{◌≡◌, ℕ, zero, suc, ◌+◌, ◌-◌, ◌<◌, ◌≤◌, Bool, true, false, T, eqb, List, ◌∷◌, get_or, set, sym, refl, ap, ◌∙◌, subst, arith}
 use mathlib.Core.Option.{Option, none, some}
 use Rattle.definition.specs.Basic.{pick}
-use Rattle.definition.specs.Opcode.{Instr, instr, size}
+use Rattle.definition.specs.Opcode.{instr, size}
 use Rattle.definition.specs.Bytecode.{Const}
-use Rattle.definition.specs.Trusted.{constant_at}
 use Rattle.definition.specs.Effect.{taken, takes, gives, falls, flow_of}
-use Rattle.trial.specs.Value.{Value, integer, boolean, null, Globals, Infix, Prefix, truthy}
+use Rattle.trial.specs.Value.{Value, integer, boolean, null, Infix, Prefix, truthy}
 use Rattle.trial.specs.Run.{Action, actions, integer_in, is_some, Frame, frame, Run, top, below, moved, given, acted, execute}
-use Rattle.trial.specs.Cells.{Keeps, Stacked, Keeping, kinds_at, stack_at, stack_kinds_at}
+use Rattle.trial.specs.Cells.{Keeps, Stacked, kinds_at, stack_at, stack_kinds_at}
 use Rattle.trial.specs.Machine.{InfixAt, PrefixAt, Produces, Runs, product, reason_of, Framed, After}
 use Rattle.trial.specs.declared.machine.State.{State}
 use Rattle.trial.specs.declared.machine.Stepped.TheVariants.{On, Returned, Stopped}

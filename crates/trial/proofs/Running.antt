@@ -1,5 +1,5 @@
 -- The loop that runs main: behind each instruction the code's state is the definition's run so far.
-use Rattle.std.proofs.Common.{◌≡◌, ℕ, zero, suc, ◌+◌, ◌-◌, ◌<◌, ◌≤◌, Bool, true, false, List, [], ◌∷◌, length, get_or, sym, refl, ap, ◌∙◌, subst, arith, ltb-true}
+use Rattle.std.proofs.Common.{◌≡◌, ℕ, ◌+◌, ◌-◌, ◌<◌, ◌≤◌, true, List, [], ◌∷◌, length, get_or, sym, refl, ap, ◌∙◌, subst, arith, ltb-true}
 use Rattle.definition.specs.Basic.{Bytes}
 use Rattle.definition.specs.Limit.{globals_limit}
 use Rattle.definition.specs.Opcode.{Instr, instr, size}
@@ -10,16 +10,16 @@ use Rattle.listing.specs.Reads.{CodeAt, PoolAt}
 use Rattle.heights.specs.Judgement.{Reaches}
 use Rattle.heights.proofs.Positions.{Behind, behind_it}
 use Rattle.trial.specs.Value.{Globals}
-use Rattle.trial.specs.Run.{Action, actions, runnable, runnable_as, Frame, frame, Run, execute, come_to, pass, Trial, trial_of, trial, unset_globals}
+use Rattle.trial.specs.Run.{Action, actions, runnable_as, Frame, frame, Run, execute, come_to, pass, Trial, trial_of, trial, unset_globals}
 use Rattle.trial.specs.Cells.{Stacked, Keeping, stack_limit}
-use Rattle.trial.specs.Machine.{Produces, Runs, Room, StepReady, Framed, After, EndsAs, Safe}
+use Rattle.trial.specs.Machine.{Runs, StepReady, Framed, After, EndsAs, Safe}
 use Rattle.trial.specs.declared.machine.State.{State}
 use Rattle.trial.specs.declared.machine.Stepped.{Stepped}
 use Rattle.trial.specs.declared.machine.Stepped.TheVariants.{On, Returned, Stopped}
 use Rattle.trial.specs.declared.machine.Ended.{Ended}
 use Rattle.trial.specs.declared.machine.Ended.TheVariants.{Ran, Stopped as EndStopped}
 use Rattle.trial.proofs.Passes.{comes_run, leaves_out, Within, pass_within}
-use Rattle.trial.proofs.RunHeights.{KeepsHeight, Enough, execute_height}
+use Rattle.trial.proofs.RunHeights.{KeepsHeight, execute_height}
 use Rattle.trial.proofs.Memory.{stacked_length}
 use Rattle.trial.proofs.ByByte.{runs}
 use Rattle.trial.proofs.Producing.{known}

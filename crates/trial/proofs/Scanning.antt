@@ -1,5 +1,5 @@
 -- Going over main: number 27, and the globals named.
-use Rattle.std.proofs.Common.{◌≡◌, ℕ, ◌+◌, ◌<◌, ◌≤◌, Bool, true, false, ltb, leb, List, [], ◌∷◌, get_or, sym, refl, ap, ◌∙◌, subst, arith, ltb-true, le-leb, leb-true}
+use Rattle.std.proofs.Common.{◌≡◌, ℕ, ◌+◌, ◌<◌, ◌≤◌, Bool, true, false, ltb, leb, List, [], ◌∷◌, get_or, sym, refl, ap, ◌∙◌, arith, ltb-true, le-leb, leb-true}
 use mathlib.Core.Option.{Option, none, some}
 use borrow.Author.Tests.{lt-leb}
 use Rattle.definition.specs.Basic.{Bytes, pick, both}
@@ -8,18 +8,15 @@ use Rattle.definition.specs.Bytecode.{Code, size_of, Const, Image}
 use Rattle.definition.specs.Trusted.{Stands}
 use Rattle.definition.specs.Limit.{globals_limit}
 use Rattle.definition.proofs.Basic.{both_left, both_right, chosen}
-use Rattle.opcode.specs.Decoding.{instr_of, decode_answer}
-use Rattle.listing.specs.Reads.{CodeAt, ImageAt}
+use Rattle.listing.specs.Reads.{CodeAt}
 use Rattle.heights.specs.Pass.{Marks}
 use Rattle.heights.specs.Marks.{marks_from}
-use Rattle.heights.proofs.Laws.{contrary}
 use Rattle.trial.specs.Run.{Action, push, combine, change, constant, pop, jump_not_truthy, jump, get_global, set_global, return_value, other, or_else, action_of, runnable_as, runnable}
 use Rattle.trial.specs.Output.{names_as, named_globals}
 use Rattle.trial.specs.Cells.{stack_limit}
 use Rattle.trial.specs.Call.{taken, first_refused, scan_answer}
-use Rattle.trial.specs.declared.scan.Scanned.{Scanned}
 use Rattle.trial.specs.declared.scan.Scanned.TheVariants.{Names, Refuses}
-use Rattle.trial.proofs.CodeLoop.{Behind, Turn, code-begins, code_ends}
+use Rattle.trial.proofs.CodeLoop.{Behind, code-begins, code_ends}
 
 module _ (pool : List Const) (f : Marks) where
   pub refused_more : (i : Instr) (c : Code) → first_refused pool f (i ∷ c) ≡ or_else (first_refused pool f c) (pick (taken pool f (size_of c) i) none (some (size_of c)))

@@ -1,6 +1,6 @@
 -- The bytes written of the globals.
 use Rattle.std.proofs.Common.{◌≡◌, ℕ, zero, suc, ◌+◌, ◌*◌, ◌/◌, ◌%◌, ◌<◌, ◌≤◌, List, [], ◌∷◌, ◌++◌, length, get_or, set, sym, refl, ap, ◌∙◌, append_assoc, append-nil, arith, length-append, length-set}
-use mathlib.Core.Option.{Option, none, some}
+use mathlib.Core.Option.{Option, none}
 use lib.Seq.{sets, set_comm}
 use Rattle.definition.specs.Basic.{Bytes}
 use Rattle.definition.specs.Output.{over}

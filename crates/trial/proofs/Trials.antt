@@ -17,7 +17,7 @@ use Rattle.definition.specs.Compile.{Outcome, Request, start, image_of, session_
 use Rattle.definition.specs.declared.Refusal.{Refusal}
 use Rattle.definition.specs.Valid.{All}
 use Rattle.definition.specs.Trusted.{constant_at}
-use Rattle.trial.specs.Value.{Value, boolean, Globals, integer_of, Infix, less, greater, combined, Prefix, changed}
+use Rattle.trial.specs.Value.{Value, boolean, Globals, integer_of, Infix, greater, combined, Prefix, changed}
 use Rattle.trial.specs.Run.{Action, integer_in, is_some, frame, given, acted, execute, unset_globals, trial_of, trial}
 use Rattle.trial.specs.Evaluate.{Evaluated, and_then, or_stop, prefix_of, infix_of, prefixed, infixed, named, branch_value, names_stmt, names_stmts, eval_stmt, eval_stmts, eval_else, eval_expr, evaluate, trial_end, value_end, tree_end}
 use Rattle.definition.proofs.Basic.{pick_true, pick_false}

@@ -1,5 +1,5 @@
 -- Values as the work area keeps them: a kind and a word each.
-use Rattle.std.specs.Prelude.{◌≡◌, ℕ, suc, ◌+◌, ◌-◌, ◌^◌, ◌<◌, ◌≤◌, true, false, List, [], ◌∷◌, length, slice_index, slice_index_or}
+use Rattle.std.specs.Prelude.{◌≡◌, ℕ, suc, ◌+◌, ◌^◌, ◌<◌, true, false, List, [], ◌∷◌, length, slice_index, slice_index_or}
 use Rattle.std.proofs.Math.Option.{Option, none, some}
 use Rattle.definition.specs.Limit.{globals_limit}
 use Rattle.trial.specs.Value.{Value, integer, boolean, null, Globals, signed_of}

@@ -7,7 +7,7 @@ use Rattle.definition.specs.Number
 use Rattle.definition.specs.Syntax.{Stmt, Stmts, Else, Expr}
 use Rattle.definition.specs.Walk.{less_than}
 use Rattle.definition.specs.SymbolTable.{find_global}
-use Rattle.trial.specs.Value.{Value, integer, boolean, null, Globals, integer_of, truthy, Infix, add, sub, mul, div, equals, differs, less, greater, combined, Prefix, minus, bang, changed}
+use Rattle.trial.specs.Value.{Value, boolean, null, Globals, integer_of, truthy, Infix, add, sub, mul, div, equals, differs, less, greater, combined, Prefix, minus, bang, changed}
 use Rattle.definition.specs.Tree.{Parsed}
 use Rattle.trial.specs.Run.{Trial, unset_globals}
 

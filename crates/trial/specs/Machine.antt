@@ -1,9 +1,9 @@
 -- What the code's step and run give, beside the definition's.
-use Rattle.std.specs.Prelude.{◌≡◌, ℕ, ◌+◌, ◌<◌, ◌≤◌, Bool, true, false, List, [], length, ◌==◌, slice_index_or}
+use Rattle.std.specs.Prelude.{◌≡◌, ℕ, ◌+◌, ◌<◌, ◌≤◌, true, List, length, ◌==◌, slice_index_or}
 use Rattle.std.proofs.Math.Option.{Option, none, some}
 use Rattle.definition.specs.Basic.{Bytes, byte_at, pick}
 use Rattle.definition.specs.Field.{head}
-use Rattle.definition.specs.Opcode.{Instr, size}
+use Rattle.definition.specs.Opcode.{Instr}
 use Rattle.definition.specs.Bytecode.{Code, size_of, Const, Image}
 use Rattle.definition.specs.Trusted.{Stands, constant_at}
 use Rattle.definition.specs.Effect.{takes, gives}

@@ -8,7 +8,7 @@ use Rattle.definition.specs.Limit.{globals_limit}
 use Rattle.definition.specs.Opcode.{Instr, size}
 use Rattle.definition.specs.Bytecode.{Code, size_of, Const, Image}
 use Rattle.definition.specs.Trusted.{Stands, constant_at}
-use Rattle.trial.specs.Value.{Value, integer, boolean, null, Globals, integer_of, truthy, Infix, add, sub, mul, div, equals, differs, greater, combined, Prefix, minus, bang, changed}
+use Rattle.trial.specs.Value.{Value, boolean, null, Globals, integer_of, truthy, Infix, add, sub, mul, div, equals, differs, greater, combined, Prefix, minus, bang, changed}
 
 -- what an instruction does
 pub data Action : Type 0 where

@@ -2,7 +2,6 @@
 -- Assumes nothing.
 use native.Mathlib.Omega.{arith}
 use mathlib.Core.Path.{sym, ◌∙◌}
-use lib.ListN.{length}
 use lib.Seq.{length_front}
 use Rattle.definition.specs.Limit.{session_size, code_size, table_size}
 use Rattle.compiler.specs.Stage.{lent_of}

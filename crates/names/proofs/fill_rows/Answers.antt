@@ -1,5 +1,4 @@
 -- `names::fill_rows` meets its contract. The loop's invariant: the records before k stand in their rows. The measure is what is left.
-use Prim.Native.Nat.{◌-◌}
 use native.Mathlib.Omega.{arith}
 use borrow.Author.Rules.{rules}
 use Rattle.names.proofs.Rows.{turn_holds, turn_again, turn_ends, turn_log, turn-row, turn_small, turn_long}

@@ -1,5 +1,4 @@
 -- `opcode::put_word` meets its contract: a copy, one byte a turn.
-use Prim.Native.Nat.{◌-◌}
 use native.Mathlib.Omega.{arith}
 use Rattle.definition.specs.Listing.{words}
 use Rattle.opcode.specs.Words.{joined}

@@ -1,8 +1,6 @@
 -- `series::compile_row` meets its contract: a call a turn; what is left decides.
-use Prim.Native.Nat.{◌-◌}
 use native.Mathlib.Omega.{arith}
 use mathlib.Core.Path.{◌∙◌}
-use lib.ListN.{length}
 use Rattle.compiler.specs.Stage.{lent_of}
 use Rattle.series.proofs.Row.{cut, row-begins, row-turns, row_ends}
 use Rattle.series.proofs.compile_row.Goals as goal

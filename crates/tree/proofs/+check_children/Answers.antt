@@ -1,9 +1,6 @@
 -- `check_children` calls itself with a level fewer. The loop's invariant says that what is left decides; its measure is what is left of the content.
-use Prim.Native.Nat.{◌-◌}
 use native.Mathlib.Omega.{arith}
-use mathlib.Core.Logic.{⊎_elim}
 use mathlib.Core.Path.{sym, ◌∙◌}
-use borrow.Author.Tests.{not-true, not-false, eqb-true, eqb-false}
 use Rattle.tree.proofs.Steps.{left_holds, left_none, left_missing, left_enough, left_fits, left_bad, left_deep, left_found, left_leaf, left_children}
 use Rattle.tree.proofs.+check_children.Goals as goal
 use Rattle.tree.proofs.+check_children.Goals.{else-at-end-via-then-at-end+else-t-eq-CALL, else-at-end-via-else-at-end, then-not-is_leaf+else-found-ne0, else-not-is_leaf}
@@ -59,8 +56,8 @@ loop-at-preserved t c =
     let good = rw c.first_kind.ensures at (sym c.good_field.ensures ∙ c.if-not-good_field.false) in
     rw (c.after_at-next.ensures, c.turn-kinds.ensures)
     (elim c.if-not-is_leaf.branch [
-      then-not-is_leaf+else-found-ne0 w ↦ left_children l c.loop-at-test.true good c.if-levels-eq0.false (rw c.wide.ensures.is at (sym c.is_leaf.ensures ∙ w.if-not-is_leaf.true)) (rw (w.if-found-ne0.false, c.after_at-next.ensures) at w.check_children-found.ensures)
-    | else-not-is_leaf w ↦ left_leaf l c.loop-at-test.true good c.if-levels-eq0.false (rw c.wide.ensures.is at (sym c.is_leaf.ensures ∙ w.if-not-is_leaf.false))
+      | then-not-is_leaf+else-found-ne0 w ↦ left_children l c.loop-at-test.true good c.if-levels-eq0.false (rw c.wide.ensures.is at (sym c.is_leaf.ensures ∙ w.if-not-is_leaf.true)) (rw (w.if-found-ne0.false, c.after_at-next.ensures) at w.check_children-found.ensures)
+      | else-not-is_leaf w ↦ left_leaf l c.loop-at-test.true good c.if-levels-eq0.false (rw c.wide.ensures.is at (sym c.is_leaf.ensures ∙ w.if-not-is_leaf.false))
     ])
 
 pub returns-then-may_end : goal.returns-then-may_end

@@ -1,6 +1,5 @@
 -- `tree::count_fields` meets its contract. The loop's invariant: so many fields stand before `at`, and the others behind it.
 -- The measure is what is left up to the end.
-use Prim.Native.Nat.{◌-◌}
 use Rattle.tree.proofs.Rows.{row-whole, count_holds, count_again, count_ends}
 use Rattle.tree.proofs.count_fields.Goals as goal
 

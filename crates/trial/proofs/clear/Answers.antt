@@ -1,5 +1,5 @@
 -- `trial::clear` meets its contract: what the loop has passed is zero.
-use Rattle.std.proofs.Common.{◌-◌, arith}
+use Rattle.std.proofs.Common.{arith}
 use Rattle.session.proofs.Zeroed.{zeroed_none, zeroed_more, zeroed_all}
 use Rattle.trial.proofs.clear.Goals as goal
 

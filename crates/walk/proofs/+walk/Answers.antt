@@ -1,7 +1,6 @@
 -- The goals of the cycle, function by function.
-use Prim.Native.Nat.{◌+◌, ◌-◌}
+use Prim.Native.Nat.{◌+◌}
 use Rattle.definition.specs.Tag.{tag_prefix, tag_infix, tag_if, tag_function, tag_call, tag_array, tag_index, tag_hash, tag_expr_stmt, tag_block, tag_let, tag_return}
-use Rattle.field.specs.Layout.{len}
 use Rattle.step.proofs.Memory.{fine_roomy, deeper_keeps}
 use Rattle.step.specs.Memory.{rest}
 use Rattle.tree.proofs.Children.{branch_body, if_branches, first_branch, call_args, other_branch, expr_here, list_items, macro-tag, function_params, function_body, index_right, infix_left, infix_right, let_value, stmt_here, return-tag, value_expr, block_body}

@@ -1,6 +1,5 @@
 -- `append_names` appends the fields of the globals from an index on. The invariant: `count` is the area's, and those before the `k`-th are
 -- appended. The measure is what is left of them. Assumes nothing.
-use Prim.Native.Nat.{◌-◌}
 use native.Mathlib.Omega.{arith}
 use Rattle.compiler.proofs.Appending.{appending_none, appending_has, appending_more, appending_all}
 use Rattle.compiler.proofs.names.append_names.Goals as goal

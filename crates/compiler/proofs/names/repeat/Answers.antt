@@ -1,6 +1,5 @@
 -- `repeat` stores bytes of the session once more. The invariant: the first `i` of them are stored. The measure is what is left of them.
 -- Assumes nothing.
-use Prim.Native.Nat.{◌-◌}
 use native.Mathlib.Omega.{arith}
 use Rattle.compiler.proofs.Appending.{repeated_none, repeated_length, repeated_more, repeated_all}
 use Rattle.compiler.proofs.names.repeat.Goals as goal

@@ -1,5 +1,4 @@
 -- `field::names::distinct_names` meets its contract: one field a turn, searched behind it.
-use Prim.Native.Nat.{◌-◌}
 use mathlib.Core.Path.{◌≡◌, subst₂}
 use native.Mathlib.Omega.{arith}
 use Rattle.definition.specs.SymbolTable.{find_builtin}

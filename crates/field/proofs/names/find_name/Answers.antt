@@ -1,5 +1,4 @@
 -- `field::names::find_name` meets its contract: one field a turn; what is left decides.
-use Prim.Native.Nat.{◌-◌}
 use native.Mathlib.Omega.{arith}
 use Rattle.field.proofs.Rows.{search_begins, search_fits, search_hit, search_miss, search_none}
 use Rattle.field.proofs.names.find_name.Goals as goal

@@ -1,9 +1,6 @@
 -- The loop's invariant: what is left of the two names decides.
-use Prim.Native.Nat.{◌-◌}
 use mathlib.Core.Path.{sym, ◌∙◌}
-use lib.ListN.{length}
 use native.Mathlib.Omega.{arith}
-use Rattle.definition.specs.SymbolTable.{same}
 use Rattle.field.proofs.Same.{same_lengths, same_step, same_differ, same_none}
 use Rattle.field.proofs.names.same_name.Goals as goal
 

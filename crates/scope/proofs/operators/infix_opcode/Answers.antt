@@ -9,12 +9,12 @@ use Rattle.scope.proofs.operators.infix_opcode.Goals as goal
 
 pub returns-then-i-lt10 : goal.returns-then-i-lt10
 returns-then-i-lt10 c = record {
-      is = opcode_at (map byte_of infixes) _ c.if-i-lt10.true;
-      alone = alone_at (map byte_of infixes) _ refl c.if-i-lt10.true;
-    }
+  is = opcode_at (map byte_of infixes) _ c.if-i-lt10.true;
+  alone = alone_at (map byte_of infixes) _ refl c.if-i-lt10.true;
+}
 
 pub returns-else-i-lt10 : goal.returns-else-i-lt10
 returns-else-i-lt10 c = record {
-      is = sym (get_or-eq_default infixes none c.if-i-lt10.false);
-      alone = refl;
-    }
+  is = sym (get_or-eq_default infixes none c.if-i-lt10.false);
+  alone = refl;
+}

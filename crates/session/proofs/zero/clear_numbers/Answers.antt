@@ -1,5 +1,4 @@
 -- `session::zero::clear_numbers` meets its contract: what the loop has passed is zero.
-use Prim.Native.Nat.{◌-◌}
 use native.Mathlib.Omega.{arith}
 use Rattle.session.proofs.Zeroed.{zeroed_none, zeroed_more, zeroed_all}
 use Rattle.session.proofs.zero.clear_numbers.Goals as goal

@@ -1,6 +1,4 @@
 -- The goals of the cycle, function by function.
-use Prim.Native.Nat.{◌-◌}
-use Rattle.field.specs.Layout.{len}
 use Rattle.trace.proofs.Function.{params_whole, room_inside, params_row, body_stands, body_fits, nested_passes, many_passes, inside_stands, function_whole}
 use Rattle.trace.proofs.Nodes.{some_whole, node_first}
 use Rattle.trace.proofs.Passing.{parent_tag, let_here, function_here, infix_here, row_here, identifier_stands, silent_passes, identifier_passes, let_passes, function_passes, infix_passes, row_passes, operator_byte, left_stands, right_stands, operands_fit, infix-row, less_passes, infix_whole, within_area, let-row, let-name, defined_stands, let_whole}

@@ -1,7 +1,7 @@
 -- `trial::cells::change` meets its contract: by its tests.
 use Rattle.std.proofs.Common.{not, sym, subst, arith}
 use mathlib.Core.Option.{some}
-use Rattle.trial.specs.Value.{integer, boolean, Prefix, changed}
+use Rattle.trial.specs.Value.{boolean, Prefix, changed}
 use Rattle.trial.specs.Words.{word_minus}
 use Rattle.trial.specs.Cells.{Keeps}
 use Rattle.trial.proofs.Words.{minus_law}

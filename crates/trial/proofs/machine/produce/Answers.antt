@@ -1,5 +1,5 @@
 -- `trial::machine::produce` meets its contract: a value, or a stop.
-use Rattle.std.proofs.Common.{ap, arith}
+use Rattle.std.proofs.Common.{arith}
 use Rattle.trial.proofs.Producing.{known, produces_small, produce_stops, produce_goes_on}
 use Rattle.trial.proofs.machine.produce.Goals as goal
 

@@ -1,5 +1,5 @@
 -- `trial::machine::run_main` meets its contract: an instruction a turn.
-use Rattle.std.proofs.Common.{◌-◌, sym, ◌∙◌, arith}
+use Rattle.std.proofs.Common.{sym, ◌∙◌, arith}
 use Rattle.trial.proofs.CodeLoop.{one_image, main_parts, not_refused, turn, rest, stands}
 use Rattle.trial.proofs.Running.{for_image, run-begins, run_ends, run-over, run_again, run_returns, run_stops, run_next, step_ready}
 use Rattle.trial.proofs.machine.run_main.Goals as goal

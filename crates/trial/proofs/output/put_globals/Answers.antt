@@ -1,5 +1,5 @@
 -- `trial::output::put_globals` meets its contract: a value a turn.
-use Rattle.std.proofs.Common.{◌-◌, refl, ◌∙◌, arith}
+use Rattle.std.proofs.Common.{refl, ◌∙◌, arith}
 use Rattle.trial.proofs.Memory.{keeps_as}
 use Rattle.trial.proofs.Shown.{shown_none, shown_again, shown_ends, kind_small}
 use Rattle.trial.proofs.output.put_globals.Goals as goal

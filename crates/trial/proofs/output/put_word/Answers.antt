@@ -1,5 +1,5 @@
 -- `trial::output::put_word` meets its contract: the last byte first.
-use Rattle.std.proofs.Common.{◌-◌, refl, arith}
+use Rattle.std.proofs.Common.{refl, arith}
 use Rattle.trial.proofs.Shown.{word-begins, word_again, word_ends}
 use Rattle.trial.proofs.output.put_word.Goals as goal
 

@@ -1,5 +1,4 @@
 -- `trial::output::put_word` meets its contract: the last byte first.
-use Rattle.std.proofs.Common.{◌-◌}
 use Rattle.trial.proofs.Shown.{WordLoop}
 use Rattle.trial.proofs.output.put_word.Given as goal
 

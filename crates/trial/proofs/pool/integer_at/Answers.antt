@@ -1,5 +1,5 @@
 -- `trial::pool::integer_at` meets its contract: a constant a turn.
-use Rattle.std.proofs.Common.{◌-◌, length, sym, refl, ap, ◌∙◌, subst, arith}
+use Rattle.std.proofs.Common.{sym, refl, ap, ◌∙◌, subst, arith}
 use mathlib.Core.Option.{some}
 use Rattle.trial.specs.Run.{integer_in}
 use Rattle.trial.specs.Cells.{Keeps}

@@ -1,6 +1,5 @@
 -- `trial::scan::scan_marked` meets its contract: an instruction a turn.
-use Rattle.std.proofs.Common.{◌-◌, sym, ap, ◌∙◌, arith}
-use borrow.Author.Tests.{not-true, not-false}
+use Rattle.std.proofs.Common.{sym, ap, ◌∙◌, arith}
 use Rattle.definition.specs.Bytecode.{Image}
 use Rattle.heights.specs.Marks.{marks_from}
 use Rattle.trial.specs.Output.{named_globals}
