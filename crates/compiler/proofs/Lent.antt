@@ -35,7 +35,7 @@ front_zeroed n l h e = ap (λ x. x ++ drop n l) (e ∙ ap (λ k. replicate k 0) 
 pub cleared_again : (n : ℕ) (x l : List ℕ) → length x ≡ n → cleared n (x ++ drop n l) ≡ cleared n l
 cleared_again n x l e = ap (λ r. replicate n 0 ++ r) (drop_at x (drop n l) n e)
 
--- what was done on the first parts is the whole call_result
+-- what was done on the first parts is the whole result
 pub lent-whole : (tree : Bytes) (l : Lent) {e₁ o₁ : Bytes} (c₁ : Bytes) {c₂ : Bytes} (t₁ : List ℕ) {t₂ : List ℕ} {r : Answer}
     → record { answer = r; session = e₁; output = o₁ } ≡ call_result tree (take session_size l.session) l.output
     → length c₁ ≡ code_size → c₂ ≡ cleared code_size (c₁ ++ drop code_size l.code)
@@ -66,7 +66,7 @@ long e c t h =
       table = leb-true table_size (length t) (both_left _ (leb session_size (length e)) s);
     }
 
--- past it the whole call_result keeps the promise
+-- past it the whole result keeps the promise
 pub promise_kept : (tree : Bytes) (l : Lent) → enough (request l tree) ≡ true → AreBytes (take session_size l.session) → {r : Answer} {l' : Lent}
     → record { answer = r; lent = l' } ≡ whole_of l (call_result tree (take session_size l.session) l.output) → Compiles tree l r l'
 promise_kept tree l big a e =

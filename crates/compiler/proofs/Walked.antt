@@ -91,7 +91,7 @@ module _ {e : Bytes} {l : SessionLayout} (x : Opened e l) {t₀ t : List ℕ} (b
   both_end : WalkEnds x.session e (length c) (defined x.session b) (done x.session e c b)
   both_end = walk_ends x.session x.valid e c whole (omega arith) b (read_well_formed tree b n reads)
 
-  -- the call's call_result hangs on the definition's walk
+  -- the call's result hangs on the definition's walk
   result_is : (o : Bytes) → call_result tree e o ≡ step_result e o (Definition.finish (length o) x.session (defined x.session b))
   unfolding call_result
   result_is o = ap (session_result tree e o) x.reads ∙ ap (λ p. step_result e o (translate (length o) x.session p)) reads

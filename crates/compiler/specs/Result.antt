@@ -40,6 +40,6 @@ session_result tree e o (malformed p) = refused_result e o (refusal Number.no_se
 unfoldable pub call_result : Bytes → Bytes → Bytes → Result
 call_result tree e o = session_result tree e o (read_session e)
 
--- a call_result, with the rest of what is lent: the bytes behind the session's, and the work areas zeroed
+-- a result, with the rest of what is lent: the bytes behind the session's, and the work areas zeroed
 abbrev pub whole_of : Lent → Result → Called
 whole_of l x = record { answer = x.answer; lent = ended (x.session ++ drop session_size l.session) x.output l }

@@ -44,16 +44,16 @@ pub record Translated (tree c b : Bytes) (t : List ℕ) (l : SessionLayout) (s :
   pub fine : FineState tree (rest b t) s
   pub level : s.level ≡ 0
 
--- the call_result that the definition gives at the walk's end, for an output
+-- the result that the definition gives at the walk's end, for an output
 abbrev pub final_result : {tree c b : Bytes} {t : List ℕ} {l : SessionLayout} {s : Memory.State} → Translated tree c b t l s → Bytes → Result
 final_result p o = step_result (session_bytes p.session) o (Definition.finish (length o) p.session (on tt p.state))
 
--- the walk went through: what is there, and what the call's call_result is
+-- the walk went through: what is there, and what the call's result is
 pub record Through (tree e c' e' : Bytes) (t' : List ℕ) (l : SessionLayout) (s : Memory.State) : Type 0 where
   pub translated : Translated tree c' e' t' l s
   pub same : (o : Bytes) → call_result tree e o ≡ final_result translated o
 
--- the walk stopped: zeros restore the session, and the refusal is the call's call_result
+-- the walk stopped: zeros restore the session, and the refusal is the call's result
 pub record Halted (tree e e' : Bytes) (l : SessionLayout) (q : Refusal) (s : Memory.State) : Type 0 where
   pub low : l.pool_end ≤ s.pool_end
   pub high : s.pool_end ≤ session_size

@@ -1,5 +1,5 @@
 -- Two machines on two trees that differ in literals: one induction, for every relation between their states.
---     both-stmts    a simulation, with literals mapped: Erase.antt, where one machine runs a tree and the tree's shape
+--     both_stmts    a simulation, with literals mapped: Erase.antt, where one machine runs a tree and the tree's shape
 --     refined       with literals as they are: Jumps.antt, where R leans on the jumps not yet patched. A machine over bytes goes so. R w s t:
 --                   t's bytes are `encode` of s's code, t's last instruction is s's, a jump stands at each position that w has for the
 --                   chunk in work, and t has the outer chunks' bytes as w has them (`inside` puts the outer states there). D: t's previous

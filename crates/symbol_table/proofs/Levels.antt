@@ -11,7 +11,7 @@ use Rattle.symbol_table.specs.Layout.{globals_size, part_size, base, part, table
 use Rattle.symbol_table.specs.Contract.{Inside}
 use Rattle.symbol_table.proofs.Slices.{take-agree, slice_agree}
 
--- the length of the slice from s to s + partSize
+-- the length of the slice from s to s + part_size
 pub width : (s : ℕ) → s + part_size - s ≡ part_size
 width s = omega arith
 

@@ -1,4 +1,4 @@
--- `opcode::encode` meets its contract: its bytes are outputAnswer at the start of the output, where they fit.
+-- `opcode::encode` meets its contract: its bytes are output_answer at the start of the output, where they fit.
 use mathlib.Core.Path.{sym, ◌∙◌}
 use native.Mathlib.Omega.{arith}
 use Rattle.opcode.specs.Decoding.{instr_of}

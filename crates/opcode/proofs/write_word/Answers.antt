@@ -1,4 +1,4 @@
--- `opcode::write_word` meets its contract: its part of all words is outputAnswer at the start of the output, where it fits.
+-- `opcode::write_word` meets its contract: its part of all words is output_answer at the start of the output, where it fits.
 use native.Mathlib.Omega.{arith}
 use Rattle.opcode.proofs.Words.{number, found, word_short, word-written, word_unknown}
 use Rattle.opcode.proofs.write_word.Goals as goal
