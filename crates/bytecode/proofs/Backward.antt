@@ -14,7 +14,7 @@ use Rattle.opcode.specs.Decoding.{size_at}
 use Rattle.opcode.specs.Table.{entry}
 use Rattle.opcode.proofs.Widths.{size_end, width_small}
 use Rattle.opcode.proofs.Decoding.{Stands, stands, read_next, read_none}
-use Rattle.bytecode.specs.declared.Item.TheVariants.{Next}
+use Rattle.std.specs.Prelude.{Option, Some, None, Ok}
 use Rattle.bytecode.specs.Checked.{is_read, is_code, item}
 use Rattle.bytecode.proofs.Items.{at-end, too-many, one_more, ended}
 
@@ -80,8 +80,8 @@ module _ (byte : ℕ → ℕ) (end : ℕ) where
   further : (most : ℕ) (xs : Code) {at size : ℕ} → (at ≡ end → ⊥) → Stands byte at end size → read (suc most) xs at ≡ read most (instr_at byte at ∷ xs) (at + size)
   further most xs {at} n k = one_more (read_instr byte) end most xs at n ∙ rw (read_next byte at end k)
 
-  stops : (most : ℕ) (xs : Code) {at : ℕ} → (at ≡ end → ⊥) → 0 ≡ size_at byte at end → read (suc most) xs at ≡ malformed at
-  stops most xs {at} n e = one_more (read_instr byte) end most xs at n ∙ rw (read_none byte at end e refl)
+  stops : (most : ℕ) (xs : Code) {at : ℕ} → (at ≡ end → ⊥) → None ≡ size_at byte at end → read (suc most) xs at ≡ malformed at
+  stops most xs {at} n e = one_more (read_instr byte) end most xs at n ∙ rw (read_none byte at end e)
 
   -- nothing is read past the end
   past : (most : ℕ) (xs : Code) (at : ℕ) → end < at → is_read (read most xs at) ≡ false
@@ -104,18 +104,17 @@ module _ (byte : ℕ → ℕ) (end : ℕ) where
   goes_alike : (m n : ℕ) (xs ys : Code) (at : ℕ)
       → ((size : ℕ) → 0 < size → is_read (read m (instr_at byte at ∷ xs) (at + size)) ≡ is_read (read n (instr_at byte at ∷ ys) (at + size)))
       → is_read (read (suc m) xs at) ≡ is_read (read (suc n) ys at)
-  goes_alike m n xs ys at ih = go (leb end at) refl (eqb (size_at byte at end) 0) refl
+  goes_alike m n xs ys at ih = go (leb end at) refl (size_at byte at end) refl
     where
-      go : (a : Bool) → leb end at ≡ a → (b : Bool) → eqb (size_at byte at end) 0 ≡ b → is_read (read (suc m) xs at) ≡ is_read (read (suc n) ys at)
-      go true s b t = ends_alike (suc m) (suc n) xs ys at (leb-true end at s)
-      go false s true t =
+      go : (a : Bool) → leb end at ≡ a → (o : Option ℕ) → size_at byte at end ≡ o → is_read (read (suc m) xs at) ≡ is_read (read (suc n) ys at)
+      go true s o t = ends_alike (suc m) (suc n) xs ys at (leb-true end at s)
+      go false s None t =
           let l = leb-false end at s in
-          let z = sym (eqb-true (size_at byte at end) 0 t) in
-          ap is_read (stops m xs (λ e. omega arith) z) ∙ sym (ap is_read (stops n ys (λ e. omega arith) z))
-      go false s false t =
+          ap is_read (stops m xs (λ e. omega arith) (sym t)) ∙ sym (ap is_read (stops n ys (λ e. omega arith) (sym t)))
+      go false s (Some size) t =
           let l = leb-false end at s in
-          let k = stands byte at end refl (eqb-false (size_at byte at end) 0 t) in
-          ap is_read (further m xs (λ e. omega arith) k) ∙ ih (size_at byte at end) (omega (arith, k.is)) ∙ sym (ap is_read (further n ys (λ e. omega arith) k))
+          let k = stands byte at end (sym t) in
+          ap is_read (further m xs (λ e. omega arith) k) ∙ ih size (omega (arith, k.is)) ∙ sym (ap is_read (further n ys (λ e. omega arith) k))
 
   -- whether code is read does not depend on what was read before it, nor on how many instructions are allowed, if they are as many as the bytes
   steady : (m n : ℕ) (xs ys : Code) (at : ℕ) → end ≤ at + m → end ≤ at + n → is_read (read m xs at) ≡ is_read (read n ys at)
@@ -125,11 +124,11 @@ module _ (byte : ℕ → ℕ) (end : ℕ) where
       goes_alike m n xs ys at (λ size l. steady m n (instr_at byte at ∷ xs) (instr_at byte at ∷ ys) (at + size) (omega arith) (omega arith))
 
   -- code that decodes is read up to the end
-  pub decoded_whole : (start : ℕ) → is_code byte end start ≡ true → (len : ℕ) → end ≤ start + len → Next end ≡ item (read_code byte len start end)
+  pub decoded_whole : (start : ℕ) → is_code byte end start ≡ true → (len : ℕ) → end ≤ start + len → Ok end ≡ item (read_code byte len start end)
   decoded_whole start t len h = go (read_code byte len start end) refl (steady len (end - start) [] [] start h (omega arith) ∙ t)
     where
-      go : (d : Decoded Code) → read_code byte len start end ≡ d → is_read d ≡ true → Next end ≡ item d
-      go (decoded xs n) e r = ap Next (sym (ended (read_instr byte) end len [] start e).ends)
+      go : (d : Decoded Code) → read_code byte len start end ≡ d → is_read d ≡ true → Ok end ≡ item d
+      go (decoded xs n) e r = ap Ok (sym (ended (read_instr byte) end len [] start e).ends)
       go (malformed p) e r = let z : ◌≡◌ {A = ℕ} 0 1 = cc in absurd (omega arith)
 
   -- what follows the instruction at an offset decides
@@ -141,7 +140,7 @@ module _ (byte : ℕ → ℕ) (end : ℕ) where
 
       go : (b : Bool) → whole byte at end ≡ b → is_read (read (suc (end - at - 1)) [] at) ≡ pick b (is_code byte end (at + 1 + width (byte at))) false
       go true t =
-          let k : Stands byte at end (1 + width (byte at)) = stands byte at end (rw t) (λ e. omega arith) in
+          let k : Stands byte at end (1 + width (byte at)) = stands byte at end (rw t) in
           ap is_read (further (end - at - 1) [] (λ e. omega arith) k)
           ∙ ap (λ (p : ℕ). is_read (read (end - at - 1) (instr_at byte at ∷ []) p)) (omega arith)
           ∙ steady (end - at - 1) (end - (at + 1 + width (byte at))) (instr_at byte at ∷ []) [] (at + 1 + width (byte at)) (omega arith) (omega arith)

@@ -13,20 +13,27 @@ use Rattle.definition.specs.Decode.{Decoded, decoded, malformed, then, read_code
 use Rattle.bytecode.specs.declared.Form.{Form}
 use Rattle.bytecode.specs.declared.Form.TheVariants.{Plain, Chin}
 use Rattle.bytecode.specs.Form.{tag_function_in}
-use Rattle.bytecode.specs.declared.Item.TheVariants.{Next}
-use Rattle.bytecode.specs.declared.Checked.{Checked}
-use Rattle.bytecode.specs.declared.Checked.TheVariants.{Good, Wrong}
+use Rattle.std.specs.Prelude.{Result, Ok, Err}
+use Rattle.bytecode.specs.declared.field_head.Head.{Head as Found}
+use Rattle.bytecode.specs.declared.item_check.Items.{Items}
+use Rattle.bytecode.specs.declared.Malformed.{Malformed}
 use Rattle.bytecode.specs.Checked.{head_of, is_constant, item, checked}
 
 -- what an answer of items says of the reading
-pub checked_good : {A : Type 0} (d : Decoded (List A)) {r : Checked} {k n : ℕ} → r ≡ checked d → r ≡ Good k n
-    → (xs : List A) × (d ≡ decoded xs n) × (length xs ≡ k)
-checked_good (decoded xs m) {r} {k} {n} e w = (xs, ap (decoded xs) (cc), cc)
-checked_good (malformed p) e w = let z : ◌≡◌ {A = ℕ} 0 1 = cc in absurd (omega arith)
+pub checked_good : {A : Type 0} (d : Decoded (List A)) {r : Result Items Malformed} {v : Items} → r ≡ checked d → r ≡ Ok v
+    → (xs : List A) × (d ≡ decoded xs v.end) × (length xs ≡ v.count)
+checked_good (decoded xs m) {r} {v} e w =
+    let i : ◌≡◌ {A = Result Items Malformed} (Ok (record { count = length xs; end = m })) (Ok v) = cc in
+    let j : record { count = length xs; end = m } ≡ v = cc in
+    (xs, ap (λ (x : Items). decoded xs x.end) j, ap (λ (x : Items). x.count) j)
+checked_good (malformed p) e w = cc
 
-pub checked_wrong : {A : Type 0} (d : Decoded (List A)) {r : Checked} {p : ℕ} → r ≡ checked d → r ≡ Wrong p → d ≡ malformed p
-checked_wrong (decoded xs m) e w = let z : ◌≡◌ {A = ℕ} 0 1 = cc in absurd (omega arith)
-checked_wrong (malformed q) e w = ap malformed (cc)
+pub checked_wrong : {A : Type 0} (d : Decoded (List A)) {r : Result Items Malformed} {x : Malformed} → r ≡ checked d → r ≡ Err x → d ≡ malformed x.place
+checked_wrong (decoded xs m) e w = cc
+checked_wrong (malformed q) {r} {x} e w =
+    let i : ◌≡◌ {A = Result Items Malformed} (Err (record { place = q })) (Err x) = cc in
+    let j : record { place = q } ≡ x = cc in
+    ap (λ (y : Malformed). malformed y.place) j
 
 -- a function's tag is no other constant's
 pub not_integer : (f : Form) → tag_function_in f ≡ tag_integer_const → ⊥
@@ -37,40 +44,40 @@ pub not_string : (f : Form) → tag_function_in f ≡ tag_string_const → ⊥
 not_string Plain e = omega arith
 not_string Chin e = omega arith
 
-module _ (f : Form) (byte : ℕ → ℕ) (in₀ tag len : ℕ) (good : is_constant f (head_of tag len) ≡ true) where
+module _ (f : Form) (byte : ℕ → ℕ) (in₀ : ℕ) (h : Found) (good : is_constant f (head_of h) ≡ true) where
   -- an integer or a string
-  pub plain_constant : (tag ≡ tag_function_in f → ⊥) → item (read_content byte (head_of tag len) in₀) ≡ Next (in₀ + len)
-  plain_constant n = go (eqb tag tag_integer_const) refl (eqb tag tag_string_const) refl
+  pub plain_constant : (h.tag ≡ tag_function_in f → ⊥) → item (read_content byte (head_of h) in₀) ≡ Ok (in₀ + h.len)
+  plain_constant n = go (eqb h.tag tag_integer_const) refl (eqb h.tag tag_string_const) refl
     where
-      go : (a : Bool) → eqb tag tag_integer_const ≡ a → (b : Bool) → eqb tag tag_string_const ≡ b
-          → item (read_content byte (head_of tag len) in₀) ≡ Next (in₀ + len)
+      go : (a : Bool) → eqb h.tag tag_integer_const ≡ a → (b : Bool) → eqb h.tag tag_string_const ≡ b
+          → item (read_content byte (head_of h) in₀) ≡ Ok (in₀ + h.len)
       go true s b t = rw s
       go false s true t = rw (s, t)
       go false s false t =
-          let z : false ≡ true = rw (s, t, ne_eqb tag (tag_function_in f) n) at good in
+          let z : false ≡ true = rw (s, t, ne_eqb h.tag (tag_function_in f) n) at good in
           let y : ◌≡◌ {A = ℕ} 0 1 = cc in
           absurd (omega arith)
 
-  module _ (is : tag ≡ tag_function_in f) where
-    not_tag : (t : ℕ) → (tag_function_in f ≡ t → ⊥) → eqb tag t ≡ false
-    not_tag t n = ne_eqb tag t (λ e. n (sym is ∙ e))
+  module _ (is : h.tag ≡ tag_function_in f) where
+    not_tag : (t : ℕ) → (tag_function_in f ≡ t → ⊥) → eqb h.tag t ≡ false
+    not_tag t n = ne_eqb h.tag t (λ e. n (sym is ∙ e))
 
-    integer_not : eqb tag tag_integer_const ≡ false
+    integer_not : eqb h.tag tag_integer_const ≡ false
     integer_not = not_tag tag_integer_const (not_integer f)
 
-    string_not : eqb tag tag_string_const ≡ false
+    string_not : eqb h.tag tag_string_const ≡ false
     string_not = not_tag tag_string_const (not_string f)
 
     -- a function has at least its three numbers
-    pub function_long : 3 ≤ len
-    function_long = leb-true 3 len (rw (integer_not, string_not, eq-eqb tag (tag_function_in f) is) at good)
+    pub function_long : 3 ≤ h.len
+    function_long = leb-true 3 h.len (rw (integer_not, string_not, eq-eqb h.tag (tag_function_in f) is) at good)
 
-    is_function : read_content byte (head_of tag len) in₀ ≡ read_function byte in₀ len
+    is_function : read_content byte (head_of h) in₀ ≡ read_function byte in₀ h.len
     is_function = rw (integer_not, string_not)
 
     -- its code decides
-    pub function_item : item (read_code byte len (in₀ + 3) (in₀ + len)) ≡ item (read_content byte (head_of tag len) in₀)
-    function_item = kept (read_code byte len (in₀ + 3) (in₀ + len)) ∙ sym (ap item is_function)
+    pub function_item : item (read_code byte h.len (in₀ + 3) (in₀ + h.len)) ≡ item (read_content byte (head_of h) in₀)
+    function_item = kept (read_code byte h.len (in₀ + 3) (in₀ + h.len)) ∙ sym (ap item is_function)
       where
         kept : (d : Decoded Code) → item d ≡ item (then d (λ c. decoded (Const.function (byte in₀ * 256 + byte (in₀ + 1)) (byte (in₀ + 2)) c)))
         kept (decoded c n) = refl

@@ -14,8 +14,8 @@ use Rattle.definition.specs.Decode.{Decoded, decoded, malformed, then, read_head
 use Rattle.bytecode.specs.declared.Form.{Form}
 use Rattle.bytecode.specs.declared.Form.TheVariants.{Plain}
 use Rattle.bytecode.specs.Form.{const_head_in, read_const_in}
-use Rattle.bytecode.specs.declared.Item.{Item}
-use Rattle.bytecode.specs.declared.Item.TheVariants.{Next, Wrong as WrongItem}
+use Rattle.std.specs.Prelude.{Result, Ok, Err}
+use Rattle.bytecode.specs.declared.Malformed.{Malformed}
 use Rattle.bytecode.specs.Checked.{item, constants, constants_in, name_fields}
 use Rattle.bytecode.proofs.Heads.{both_true}
 use Rattle.bytecode.proofs.Items.{unlike, ended}
@@ -41,13 +41,16 @@ abbrev pub main_content : (ℕ → ℕ) → Head → ℕ → Decoded Code
 main_content byte h in₀ = read_code byte h.len in₀ (in₀ + h.len)
 
 -- what an item's answer says of the reading
-pub item_next : {A : Type 0} (d : Decoded A) {r : Item} {n : ℕ} → r ≡ item d → r ≡ Next n → (x : A) × (d ≡ decoded x n)
+pub item_next : {A : Type 0} (d : Decoded A) {r : Result ℕ Malformed} {n : ℕ} → r ≡ item d → r ≡ Ok n → (x : A) × (d ≡ decoded x n)
 item_next (decoded x m) {r} {n} e w = (x, ap (decoded x) (cc))
-item_next (malformed p) e w = let z : ◌≡◌ {A = ℕ} 0 1 = cc in absurd (omega arith)
+item_next (malformed p) e w = cc
 
-pub item_wrong : {A : Type 0} (d : Decoded A) {r : Item} {p : ℕ} → r ≡ item d → r ≡ WrongItem p → d ≡ malformed p
-item_wrong (decoded x m) e w = let z : ◌≡◌ {A = ℕ} 0 1 = cc in absurd (omega arith)
-item_wrong (malformed q) e w = ap malformed (cc)
+pub item_wrong : {A : Type 0} (d : Decoded A) {r : Result ℕ Malformed} {x : Malformed} → r ≡ item d → r ≡ Err x → d ≡ malformed x.place
+item_wrong (decoded y m) e w = cc
+item_wrong (malformed q) {r} {x} e w =
+    let i : ◌≡◌ {A = Result ℕ Malformed} (Err (record { place = q })) (Err x) = cc in
+    let j : record { place = q } ≡ x = cc in
+    ap (λ (y : Malformed). malformed y.place) j
 
 -- what was read in two steps
 pub then_read : {A B : Type 0} (d : Decoded A) {k : A → ℕ → Decoded B} {y : B} {n : ℕ} → then d k ≡ decoded y n

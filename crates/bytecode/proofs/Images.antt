@@ -11,13 +11,12 @@ use Rattle.definition.specs.Decode.{Decoded, decoded, malformed, then, ending, r
 use Rattle.bytecode.specs.declared.Form.{Form}
 use Rattle.bytecode.specs.declared.Form.TheVariants.{Plain}
 use Rattle.bytecode.specs.Form.{read_pool_in, main_head_in, read_in, read_form}
-use Rattle.bytecode.specs.declared.Item.{Item}
-use Rattle.bytecode.specs.declared.Item.TheVariants.{Next, Wrong as WrongItem}
-use Rattle.bytecode.specs.declared.Checked.{Checked}
-use Rattle.bytecode.specs.declared.Checked.TheVariants.{Good, Wrong}
-use Rattle.bytecode.specs.declared.ImageCheck.{ImageCheck}
-use Rattle.bytecode.specs.declared.ImageCheck.TheVariants.{Sound}
-use Rattle.bytecode.specs.Checked.{item, checked, main_code, refused, image_answer}
+use Rattle.std.specs.Prelude.{Result, Ok, Err}
+use Rattle.definition.specs.Number.{refusal, bad_image}
+use Rattle.definition.specs.declared.reason.Refusal.{Refusal}
+use Rattle.bytecode.specs.declared.item_check.Items.{Items}
+use Rattle.bytecode.specs.declared.Malformed.{Malformed}
+use Rattle.bytecode.specs.Checked.{item, checked, main_code, image_answer}
 use Rattle.bytecode.proofs.Items.{ended}
 use Rattle.bytecode.proofs.Fields.{item_next, item_wrong, head_read, main_content}
 use Rattle.bytecode.proofs.Constants.{checked_good, checked_wrong}
@@ -69,26 +68,32 @@ module _ (f : Form) (b : Bytes) where
       unfolding after_main
       image-longer q = image_after ∙ rw (e, ne_eqb n (length b) q)
 
-  -- the same, from what the checks answered
-  module _ {r : Item} (e : r ≡ item (main_code (byte_at b) f (length b))) where
-    pub main_wrong : {p : ℕ} {x : ImageCheck} → r ≡ WrongItem p → x ≡ refused p → x ≡ image_answer (read_form f b)
-    main_wrong w q = q ∙ sym (ap image_answer (image_main_wrong (item_wrong (main_code (byte_at b) f (length b)) e w)))
+  -- an image that is refused with number 17 there
+  abbrev pub refused : ℕ → Result ℕ Refusal
+  refused p = Err (refusal bad_image p)
 
-    module _ {at : ℕ} (w : r ≡ Next at) where
+  -- the same, from what the checks answered
+  module _ {r : Result ℕ Malformed} (e : r ≡ item (main_code (byte_at b) f (length b))) where
+    pub main_wrong : {x : Malformed} → r ≡ Err x → refused x.place ≡ image_answer (read_form f b)
+    main_wrong w = sym (ap image_answer (image_main_wrong (item_wrong (main_code (byte_at b) f (length b)) e w)))
+
+    module _ {at : ℕ} (w : r ≡ Ok at) where
       main_read : (c : Code) × (main_code (byte_at b) f (length b) ≡ decoded c at)
       main_read = item_next (main_code (byte_at b) f (length b)) e w
 
       pub main_within : at ≤ length b
       main_within = main_ends main_read.1
 
-      module _ {s : Checked} (g : s ≡ checked (read_pool_in f (byte_at b) at (length b))) where
-        pub pool_wrong : {p : ℕ} {x : ImageCheck} → s ≡ Wrong p → x ≡ refused p → x ≡ image_answer (read_form f b)
-        pool_wrong v q = q ∙ sym (ap image_answer (image-pool_wrong main_read.1 (checked_wrong (read_pool_in f (byte_at b) at (length b)) g v)))
+      module _ {s : Result Items Malformed} (g : s ≡ checked (read_pool_in f (byte_at b) at (length b))) where
+        pub pool_wrong : {x : Malformed} → s ≡ Err x → refused x.place ≡ image_answer (read_form f b)
+        pool_wrong v = sym (ap image_answer (image-pool_wrong main_read.1 (checked_wrong (read_pool_in f (byte_at b) at (length b)) g v)))
 
-        pub image_ends : {j next : ℕ} → s ≡ Good j next → next ≡ length b → Sound j ≡ image_answer (read_form f b)
-        image_ends v q =
-            let h = checked_good (read_pool_in f (byte_at b) at (length b)) g v in
-            sym (ap image_answer (image-whole main_read.1 h.1 q) ∙ ap Sound h.2)
+        module _ {v : Items} (j : s ≡ Ok v) where
+          pool_read : (cs : List Const) × (read_pool_in f (byte_at b) at (length b) ≡ decoded cs v.end) × (length cs ≡ v.count)
+          pool_read = checked_good (read_pool_in f (byte_at b) at (length b)) g j
 
-        pub image_follows : {j next : ℕ} {x : ImageCheck} → s ≡ Good j next → (next ≡ length b → ⊥) → x ≡ refused next → x ≡ image_answer (read_form f b)
-        image_follows v n q = q ∙ sym (ap image_answer (image-longer main_read.1 (checked_good (read_pool_in f (byte_at b) at (length b)) g v).1 n))
+          pub image_ends : v.end ≡ length b → Ok v.count ≡ image_answer (read_form f b)
+          image_ends q = sym (ap image_answer (image-whole main_read.1 pool_read.1 q) ∙ ap (λ (n : ℕ). Ok n) pool_read.2)
+
+          pub image_follows : (v.end ≡ length b → ⊥) → refused v.end ≡ image_answer (read_form f b)
+          image_follows n = sym (ap image_answer (image-longer main_read.1 pool_read.1 n))

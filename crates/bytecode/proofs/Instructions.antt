@@ -9,9 +9,9 @@ use Rattle.definition.specs.Decode.{decoded, malformed, read_instr, read_code}
 use Rattle.definition.proofs.Instructions.{code-count}
 use Rattle.opcode.specs.Decoding.{size_at}
 use Rattle.opcode.proofs.Decoding.{stands, read_next, read_none}
-use Rattle.bytecode.specs.declared.Item.{Item}
-use Rattle.bytecode.specs.declared.Item.TheVariants.{Next, Wrong}
-use Rattle.bytecode.specs.Checked.{item}
+use Rattle.std.specs.Prelude.{Some, None, Result, Ok}
+use Rattle.bytecode.specs.declared.Malformed.{Malformed}
+use Rattle.bytecode.specs.Checked.{item, wrong as wrongAt}
 use Rattle.bytecode.proofs.Items.{Reading, begin, ends, wrong, again}
 
 module _ (byte : ℕ → ℕ) (start end : ℕ) where
@@ -28,14 +28,14 @@ module _ (byte : ℕ → ℕ) (start end : ℕ) where
     pub reads_end : end ≤ at → (len : ℕ) → end ≤ start + len → read_code byte len start end ≡ decoded code at
     reads_end e len l = ends (read_instr byte) end (h.reading len l) (omega (arith, h.order))
 
-    module _ {size : ℕ} (b : at < end) (e : size ≡ size_at byte at end) where
-      pub reads_wrong : size ≡ 0 → (len : ℕ) → end ≤ start + len → read_code byte len start end ≡ malformed at
-      reads_wrong z len l =
-          wrong (read_instr byte) end (h.reading len l) (λ i. omega arith) (omega (arith, h.sized, code-count code)) (read_none byte at end e z)
+    module _ (b : at < end) where
+      pub reads_wrong : None ≡ size_at byte at end → (len : ℕ) → end ≤ start + len → read_code byte len start end ≡ malformed at
+      reads_wrong e len l =
+          wrong (read_instr byte) end (h.reading len l) (λ i. omega arith) (omega (arith, h.sized, code-count code)) (read_none byte at end e)
 
-      pub reads_again : (size ≡ 0 → ⊥) → CodeRead (at + size) (instr_at byte at ∷ code)
-      reads_again n =
-          let k = stands byte at end e n in
+      pub reads_again : {size : ℕ} → Some size ≡ size_at byte at end → CodeRead (at + size) (instr_at byte at ∷ code)
+      reads_again e =
+          let k = stands byte at end e in
           record {
             order = k.within;
             sized = omega (arith, k.is, h.sized);
@@ -44,7 +44,7 @@ module _ (byte : ℕ → ℕ) (start end : ℕ) where
           }
 
   -- what is answered is what is read, however many instructions are allowed, if they are as many as the bytes
-  abbrev pub Answers : Item → Type 0
+  abbrev pub Answers : Result ℕ Malformed → Type 0
   Answers r = (len : ℕ) → end ≤ start + len → r ≡ item (read_code byte len start end)
 
   -- the loop at an offset
@@ -56,15 +56,16 @@ module _ (byte : ℕ → ℕ) (start end : ℕ) where
   code-begins h = record { code = []; read = reads_begin h }
 
   module _ {at : ℕ} (h : CodeLoop at) where
-    pub code_ends : end ≤ at → Answers (Next at)
+    pub code_ends : end ≤ at → Answers (Ok at)
     code_ends e len l = sym (ap item (reads_end h.read e len l))
 
-    module _ {size : ℕ} (b : at < end) (e : size ≡ size_at byte at end) where
-      pub code_wrong : size ≡ 0 → Answers (Wrong at)
-      code_wrong z len l = sym (ap item (reads_wrong h.read b e z len l))
+    module _ (b : at < end) where
+      pub code_wrong : None ≡ size_at byte at end → Answers (wrongAt at)
+      code_wrong e len l = sym (ap item (reads_wrong h.read b e len l))
 
-      pub code_next : (size ≡ 0 → ⊥) → at + size ≤ end
-      code_next n = (stands byte at end e n).within
+      module _ {size : ℕ} (e : Some size ≡ size_at byte at end) where
+        pub code_next : (0 < size) × (at + size ≤ end)
+        code_next = let k = stands byte at end e in (omega (arith, k.is), k.within)
 
-      pub code_again : (size ≡ 0 → ⊥) → CodeLoop (at + size)
-      code_again n = record { code = instr_at byte at ∷ h.code; read = reads_again h.read b e n }
+        pub code_again : CodeLoop (at + size)
+        code_again = record { code = instr_at byte at ∷ h.code; read = reads_again h.read b e }

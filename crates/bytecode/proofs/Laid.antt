@@ -14,7 +14,7 @@ use Rattle.definition.specs.Bytecode.{Const}
 use Rattle.definition.specs.Session.{Words, Session}
 use Rattle.definition.specs.Decode.{Decoded, decoded, malformed, then, items, all_zero, pool_head, read_const, read_name_field, read_words, read_names, read_front, read_pool, read_session}
 use Rattle.bytecode.specs.declared.SessionLayout.{SessionLayout}
-use Rattle.bytecode.specs.declared.Layout.TheVariants.{Sound}
+use Rattle.std.specs.Prelude.{Some}
 use Rattle.bytecode.specs.Checked.{layout, layout_of}
 use Rattle.bytecode.specs.Layout.{LaidOut}
 use Rattle.bytecode.proofs.Heads.{both_true}
@@ -94,11 +94,11 @@ module _ (b : Bytes) where
       }
 
   -- the layout that is answered is that of the session that the bytes hold
-  pub laid : {l : SessionLayout} → Sound l ≡ layout_of b → LaidOut b l
+  pub laid : {l : SessionLayout} → Some l ≡ layout_of b → LaidOut b l
   laid {l} e = go (read_words (byte_at b) 0 (length b)) refl (read_front (byte_at b) 0 (length b)) refl (read_session b) refl e
     where
       go : (v : Decoded Words) → read_words (byte_at b) 0 (length b) ≡ v → (x : Decoded (Words × List Bytes)) → read_front (byte_at b) 0 (length b) ≡ x → (y : Decoded Session) → read_session b ≡ y
-          → Sound l ≡ layout v x y → LaidOut b l
+          → Some l ≡ layout v x y → LaidOut b l
       go (decoded w k) o (decoded f at) p (decoded z n) q j =
           let i : record { words_end = k; names_end = at; pool_end = n; names = length z.globals; constants = length z.pool } ≡ l = cc in
           subst (λ (m : SessionLayout). LaidOut b m) i (laid_out w k f at z n o p q)

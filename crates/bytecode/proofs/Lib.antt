@@ -2,6 +2,7 @@ pub mod Items
 pub mod Heads
 pub mod Fields
 pub mod Limited
+pub mod Counted
 pub mod Backward
 pub mod Instructions
 pub mod Constants

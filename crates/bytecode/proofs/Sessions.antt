@@ -16,16 +16,24 @@ use Rattle.definition.specs.Bytecode.{Const}
 use Rattle.definition.specs.SymbolTable.{distinct}
 use Rattle.definition.specs.Session.{Words, six, listed, Session}
 use Rattle.definition.specs.Decode.{Decoded, decoded, malformed, then, all_zero, as_words, pool_head, read_const, read_name_field, read_name_fields, read_words, read_names, read_front, read_pool, read_session}
-use Rattle.bytecode.specs.declared.Item.{Item}
-use Rattle.bytecode.specs.declared.Item.TheVariants.{Next, Wrong as WrongItem}
-use Rattle.bytecode.specs.declared.Checked.{Checked}
-use Rattle.bytecode.specs.declared.Checked.TheVariants.{Good, Wrong}
-use Rattle.bytecode.specs.declared.Layout.{Layout}
-use Rattle.bytecode.specs.declared.Layout.TheVariants.{Sound, Broken}
+use Rattle.std.specs.Prelude.{Option, Some, None, Result, Ok, Err}
+use Rattle.std.specs.Result.{result_ok}
+use Rattle.bytecode.specs.declared.item_check.Items.{Items}
+use Rattle.bytecode.specs.declared.Malformed.{Malformed}
+use Rattle.bytecode.specs.declared.SessionLayout.{SessionLayout}
 use Rattle.bytecode.specs.Checked.{item, checked, layout, layout_of, layout_answer, session_answer, WordsEnd, LaysOut}
 use Rattle.bytecode.proofs.Items.{unlike, ended}
 use Rattle.bytecode.proofs.Fields.{item_next, item_wrong, then_read, head_read, names_content, pool_content}
 use Rattle.bytecode.proofs.Constants.{checked_good, checked_wrong}
+
+-- what a result was whose value was taken
+pub was_ok : {T E : Type 0} (r : Result T E) {x : T} → Some x ≡ result_ok r → r ≡ Ok x
+was_ok (Ok y) e = ap (λ (z : _). Ok z) (sym (cc))
+was_ok (Err y) e = cc
+
+pub was_err : {T E : Type 0} (r : Result T E) → None ≡ result_ok r → (x : E) × (r ≡ Err x)
+was_err (Ok y) e = cc
+was_err (Err y) e = (y, refl)
 
 module _ (b : Bytes) where
   -- what follows the words
@@ -42,7 +50,7 @@ module _ (b : Bytes) where
   session_is = refl
 
   -- the layout, by what is read of the words
-  abbrev from_words : Decoded Words → Layout
+  abbrev from_words : Decoded Words → Option SessionLayout
   from_words x = layout x (then x after_words) (then (then x after_words) after_front)
 
   layout_is : layout_of b ≡ from_words (read_words (byte_at b) 0 (length b))
@@ -65,15 +73,15 @@ module _ (b : Bytes) where
       go (malformed p) = refl
 
   -- a layout that is the definition's keeps the promise
-  pub lays_out : {r : Layout} → r ≡ layout_of b → LaysOut b r
+  pub lays_out : {r : Option SessionLayout} → r ≡ layout_of b → LaysOut b r
   lays_out e = record { layout = e; answer = ap layout_answer e ∙ layout-answer }
 
   -- words that are wrong
-  pub words_wrong : {r : Item} {p : ℕ} → r ≡ item (read_words (byte_at b) 0 (length b)) → r ≡ WrongItem p → Broken ≡ layout_of b
+  pub words_wrong : {r : Result ℕ Malformed} {x : Malformed} → r ≡ item (read_words (byte_at b) 0 (length b)) → r ≡ Err x → None ≡ layout_of b
   words_wrong e w = sym (layout_is ∙ ap from_words (item_wrong (read_words (byte_at b) 0 (length b)) e w))
 
   -- words that are read
-  pub words_good : {r : Item} {k : ℕ} → r ≡ item (read_words (byte_at b) 0 (length b)) → r ≡ Next k → WordsEnd b k
+  pub words_good : {r : Result ℕ Malformed} {k : ℕ} → r ≡ item (read_words (byte_at b) 0 (length b)) → r ≡ Ok k → WordsEnd b k
   words_good e w = let x = item_next (read_words (byte_at b) 0 (length b)) e w in record { words = x.0; reads = x.1 }
 
   -- a field of names that is read ends within the bytes
@@ -98,50 +106,50 @@ module _ (b : Bytes) where
           omega (arith, fields_within tag_words words_limit 0 t.2)
       go false e = let m : ◌≡◌ {A = ℕ} 0 k = cc in omega arith
 
-  module _ {k : ℕ} (x : WordsEnd b k) {r : Checked} (e : r ≡ checked (read_names (byte_at b) k (length b))) where
+  module _ {k : ℕ} (x : WordsEnd b k) {r : Result Items Malformed} (e : r ≡ checked (read_names (byte_at b) k (length b))) where
     -- the layout behind the words
     behind : layout_of b ≡ from_words (decoded x.words k)
     behind = layout_is ∙ ap from_words x.reads
 
-    abbrev from_names : Decoded (List Bytes) → Layout
+    abbrev from_names : Decoded (List Bytes) → Option SessionLayout
     from_names d = let f : Decoded (Words × List Bytes) = then d (λ ns. decoded (x.words, ns)) in layout (decoded x.words k) f (then f after_front)
 
-    pub names_wrong : {p : ℕ} → r ≡ Wrong p → Broken ≡ layout_of b
+    pub names_wrong : {x : Malformed} → r ≡ Err x → None ≡ layout_of b
     names_wrong w = sym (behind ∙ ap from_names (checked_wrong (read_names (byte_at b) k (length b)) e w))
 
-    module _ {j at : ℕ} (w : r ≡ Good j at) where
-      names-read : (ns : List Bytes) × (read_names (byte_at b) k (length b) ≡ decoded ns at) × (length ns ≡ j)
+    module _ {v : Items} (w : r ≡ Ok v) where
+      names-read : (ns : List Bytes) × (read_names (byte_at b) k (length b) ≡ decoded ns v.end) × (length ns ≡ v.count)
       names-read = checked_good (read_names (byte_at b) k (length b)) e w
 
-      pub names_within : at ≤ length b
+      pub names_within : v.end ≤ length b
       names_within = fields_within tag_names globals_limit k names-read.1
 
-      layout_after : layout_of b ≡ layout (decoded x.words k) (decoded (x.words, names-read.0) at) (after_front (x.words, names-read.0) at)
+      layout_after : layout_of b ≡ layout (decoded x.words k) (decoded (x.words, names-read.0) v.end) (after_front (x.words, names-read.0) v.end)
       layout_after = behind ∙ ap from_names names-read.1
 
-      module _ {s : Checked} (f : s ≡ checked (read_pool (byte_at b) at (length b))) where
-        pub pool_broken : {p : ℕ} → s ≡ Wrong p → Broken ≡ layout_of b
+      module _ {s : Result Items Malformed} (f : s ≡ checked (read_pool (byte_at b) v.end (length b))) where
+        pub pool_broken : {x : Malformed} → s ≡ Err x → None ≡ layout_of b
         unfolding after_front
-        pool_broken v = sym (layout_after ∙ rw (checked_wrong (read_pool (byte_at b) at (length b)) f v))
+        pool_broken p = sym (layout_after ∙ rw (checked_wrong (read_pool (byte_at b) v.end (length b)) f p))
 
-        module _ {i next : ℕ} (v : s ≡ Good i next) where
-          pool_is : (cs : List Const) × (read_pool (byte_at b) at (length b) ≡ decoded cs next) × (length cs ≡ i)
-          pool_is = checked_good (read_pool (byte_at b) at (length b)) f v
+        module _ {u : Items} (q : s ≡ Ok u) where
+          pool_is : (cs : List Const) × (read_pool (byte_at b) v.end (length b) ≡ decoded cs u.end) × (length cs ≡ u.count)
+          pool_is = checked_good (read_pool (byte_at b) v.end (length b)) f q
 
-          pub pool_within : next ≤ length b
+          pub pool_within : u.end ≤ length b
           pool_within =
-              let h = head_read (byte_at b) at (length b) (pool_head (byte_at b)) (pool_content (byte_at b)) pool_is.1 in
+              let h = head_read (byte_at b) v.end (length b) (pool_head (byte_at b)) (pool_content (byte_at b)) pool_is.1 in
               let m = ended (read_const (byte_at b)) _ _ [] _ h.1 in
               omega (arith, h.0.within, m.ends)
 
-          tail_is : {z : Bool} → z ≡ all_zero (take (length b - next) (drop next b)) → all_zero (drop next b) ≡ z
-          tail_is t = sym (t ∙ ap all_zero (take_all (length b - next) (drop next b) (le_of_eq (length-drop next b))))
+          tail_is : {z : Bool} → z ≡ all_zero (take (length b - u.end) (drop u.end b)) → all_zero (drop u.end b) ≡ z
+          tail_is t = sym (t ∙ ap all_zero (take_all (length b - u.end) (drop u.end b) (le_of_eq (length-drop u.end b))))
 
-          module _ {z : Bool} (t : z ≡ all_zero (take (length b - next) (drop next b))) where
-            pub tail_broken : z ≡ false → Broken ≡ layout_of b
+          module _ {z : Bool} (t : z ≡ all_zero (take (length b - u.end) (drop u.end b))) where
+            pub tail_broken : z ≡ false → None ≡ layout_of b
             unfolding after_front
-            tail_broken q = sym (layout_after ∙ rw (pool_is.1, tail_is t, q))
+            tail_broken y = sym (layout_after ∙ rw (pool_is.1, tail_is t, y))
 
-            pub layout_sound : z ≡ true → Sound (record { words_end = k; names_end = at; pool_end = next; names = j; constants = i }) ≡ layout_of b
+            pub layout_sound : z ≡ true → Some (record { words_end = k; names_end = v.end; pool_end = u.end; names = v.count; constants = u.count }) ≡ layout_of b
             unfolding after_front
-            layout_sound q = sym (layout_after ∙ rw (pool_is.1, tail_is t, q, names-read.2, pool_is.2))
+            layout_sound y = sym (layout_after ∙ rw (pool_is.1, tail_is t, y, names-read.2, pool_is.2))

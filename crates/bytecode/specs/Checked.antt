@@ -1,5 +1,5 @@
 -- What the checks of code, constants, images and sessions answer, from what the definition reads.
-use Rattle.std.specs.Prelude.{ℕ, ◌+◌, ◌-◌, ◌≤◌, Bool, true, false, List, [], ◌≡◌, length}
+use Rattle.std.specs.Prelude.{ℕ, zero, suc, ◌+◌, ◌-◌, ◌≤◌, Bool, true, false, List, [], ◌≡◌, length, eqb, Option, Some, None, Result, Ok, Err}
 use Rattle.definition.specs.Basic.{Bytes, byte_at, pick, both}
 use Rattle.definition.specs.Limit.{constants_limit}
 use Rattle.definition.specs.Number.{refusal, no_session, bad_image}
@@ -9,18 +9,12 @@ use Rattle.definition.specs.Session.{Words, Session}
 use Rattle.definition.specs.Decode.{Decoded, decoded, malformed, then, items, all_zero, read_head, pool_head, read_code, read_const, read_name_field, read_words, read_front, read_session}
 use Rattle.bytecode.specs.Form.{const_head_in, read_const_in, main_head_in}
 use Rattle.bytecode.specs.declared.Form.{Form}
-use Rattle.definition.specs.declared.Answer.{Answer}
-use Rattle.definition.specs.declared.Answer.TheVariants.{Length, Refused as RefusedAnswer}
-use Rattle.bytecode.specs.declared.FieldHead.{FieldHead}
-use Rattle.bytecode.specs.declared.FieldHead.TheVariants.{Whole, Cut}
-use Rattle.bytecode.specs.declared.Item.{Item}
-use Rattle.bytecode.specs.declared.Item.TheVariants.{Next, Wrong as WrongItem}
-use Rattle.bytecode.specs.declared.Checked.{Checked}
-use Rattle.bytecode.specs.declared.Checked.TheVariants.{Good, Wrong}
-use Rattle.bytecode.specs.declared.ImageCheck.{ImageCheck}
-use Rattle.bytecode.specs.declared.ImageCheck.TheVariants.{Sound, Refused}
-use Rattle.bytecode.specs.declared.Layout.{Layout}
-use Rattle.bytecode.specs.declared.Layout.TheVariants.{Sound as Laid, Broken}
+use Rattle.definition.specs.declared.reason.Refusal.{Refusal}
+use Rattle.definition.specs.Answer.{Answer}
+use Rattle.bytecode.specs.declared.field_head.Head.{Head as Found}
+use Rattle.bytecode.specs.declared.item_check.Items.{Items}
+use Rattle.bytecode.specs.declared.Malformed.{Malformed}
+use Rattle.bytecode.specs.declared.SessionLayout.{SessionLayout}
 
 -- a part of the bytes
 pub record Part (b : Bytes) (at end : ℕ) : Type 0 where
@@ -37,9 +31,12 @@ pub record Alike (a b c d : Bytes) : Type 0 where
 abbrev pub four_zero : Bytes → Bytes → Bytes → Bytes → Bool
 four_zero a b c d = both (all_zero a) (both (all_zero b) (both (all_zero c) (all_zero d)))
 
--- a head of a tag and a content length
-abbrev pub head_of : ℕ → ℕ → Head
-head_of t n = record { tag = t; len = n }
+-- a head of the code as one of the definition, and back
+abbrev pub head_of : Found → Head
+head_of h = record { tag = h.tag; len = h.len }
+
+abbrev pub found_head : Head → Found
+found_head h = record { tag = h.tag; len = h.len }
 
 -- the tests of a head, which look at no other byte
 abbrev pub is_constant : Form → Head → Bool
@@ -55,18 +52,41 @@ abbrev pub is_name : Head → Bool
 is_name = name_head 1
 
 -- the head of a field that stands whole before `end`
-abbrev pub head_answer : (ℕ → ℕ) → ℕ → ℕ → FieldHead
-head_answer byte at end = pick (fits at end (head byte at)) (Whole (head byte at).tag (head byte at).len) Cut
+abbrev pub head_answer : (ℕ → ℕ) → ℕ → ℕ → Option Found
+head_answer byte at end = pick (fits at end (head byte at)) (Some (found_head (head byte at))) None
 
--- an item: the offset after it, or that of what is wrong
-abbrev pub item : {A : Type 0} → Decoded A → Item
-item (decoded x n) = Next n
-item (malformed p) = WrongItem p
+-- something is wrong at an offset
+abbrev pub wrong : {A : Type 0} → ℕ → Result A Malformed
+wrong p = Err (record { place = p })
 
--- items: how many, and the offset after them, or that of what is wrong
-abbrev pub checked : {A : Type 0} → Decoded (List A) → Checked
-checked (decoded xs n) = Good (length xs) n
-checked (malformed p) = Wrong p
+-- a head that was read
+abbrev pub found : Decoded Head → Result Found Malformed
+found (decoded h n) = Ok (found_head h)
+found (malformed p) = wrong p
+
+-- an item: the offset after it
+abbrev pub item : {A : Type 0} → Decoded A → Result ℕ Malformed
+item (decoded x n) = Ok n
+item (malformed p) = wrong p
+
+-- so many items, and the offset after them
+abbrev pub filled : ℕ → ℕ → Result Items Malformed
+filled k n = Ok (record { count = k; end = n })
+
+-- items: how many, and the offset after them
+abbrev pub checked : {A : Type 0} → Decoded (List A) → Result Items Malformed
+checked (decoded xs n) = filled (length xs) n
+checked (malformed p) = wrong p
+
+-- where an item was read, what follows
+abbrev pub behind : {A : Type 0} → Result ℕ Malformed → (ℕ → Result A Malformed) → Result A Malformed
+behind (Ok n) k = k n
+behind (Err e) k = Err e
+
+-- items up to the end behind so many others, at most so many more, by the offset after each
+unfoldable pub counted : (ℕ → Result ℕ Malformed) → ℕ → ℕ → ℕ → ℕ → Result Items Malformed
+counted next end zero count at = pick (eqb at end) (filled count at) (wrong at)
+counted next end (suc most) count at = pick (eqb at end) (filled count at) (behind (next at) (λ at₁. counted next end most (count + 1) at₁))
 
 -- something was read
 abbrev pub is_read : {A : Type 0} → Decoded A → Bool
@@ -95,22 +115,19 @@ module _ (byte : ℕ → ℕ) where
   main_code f n = then (read_head byte (main_head_in f byte) 0 n) (λ h in₀. read_code byte h.len in₀ (in₀ + h.len))
 
 -- an image: how many constants it has; number 17 where something is wrong
-abbrev pub refused : ℕ → ImageCheck
-refused p = Refused (refusal bad_image p)
-
-abbrev pub image_answer : Decoded Image → ImageCheck
-image_answer (decoded m n) = Sound (length m.pool)
-image_answer (malformed p) = refused p
+abbrev pub image_answer : Decoded Image → Result ℕ Refusal
+image_answer (decoded m n) = Ok (length m.pool)
+image_answer (malformed p) = Err (refusal bad_image p)
 
 -- a session: where the words and the names that were read end, where the pool ends, and how many names and constants there are
-abbrev pub layout : Decoded Words → Decoded (Words × List Bytes) → Decoded Session → Layout
+abbrev pub layout : Decoded Words → Decoded (Words × List Bytes) → Decoded Session → Option SessionLayout
 layout (decoded w k) (decoded f at) (decoded z n) =
-    Laid (record { words_end = k; names_end = at; pool_end = n; names = length z.globals; constants = length z.pool })
-layout (decoded w k) (decoded f at) (malformed p) = Broken
-layout (decoded w k) (malformed q) d = Broken
-layout (malformed q) f d = Broken
+    Some (record { words_end = k; names_end = at; pool_end = n; names = length z.globals; constants = length z.pool })
+layout (decoded w k) (decoded f at) (malformed p) = None
+layout (decoded w k) (malformed q) d = None
+layout (malformed q) f d = None
 
-abbrev pub layout_of : Bytes → Layout
+abbrev pub layout_of : Bytes → Option SessionLayout
 layout_of b = layout (read_words (byte_at b) 0 (length b)) (read_front (byte_at b) 0 (length b)) (read_session b)
 
 -- the words of a session end there
@@ -119,16 +136,16 @@ pub record WordsEnd (b : Bytes) (k : ℕ) : Type 0 where
   pub reads : read_words (byte_at b) 0 (length b) ≡ decoded words k
 
 -- a layout as document 01 numbers it: how many bytes its fields have, or number 2
-abbrev pub layout_answer : Layout → Answer
-layout_answer (Laid l) = Length l.pool_end
-layout_answer Broken = RefusedAnswer (refusal no_session 0)
+abbrev pub layout_answer : Option SessionLayout → Answer
+layout_answer (Some l) = Ok l.pool_end
+layout_answer None = Err (refusal no_session 0)
 
 -- and so what the definition reads
 abbrev pub session_answer : Decoded Session → Answer
-session_answer (decoded z n) = Length n
-session_answer (malformed p) = RefusedAnswer (refusal no_session 0)
+session_answer (decoded z n) = Ok n
+session_answer (malformed p) = Err (refusal no_session 0)
 
 -- reading a session's layout: the definition's, and its number
-pub record LaysOut (b : Bytes) (r : Layout) : Type 0 where
+pub record LaysOut (b : Bytes) (r : Option SessionLayout) : Type 0 where
   pub layout : r ≡ layout_of b
   pub answer : layout_answer r ≡ session_answer (read_session b)

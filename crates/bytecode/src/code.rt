@@ -4,7 +4,7 @@ ghost use Rattle.definition.specs.Basic.{byte_at};
 ghost use Rattle.definition.specs.Decode.{read_code};
 ghost use Rattle.bytecode.specs.Checked.{Part, is_code, item};
 
-use crate::Item;
+use crate::Malformed;
 use field::wide;
 use opcode::{size_at, width};
 
@@ -15,10 +15,8 @@ fn decodes(bytes: &[u8], start: usize, end: usize) -> bool
     requires { Part bytes.now start end }
     ensures { result ≡ is_code (byte_at bytes.now) end start }
 {
-    let mut at = end;
     let mut good: usize = 1;
-    while start < at {
-        at -= 1;
+    for at in (start..end).rev() {
         let behind = wide(width(bytes[at])) % 64;
         good = good % 8 * 2 + (good >> behind) % 2;
     }
@@ -26,20 +24,19 @@ fn decodes(bytes: &[u8], start: usize, end: usize) -> bool
 }
 
 // Check that code decodes from `start` up to `end`; where it does not, its first wrong instruction is looked for.
-pub fn check_code(bytes: &[u8], start: usize, end: usize) -> Item
+pub fn check_code(bytes: &[u8], start: usize, end: usize) -> Result<usize, Malformed>
     requires { Part bytes.now start end }
     ensures { (len : ℕ) → end ≤ start + len → result ≡ item (read_code (byte_at bytes.now) len start end) }
 {
     if decodes(bytes, start, end) {
-        return Item::Next(end);
+        return Ok(end);
     }
     let mut at = start;
     while at < end {
-        let size = size_at(bytes, at, end);
-        if size == 0 {
-            return Item::Wrong(at);
+        match size_at(bytes, at, end) {
+            Some(size) => at += size,
+            None => return Err(Malformed { place: at }),
         }
-        at += size;
     }
-    Item::Next(at)
+    Ok(at)
 }

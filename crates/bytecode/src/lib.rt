@@ -2,18 +2,22 @@
 #![tactic(auto)]
 
 mod code;
+mod field_head;
+mod item_check;
 mod zero;
 
 ghost use Rattle.std.specs.Prelude.{◌≡◌, length};
 ghost use Rattle.definition.specs.Basic.{byte_at};
+ghost use Rattle.definition.specs.Number.{refusal, bad_image};
 ghost use Rattle.definition.specs.Decode.{read_image, read_name_field, read_name_fields, read_words, read_handed};
 ghost use Rattle.bytecode.specs.Form.{tag_main_in, tag_function_in, read_const_in, read_pool_in, read_form};
-ghost use Rattle.bytecode.specs.Checked.{Part, head_of, is_constant, is_pool, is_main, is_name, head_answer, item, checked, constants_in, name_fields, main_code, refused, image_answer, is_read, layout_of, WordsEnd, LaysOut};
+ghost use Rattle.bytecode.specs.Checked.{Part, item, checked, name_fields, main_code, image_answer, is_read, layout_of, WordsEnd, LaysOut};
 
 use code::check_code;
-use definition::{Refusal, limit, number, tag};
-use field::length_at;
+use definition::{Reason, Refusal, limit, tag};
 use field::names::distinct_names;
+pub use field_head::{Head, head_at, head_where};
+use item_check::{Items, check_items};
 use zero::all_zero;
 
 // The tags of the chin unit's main code and functions.
@@ -29,6 +33,7 @@ pub enum Form {
 }
 
 // The tag of main code in a form.
+// Kept: a function for each of the two tags, since one that gives both is no plainer.
 pub fn main_tag(form: Form) -> u8
     ensures { result ≡ tag_main_in form }
 {
@@ -48,32 +53,22 @@ pub fn function_tag(form: Form) -> u8
     }
 }
 
-// A field's tag and content length, where the whole field stands before an end.
+// The offset of the first thing that is wrong.
 #[derive(Clone, Copy)]
-pub enum FieldHead {
-    Whole(u8, usize),
-    Cut,
+pub struct Malformed {
+    pub place: usize,
 }
 
-// What reading one item finds: the offset after it, or that of what is wrong.
-#[derive(Clone, Copy)]
-pub enum Item {
-    Next(usize),
-    Wrong(usize),
-}
+// An image that is wrong there is refused with number 17.
+impl From<Malformed> for Refusal {
+    ghost from_gives = { λ wrong r. r ≡ refusal bad_image wrong.place };
 
-// What reading items finds: how many there are and the offset after them, or the offset of what is wrong.
-#[derive(Clone, Copy)]
-pub enum Checked {
-    Good(usize, usize),
-    Wrong(usize),
-}
-
-// What the check of an image answers: how many constants a sound one has, or its refusal.
-#[derive(Clone, Copy)]
-pub enum ImageCheck {
-    Sound(usize),
-    Refused(Refusal),
+    fn from(wrong: Malformed) -> Refusal {
+        Refusal {
+            reason: Reason::BadImage,
+            place: wrong.place,
+        }
+    }
 }
 
 // Where a session's parts lie: its words end, its names end, its pool ends, and how many names and constants there are.
@@ -86,258 +81,105 @@ pub struct SessionLayout {
     pub constants: usize,
 }
 
-// What reading a session's layout answers.
-#[derive(Clone, Copy)]
-pub enum Layout {
-    Sound(SessionLayout),
-    Broken,
-}
-
-// The head of the field at `at`, if the field stands whole before `end`.
-pub fn head_at(bytes: &[u8], at: usize, end: usize) -> FieldHead
-    requires { Part bytes.now at end }
-    ensures { result ≡ head_answer (byte_at bytes.now) at end }
-{
-    if end - at < 3 {
-        return FieldHead::Cut;
-    }
-    let len = length_at(bytes, at);
-    if end - at - 3 < len {
-        return FieldHead::Cut;
-    }
-    FieldHead::Whole(bytes[at], len)
-}
-
-// Whether a head is a constant's.
-pub fn constant_head(form: Form, tag: u8, len: usize) -> bool
-    ensures { result ≡ is_constant form (head_of tag len) }
-{
-    if tag == tag::INTEGER_CONST {
-        return len == 8;
-    }
-    if tag == tag::STRING_CONST {
-        return true;
-    }
-    if tag != function_tag(form) {
-        return false;
-    }
-    3 <= len
-}
-
-// Check the constant at `at`.
-fn check_constant(bytes: &[u8], at: usize, end: usize, form: Form) -> Item
+// Check the constant at `at`: the offset after it.
+fn check_constant(bytes: &[u8], at: usize, end: usize, form: Form) -> Result<usize, Malformed>
     requires { Part bytes.now at end }
     ensures { result ≡ item (read_const_in form (byte_at bytes.now) at end) }
 {
-    match head_at(bytes, at, end) {
-        FieldHead::Cut => Item::Wrong(at),
-        FieldHead::Whole(tag, len) => {
-            if !constant_head(form, tag, len) {
-                return Item::Wrong(at);
-            }
-            if tag != function_tag(form) {
-                return Item::Next(at + 3 + len);
-            }
-            check_code(bytes, at + 3 + 3, at + 3 + len)
-        }
+    let head = head_where(bytes, at, end, |head| head.is_constant(form))?;
+    let next = at + 3 + head.len;
+    if head.tag != function_tag(form) {
+        return Ok(next);
     }
+    check_code(bytes, at + 3 + 3, next)
 }
 
-// Check that constants, at most 4,096, fill the part from `start` up to `end`.
-fn check_constants(bytes: &[u8], start: usize, end: usize, form: Form) -> Checked
-    requires { Part bytes.now start end }
-    ensures { result ≡ checked (constants_in (byte_at bytes.now) form start end) }
-{
-    let mut at = start;
-    let mut count = 0;
-    while at < end {
-        if count == limit::CONSTANTS_LIMIT {
-            return Checked::Wrong(at);
-        }
-        match check_constant(bytes, at, end, form) {
-            Item::Wrong(place) => return Checked::Wrong(place),
-            Item::Next(next) => {
-                at = next;
-                count += 1;
-            }
-        }
-    }
-    Checked::Good(count, at)
-}
-
-// Whether a head is a pool's.
-pub fn pool_head(tag: u8, len: usize) -> bool
-    ensures { result ≡ is_pool (head_of tag len) }
-{
-    if tag != tag::POOL {
-        return false;
-    }
-    len <= limit::POOL_LIMIT
-}
-
-// Check the pool at `at`.
-fn check_pool(bytes: &[u8], at: usize, end: usize, form: Form) -> Checked
+// Check the pool at `at`: how many constants it has, and the offset after it.
+fn check_pool(bytes: &[u8], at: usize, end: usize, form: Form) -> Result<Items, Malformed>
     requires { Part bytes.now at end }
     ensures { result ≡ checked (read_pool_in form (byte_at bytes.now) at end) }
 {
-    match head_at(bytes, at, end) {
-        FieldHead::Cut => Checked::Wrong(at),
-        FieldHead::Whole(tag, len) => {
-            if !pool_head(tag, len) {
-                return Checked::Wrong(at);
-            }
-            check_constants(bytes, at + 3, at + 3 + len, form)
-        }
-    }
-}
-
-// Whether a head is that of an image's main code.
-pub fn main_head(form: Form, tag: u8, len: usize) -> bool
-    ensures { result ≡ is_main form (head_of tag len) }
-{
-    if tag != main_tag(form) {
-        return false;
-    }
-    len <= limit::CODE_SIZE
-}
-
-// Check an image's main code.
-fn check_main(image: &[u8], form: Form) -> Item
-    ensures { result ≡ item (main_code (byte_at image.now) form (length image.now)) }
-{
-    match head_at(image, 0, image.len()) {
-        FieldHead::Cut => Item::Wrong(0),
-        FieldHead::Whole(tag, len) => {
-            if !main_head(form, tag, len) {
-                return Item::Wrong(0);
-            }
-            check_code(image, 3, 3 + len)
-        }
-    }
-}
-
-// The refusal of an image at a place.
-fn bad_image(place: usize) -> ImageCheck
-    ensures { result ≡ refused place }
-{
-    ImageCheck::Refused(Refusal {
-        number: number::BAD_IMAGE,
-        place: place,
+    let head = head_where(bytes, at, end, |head| head.is_pool())?;
+    let after = at + 3 + head.len;
+    check_items(at + 3, after, limit::CONSTANTS_LIMIT, |place| {
+        check_constant(bytes, place, after, form)
     })
 }
 
-// Check an image of a form: it is sound, with so many constants, or 17 at its first wrong field or instruction.
-pub fn check_form(image: &[u8], form: Form) -> ImageCheck
+// Check an image's main code: the offset after it.
+fn check_main(image: &[u8], form: Form) -> Result<usize, Malformed>
+    ensures { result ≡ item (main_code (byte_at image.now) form (length image.now)) }
+{
+    let head = head_where(image, 0, image.len(), |head| head.is_main(form))?;
+    check_code(image, 3, 3 + head.len)
+}
+
+// Check an image of a form: how many constants it has; or 17 at its first wrong field or instruction.
+pub fn check_form(image: &[u8], form: Form) -> Result<usize, Refusal>
     ensures { result ≡ image_answer (read_form form image.now) }
 {
-    match check_main(image, form) {
-        Item::Wrong(place) => bad_image(place),
-        Item::Next(at) => match check_pool(image, at, image.len(), form) {
-            Checked::Wrong(place) => bad_image(place),
-            Checked::Good(constants, next) => {
-                if next != image.len() {
-                    return bad_image(next);
-                }
-                ImageCheck::Sound(constants)
-            }
-        },
+    let at = check_main(image, form)?;
+    let pool = check_pool(image, at, image.len(), form)?;
+    if pool.end != image.len() {
+        return Err(Refusal::from(Malformed { place: pool.end }));
     }
+    Ok(pool.count)
 }
 
 // Check an image.
-pub fn check_image(image: &[u8]) -> ImageCheck
+pub fn check_image(image: &[u8]) -> Result<usize, Refusal>
     ensures { result ≡ image_answer (read_image image.now) }
 {
     let form = Form::Plain;
     check_form(image, form)
 }
 
-// Whether a head is a name's.
-fn name_head(tag: u8, len: usize) -> bool
-    ensures { result ≡ is_name (head_of tag len) }
-{
-    if tag != tag::NAME_BYTE {
-        return false;
-    }
-    if len < 1 {
-        return false;
-    }
-    len <= limit::NAME_LIMIT
-}
-
-// Check the name at `at`.
-fn check_name(bytes: &[u8], at: usize, end: usize) -> Item
+// Check the name at `at`: the offset after it.
+fn check_name(bytes: &[u8], at: usize, end: usize) -> Result<usize, Malformed>
     requires { Part bytes.now at end }
     ensures { result ≡ item (read_name_field (byte_at bytes.now) at end) }
 {
-    match head_at(bytes, at, end) {
-        FieldHead::Cut => Item::Wrong(at),
-        FieldHead::Whole(tag, len) => {
-            if !name_head(tag, len) {
-                return Item::Wrong(at);
-            }
-            Item::Next(at + 3 + len)
-        }
-    }
+    let head = head_where(bytes, at, end, |head| head.is_name())?;
+    Ok(at + 3 + head.len)
 }
 
 // Check that names, at most so many, fill the part from `start` up to `end`.
-fn check_name_fields(bytes: &[u8], start: usize, end: usize, most: usize) -> Checked
+fn check_name_fields(
+    bytes: &[u8],
+    start: usize,
+    end: usize,
+    most: usize,
+) -> Result<Items, Malformed>
     requires { Part bytes.now start end }
     ensures { result ≡ checked (name_fields (byte_at bytes.now) most start end) }
 {
-    let mut at = start;
-    let mut count = 0;
-    while at < end {
-        if count == most {
-            return Checked::Wrong(at);
-        }
-        match check_name(bytes, at, end) {
-            Item::Wrong(place) => return Checked::Wrong(place),
-            Item::Next(next) => {
-                at = next;
-                count += 1;
-            }
-        }
-    }
-    Checked::Good(count, at)
+    check_items(start, end, most, |place| check_name(bytes, place, end))
 }
 
 // Check a field of names at `at`, of a tag, and at most so many.
-fn check_names(session: &[u8], at: usize, tag: u8, most: usize) -> Checked
+fn check_names(session: &[u8], at: usize, tag: u8, most: usize) -> Result<Items, Malformed>
     requires { Part session.now at (length session.now) }
     ensures { result ≡ checked (read_name_fields (byte_at session.now) tag most at (length session.now)) }
 {
-    match head_at(session, at, session.len()) {
-        FieldHead::Cut => Checked::Wrong(at),
-        FieldHead::Whole(found, len) => {
-            if found != tag {
-                return Checked::Wrong(at);
-            }
-            check_name_fields(session, at + 3, at + 3 + len, most)
-        }
-    }
+    let head = head_where(session, at, session.len(), |head| head.tag == tag)?;
+    check_name_fields(session, at + 3, at + 3 + head.len, most)
 }
 
 // Check a session's words: its own, where it begins with their tag. The offset after them.
-fn check_words(session: &[u8]) -> Item
+fn check_words(session: &[u8]) -> Result<usize, Malformed>
     ensures { result ≡ item (read_words (byte_at session.now) 0 (length session.now)) }
 {
     if session.len() == 0 {
-        return Item::Next(0);
+        return Ok(0);
     }
     if session[0] != tag::WORDS {
-        return Item::Next(0);
+        return Ok(0);
     }
-    match check_names(session, 0, tag::WORDS, limit::WORDS_LIMIT) {
-        Checked::Wrong(place) => Item::Wrong(place),
-        Checked::Good(_, end) => {
-            if distinct_names(session, 3, end) {
-                return Item::Next(end);
-            }
-            Item::Wrong(end)
-        }
+    let words = check_names(session, 0, tag::WORDS, limit::WORDS_LIMIT)?;
+    if distinct_names(session, 3, words.end) {
+        return Ok(words.end);
     }
+    Err(Malformed { place: words.end })
 }
 
 // Whether bytes that are handed over are the name fields of a list of words.
@@ -345,47 +187,35 @@ pub fn words_stand(names: &[u8]) -> bool
     ensures { result ≡ is_read (read_handed names.now) }
 {
     match check_name_fields(names, 0, names.len(), limit::WORDS_LIMIT) {
-        Checked::Wrong(_) => false,
-        Checked::Good(_, end) => distinct_names(names, 0, end),
+        Ok(words) => distinct_names(names, 0, words.end),
+        Err(_) => false,
     }
 }
 
 // Read what is behind a session's words: its names, its pool, and zeros up to the end.
-fn read_behind(session: &[u8], start: usize) -> Layout
+fn read_behind(session: &[u8], start: usize) -> Option<SessionLayout>
     requires { WordsEnd session.now start }
     ensures { result ≡ layout_of session.now }
 {
-    match check_names(session, start, tag::NAMES, limit::GLOBALS_LIMIT) {
-        Checked::Wrong(_) => Layout::Broken,
-        Checked::Good(names, names_end) => match check_pool(
-            session,
-            names_end,
-            session.len(),
-            Form::Plain,
-        ) {
-            Checked::Wrong(_) => Layout::Broken,
-            Checked::Good(constants, pool_end) => {
-                if all_zero(&session[pool_end..]) {
-                    return Layout::Sound(SessionLayout {
-                        words_end: start,
-                        names_end: names_end,
-                        pool_end: pool_end,
-                        names: names,
-                        constants: constants,
-                    });
-                }
-                Layout::Broken
-            }
-        },
+    let names = check_names(session, start, tag::NAMES, limit::GLOBALS_LIMIT).ok()?;
+    let form = Form::Plain;
+    let pool = check_pool(session, names.end, session.len(), form).ok()?;
+    if all_zero(&session[pool.end..]) {
+        return Some(SessionLayout {
+            words_end: start,
+            names_end: names.end,
+            pool_end: pool.end,
+            names: names.count,
+            constants: pool.count,
+        });
     }
+    None
 }
 
 // Read a session's layout: its words, its names, its pool, and zeros up to the end.
-pub fn read_layout(session: &[u8]) -> Layout
+pub fn read_layout(session: &[u8]) -> Option<SessionLayout>
     ensures { LaysOut session.now result }
 {
-    match check_words(session) {
-        Item::Wrong(_) => Layout::Broken,
-        Item::Next(words_end) => read_behind(session, words_end),
-    }
+    let words_end = check_words(session).ok()?;
+    read_behind(session, words_end)
 }

@@ -9,15 +9,15 @@ use borrow.Author.Tests.{ne_eqb}
 use lib.ListN.{length, take}
 use Rattle.definition.specs.Basic.{Bytes, pick}
 use Rattle.definition.specs.Limit.{session_size}
-use Rattle.definition.specs.Number.{refusal, output_short, call_numbers, make_numbers, word_numbers, list_numbers}
+use Rattle.definition.specs.Number.{refusal, output_short, call_numbers, make_numbers, word_numbers, list_numbers, number_of}
 use Rattle.definition.specs.Decode.{read_image}
 use Rattle.definition.specs.Call.{Lent, call, made, made_words}
 use Rattle.definition.specs.Listing.{list_answer}
 use Rattle.definition.specs.Output.{output_answer}
 use Rattle.definition.specs.Valid.{AreBytes}
-use Rattle.definition.specs.declared.Refusal.{Refusal}
-use Rattle.definition.specs.declared.Answer.{Answer}
-use Rattle.definition.specs.declared.Answer.TheVariants.{Length, Refused}
+use Rattle.definition.specs.declared.reason.Refusal.{Refusal}
+use Rattle.definition.specs.Answer.{Answer}
+use Rattle.std.specs.Prelude.{Ok, Err}
 use Rattle.definition.proofs.Basic.{pick_false}
 use Rattle.definition.proofs.Numbers.{each, of_each, below}
 use Rattle.definition.proofs.Places.{Within, made_within, made-words_within, call_within_limit}
@@ -34,20 +34,22 @@ use Rattle.heights.specs.Pass.{heights_answer}
 use Rattle.heights.specs.Proposal.{proposal_answer}
 use Rattle.heights.proofs.Bounds.{heights_numbers, heights_within, proposal_within}
 use Rattle.capi.specs.Packed.{half_bound, packed, of_halves, unpacked, Fits, Packs, Told}
+use Rattle.definition.specs.declared.reason.Reason.{Reason}
+use Rattle.definition.specs.declared.reason.Reason.TheVariants.{ShortBuffer, NoSession, BadTree, TooDeep, Undefined, Operator, Macro, TooMany, Locals, Captures, Globals, Pool, Code, Nesting, OutputShort, BadInstruction, BadImage, FewRecords, BadWords, BadScript, LargeInteger, NoValue, BadSize, NoFrame, BadHeights, BadJump, NotRunnable, Operand, Unset}
 
 -- the halves of a number whose halves fit
 pub packs : {a : Answer} {r : ℕ} → Fits a → r ≡ packed a → Packs a r
 packs h e = record { whole = e; number = omega (arith, h.value); value = omega (arith, h.value) }
 
 -- a length
-pub packs_length : {a : Answer} {n : ℕ} → Fits a → a ≡ Length n → Packs a n
+pub packs_length : {a : Answer} {n : ℕ} → Fits a → a ≡ Ok n → Packs a n
 packs_length h e = packs h (omega (arith, ap packed e))
 
 -- a refusal, whose parts fit
-pub packs_refused : {a : Answer} {r : Refusal} → Fits a → a ≡ Refused r → Packs a (r.number * half_bound + r.place)
+pub packs_refused : {a : Answer} {r : Refusal} → Fits a → a ≡ Err r → Packs a (number_of r.reason * half_bound + r.place)
 packs_refused h e = packs h (sym (ap packed e))
 
-pub refused-fits : {a : Answer} {r : Refusal} → Fits a → a ≡ Refused r → Fits (Refused r)
+pub refused-fits : {a : Answer} {r : Refusal} → Fits a → a ≡ Err r → Fits (Err r)
 refused-fits h e = subst Fits e h
 
 -- an answer that equals another
@@ -60,7 +62,7 @@ packs_as {r = r} e h = subst (λ a. Packs a r) e h
 -- an answer within bounds that fit
 within_fits : {lengths places : ℕ} {a : Answer} (numbers : List ℕ) → T (each (λ n. ltb n half_bound) numbers) → lengths < half_bound → places < half_bound → Within lengths numbers places a → Fits a
 within_fits numbers n l p (Within.wrote h) = record { number = omega arith; value = omega arith }
-within_fits numbers n l p (Within.refused {r = r} b) = record { number = below numbers half_bound n r.number b.number; value = omega (arith, b.place) }
+within_fits numbers n l p (Within.refused {r = r} b) = record { number = below numbers half_bound n (number_of r.reason) b.number; value = omega (arith, b.place) }
 
 pub made-fits : (s : Bytes) → Fits (made s).answer
 made-fits s = within_fits make_numbers tt (omega arith) (omega arith) (made_within s)
@@ -77,7 +79,7 @@ list_fits b a room = within_fits list_numbers tt (omega arith) (omega arith) (li
 pub load_fits : (seed room : ℕ) → Fits (output_answer (tree_of seed) room)
 load_fits seed room = go (leb (length (tree_of seed)) room)
   where
-    go : (b : Bool) → Fits (pick b (Length (length (tree_of seed))) (Refused (refusal output_short 0)))
+    go : (b : Bool) → Fits (pick b (Ok (length (tree_of seed))) (Err (refusal output_short 0)))
     go true = record { number = omega arith; value = omega (arith, tree_short seed) }
     go false = record { number = omega arith; value = omega arith }
 
@@ -90,27 +92,51 @@ heights_fits b a hs room = within_fits heights_numbers tt (omega arith) (omega a
 pub proposal_fits : (b : Bytes) → AreBytes b → (room : ℕ) → Fits (proposal_answer (read_image b) room)
 proposal_fits b a room = within_fits list_numbers tt (omega arith) (omega arith) (proposal_within b a room)
 
--- a number of a refusal is not 0
-abbrev is_number : ℕ → Bool
-is_number n = ltb 0 n
+-- a refusal is had from its halves: no number is 0, and each is one reason's
+refusal-told : (r : Reason) (p : ℕ) → of_halves (number_of r) p ≡ Err (refusal r p)
+refusal-told ShortBuffer p = refl
+refusal-told NoSession p = refl
+refusal-told BadTree p = refl
+refusal-told TooDeep p = refl
+refusal-told Undefined p = refl
+refusal-told Operator p = refl
+refusal-told Macro p = refl
+refusal-told TooMany p = refl
+refusal-told Locals p = refl
+refusal-told Captures p = refl
+refusal-told Globals p = refl
+refusal-told Pool p = refl
+refusal-told Code p = refl
+refusal-told Nesting p = refl
+refusal-told OutputShort p = refl
+refusal-told BadInstruction p = refl
+refusal-told BadImage p = refl
+refusal-told FewRecords p = refl
+refusal-told BadWords p = refl
+refusal-told BadScript p = refl
+refusal-told LargeInteger p = refl
+refusal-told NoValue p = refl
+refusal-told BadSize p = refl
+refusal-told NoFrame p = refl
+refusal-told BadHeights p = refl
+refusal-told BadJump p = refl
+refusal-told NotRunnable p = refl
+refusal-told Operand p = refl
+refusal-told Unset p = refl
 
--- so a refusal is had from its halves
-refusal-told : (n p : ℕ) → T (is_number n) → of_halves n p ≡ Refused (refusal n p)
-refusal-told n p h = let some = ltb→lt 0 n h in pick_false (Length p) (Refused (refusal n p)) (ne_eqb n 0 (λ e. omega arith))
-
--- and so is every answer whose numbers are among some that are not 0
-within_told : {lengths places : ℕ} {a : Answer} (numbers : List ℕ) → T (each is_number numbers) → Within lengths numbers places a → Told a
-within_told numbers m (Within.wrote h) = record { back = refl }
-within_told numbers m (Within.refused {r = r} b) = record { back = refusal-told r.number r.place (of_each is_number numbers m r.number b.number) }
+-- and so is every answer
+pub told : (a : Answer) → Told a
+told (Ok n) = record { back = refl }
+told (Err r) = record { back = refusal-told r.reason r.place }
 
 pub made_told : (s : Bytes) → Told (made s).answer
-made_told s = within_told make_numbers tt (made_within s)
+made_told s = told (made s).answer
 
 pub words-told : (s names : Bytes) → Told (made_words s names).answer
-words-told s names = within_told word_numbers tt (made-words_within s names)
+words-told s names = told (made_words s names).answer
 
 pub call-told : (tree : Bytes) (l : Lent) → AreBytes (take session_size l.session) → Told (call tree l).answer
-call-told tree l a = within_told call_numbers tt (call_within_limit tree l a)
+call-told tree l a = told (call tree l).answer
 
 -- the answer from its number
 pub packs_back : {a : Answer} {r : ℕ} → Told a → Packs a r → unpacked r ≡ a

@@ -2,41 +2,40 @@
 use Prim.Native.Nat.{ℕ, ◌%◌, ◌<◌}
 use native.Mathlib.Omega.{arith}
 use mathlib.Core.Path.{◌≡◌, subst}
+use Rattle.std.specs.Prelude.{Result, Err}
+use Rattle.std.specs.Result.{result_err}
 use Rattle.definition.specs.Basic.{Bytes}
 use Rattle.definition.specs.Valid.{AreBytes}
-use Rattle.definition.specs.declared.Refusal.{Refusal}
-use Rattle.definition.specs.declared.Answer.TheVariants.{Refused}
-use Rattle.frames.specs.Frames.{count_frames, find_frame, refusal_of, frame_refusal}
+use Rattle.definition.specs.declared.reason.Refusal.{Refusal}
+use Rattle.frames.specs.Frames.{count_is, place_is, count_frames, find_frame, frame_refusal}
 use Rattle.frames.specs.declared.FrameCount.{FrameCount}
-use Rattle.frames.specs.declared.FrameCount.TheVariants.{Counted}
 use Rattle.frames.specs.declared.FramePlace.{FramePlace}
-use Rattle.frames.specs.declared.FramePlace.TheVariants.{At}
 use Rattle.frames.proofs.Small.{SmallRefusal, SmallCount, SmallPlace, count_small, place_small}
 use Rattle.capi.specs.Packed.{half_bound, Fits, Packs}
-use Rattle.capi.specs.Framed.{paired, Pairs, count_answer, place_answer}
+use Rattle.capi.specs.Framed.{paired, Pairs, count_answer, place_answer, refusal_answer}
 
 -- a refusal of these calls fits
-small_fits : {r : Refusal} → SmallRefusal r → Fits (Refused r)
+small_fits : {r : Refusal} → SmallRefusal r → Fits (Err r)
 small_fits s = record { number = omega (arith, s.number); value = omega (arith, s.place) }
 
 pub count_fits : (b : Bytes) → AreBytes b → (size : ℕ) → Fits (count_answer (count_frames b size))
 count_fits b a size = go (count_frames b size) (count_small b a size)
   where
-    go : (c : FrameCount) → SmallCount size c → Fits (count_answer c)
+    go : (c : Result FrameCount Refusal) → SmallCount size c → Fits (count_answer c)
     go _ (SmallCount.divided w r d l) = record { number = omega arith; value = omega arith }
     go _ (SmallCount.refused s) = small_fits s
 
 pub place-fits : (b : Bytes) → AreBytes b → (size k : ℕ) → Fits (place_answer (find_frame b size k))
 place-fits b a size k = go (find_frame b size k) (place_small b a size k)
   where
-    go : (p : FramePlace) → SmallPlace p → Fits (place_answer p)
+    go : (p : Result FramePlace Refusal) → SmallPlace p → Fits (place_answer p)
     go _ (SmallPlace.inside s n) = record { number = omega arith; value = omega arith }
     go _ (SmallPlace.refused s) = small_fits s
 
-pub refusal-fits : (b : Bytes) → AreBytes b → (size k : ℕ) → Fits (Refused (frame_refusal b size k))
+pub refusal-fits : (b : Bytes) → AreBytes b → (size k : ℕ) → Fits (refusal_answer (frame_refusal b size k))
 refusal-fits b a size k = go (find_frame b size k) (place_small b a size k)
   where
-    go : (p : FramePlace) → SmallPlace p → Fits (Refused (refusal_of p))
+    go : (p : Result FramePlace Refusal) → SmallPlace p → Fits (refusal_answer (result_err p))
     go _ (SmallPlace.inside s n) = record { number = omega arith; value = omega arith }
     go _ (SmallPlace.refused s) = small_fits s
 
@@ -44,20 +43,20 @@ refusal-fits b a size k = go (find_frame b size k) (place_small b a size k)
 pub pairs : {a b v : ℕ} → b < 65536 → v ≡ paired a b → Pairs a b v
 pairs h e = record { first = omega arith; second = omega arith }
 
-pub count-pairs : (b : Bytes) → AreBytes b → (size : ℕ) {v : ℕ} → Packs (count_answer (count_frames b size)) v → (whole rest : ℕ) → count_frames b size ≡ Counted whole rest → Pairs whole rest (v % half_bound)
+pub count-pairs : (b : Bytes) → AreBytes b → (size : ℕ) {v : ℕ} → Packs (count_answer (count_frames b size)) v → (whole rest : ℕ) → count_frames b size ≡ count_is whole rest → Pairs whole rest (v % half_bound)
 count-pairs b a size {v} p whole rest e =
     let small = subst (SmallCount size) e (count_small b a size) in
     let packed = subst (λ c. Packs (count_answer c) v) e p in
     pairs (below small) packed.value
   where
-    below : SmallCount size (Counted whole rest) → rest < 65536
+    below : SmallCount size (count_is whole rest) → rest < 65536
     below (SmallCount.divided w r d l) = r
 
-pub place-pairs : (b : Bytes) → AreBytes b → (size k : ℕ) {v : ℕ} → Packs (place_answer (find_frame b size k)) v → (start n : ℕ) → find_frame b size k ≡ At start n → Pairs start n (v % half_bound)
+pub place-pairs : (b : Bytes) → AreBytes b → (size k : ℕ) {v : ℕ} → Packs (place_answer (find_frame b size k)) v → (start n : ℕ) → find_frame b size k ≡ place_is start n → Pairs start n (v % half_bound)
 place-pairs b a size k {v} p start n e =
     let small = subst SmallPlace e (place_small b a size k) in
     let packed = subst (λ q. Packs (place_answer q) v) e p in
     pairs (below small) packed.value
   where
-    below : SmallPlace (At start n) → n < 65536
+    below : SmallPlace (place_is start n) → n < 65536
     below (SmallPlace.inside s l) = l

@@ -8,8 +8,8 @@ use Rattle.definition.specs.Basic.{Bytes}
 use Rattle.definition.specs.Limit.{session_size, code_size, tree_limit, image_limit}
 use Rattle.definition.specs.Valid.{AreBytes}
 use Rattle.definition.specs.Call.{Lent}
-use Rattle.definition.specs.declared.Answer.{Answer}
-use Rattle.definition.specs.declared.Answer.TheVariants.{Length}
+use Rattle.definition.specs.Answer.{Answer}
+use Rattle.std.specs.Prelude.{Ok}
 use Rattle.definition.proofs.Places.{Within}
 use Rattle.definition.proofs.Numbers.{below}
 use Rattle.records.specs.Call.{records_numbers}
@@ -21,6 +21,7 @@ use Rattle.capi.specs.Framed.{Pairs}
 use Rattle.capi.specs.Named.{names_answer, NamesPacked}
 use Rattle.capi.proofs.Fits.{fits_as, packs_as}
 use Rattle.capi.proofs.Framed.{pairs}
+use Rattle.definition.specs.Number.{number_of}
 
 -- the call's answer is within the plain call's bounds
 within : (tree : Bytes) (l : Lent) (xs : List ℕ) → AreBytes (take session_size l.session) → Within image_limit records_numbers tree_limit (call_names tree l xs).called.answer
@@ -30,19 +31,19 @@ within tree l xs a = records_within_limit tree l (blanks (length xs / 4)) a
 -- so it fits, with a small count
 answer_fits : {a : Answer} (n : ℕ) → Within image_limit records_numbers tree_limit a → 4 * n ≤ code_size → Fits (names_answer a n)
 answer_fits n (Within.wrote h) f = record { number = omega arith; value = omega arith }
-answer_fits n (Within.refused {r = r} b) f = record { number = below records_numbers half_bound tt r.number b.number; value = omega (arith, b.place) }
+answer_fits n (Within.refused {r = r} b) f = record { number = below records_numbers half_bound tt (number_of r.reason) b.number; value = omega (arith, b.place) }
 
 pub names-fits : (tree : Bytes) (l : Lent) (xs : List ℕ) → AreBytes (take session_size l.session) → 4 * (call_names tree l xs).count ≤ code_size → Fits (names_answer (call_names tree l xs).called.answer (call_names tree l xs).count)
 names-fits tree l xs a f = answer_fits (call_names tree l xs).count (within tree l xs a) f
 
 -- the two numbers of an accepted call
-pub names-pairs : (tree : Bytes) (l : Lent) (xs : List ℕ) → AreBytes (take session_size l.session) → {v : ℕ} → Packs (names_answer (call_names tree l xs).called.answer (call_names tree l xs).count) v → (n : ℕ) → (call_names tree l xs).called.answer ≡ Length n
+pub names-pairs : (tree : Bytes) (l : Lent) (xs : List ℕ) → AreBytes (take session_size l.session) → {v : ℕ} → Packs (names_answer (call_names tree l xs).called.answer (call_names tree l xs).count) v → (n : ℕ) → (call_names tree l xs).called.answer ≡ Ok n
     → Pairs (call_names tree l xs).count n (v % half_bound)
 names-pairs tree l xs a {v} p n e =
     let packed = subst (λ x. Packs (names_answer x (call_names tree l xs).count) v) e p in
     pairs (short (subst (Within image_limit records_numbers tree_limit) e (within tree l xs a))) packed.value
   where
-    short : Within image_limit records_numbers tree_limit (Length n) → n < 65536
+    short : Within image_limit records_numbers tree_limit (Ok n) → n < 65536
     short (Within.wrote h) = omega arith
 
 -- what the call promises, as one number

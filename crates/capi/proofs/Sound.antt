@@ -7,7 +7,7 @@ use Rattle.definition.specs.Basic.{Bytes}
 use Rattle.definition.specs.Bytecode.{Image}
 use Rattle.definition.specs.Decode.{Decoded, decoded, malformed, read_image}
 use Rattle.definition.specs.Listing.{list_answer}
-use Rattle.bytecode.specs.declared.ImageCheck.TheVariants.{Sound}
+use Rattle.std.specs.Prelude.{Ok}
 use Rattle.bytecode.specs.Checked.{image_answer}
 use Rattle.listing.specs.CheckThenList.{Outcome, checked, check_then_list}
 use Rattle.listing.proofs.CheckThenList.{check-then-list, sound_is_15}
@@ -23,13 +23,13 @@ lists_checked {image} {output} h =
 
 module _ {image after : Bytes} {r : ℕ} (h : ListsPacked image [] r after) where
   -- a sound image has that number
-  pub sound-number : {k : ℕ} → checked image ≡ Sound k → r / half_bound ≡ sound_number
+  pub sound-number : {k : ℕ} → checked image ≡ Ok k → r / half_bound ≡ sound_number
   sound-number e = h.answer.number ∙ ap high (sound_is_15 image 0 (omega arith) e)
 
   -- and no other image has it
-  pub number_sound : r / half_bound ≡ sound_number → (k : ℕ) × (checked image ≡ Sound k)
+  pub number_sound : r / half_bound ≡ sound_number → (k : ℕ) × (checked image ≡ Ok k)
   number_sound e = go (read_image image) (sym h.answer.number ∙ e)
     where
-      go : (d : Decoded Image) → high (list_answer d 0) ≡ sound_number → (k : ℕ) × (image_answer d ≡ Sound k)
+      go : (d : Decoded Image) → high (list_answer d 0) ≡ sound_number → (k : ℕ) × (image_answer d ≡ Ok k)
       go (decoded m n) f = (_, refl)
       go (malformed p) f = absurd (omega arith)

@@ -1,19 +1,18 @@
 -- What the exported trial run promises.
-use Rattle.std.specs.Prelude.{ℕ, ◌%◌, List, ◌≡◌, length}
+use Rattle.std.specs.Prelude.{ℕ, ◌%◌, List, ◌≡◌, length, Ok, Err, Result}
 use Rattle.definition.specs.Basic.{Bytes}
-use Rattle.definition.specs.declared.Answer.{Answer}
-use Rattle.definition.specs.declared.Answer.TheVariants.{Length, Refused}
+use Rattle.definition.specs.Answer.{Answer}
 use Rattle.trial.specs.Value.{Globals}
 use Rattle.trial.specs.Call.{Outcome, run_outcome, outcome_answer, outcome_into, work_after}
-use Rattle.trial.specs.declared.RunAnswer.{RunAnswer}
-use Rattle.trial.specs.declared.RunAnswer.TheVariants.{Ran, Refused as RunRefused}
+use Rattle.definition.specs.declared.reason.Refusal.{Refusal}
+use Rattle.trial.specs.declared.Ran.{Ran}
 use Rattle.capi.specs.Packed.{half_bound, Packs}
 use Rattle.capi.specs.Framed.{paired, Pairs}
 
 -- the globals written and the steps in one length
-abbrev pub ran_answer : RunAnswer → Answer
-ran_answer (Ran n k) = Length (paired n k)
-ran_answer (RunRefused r) = Refused r
+abbrev pub ran_answer : Result Ran Refusal → Answer
+ran_answer (Ok a) = Ok (paired a.globals a.steps)
+ran_answer (Err r) = Err r
 
 -- a trial run: answer, work area and output are the definition's, and the low half is the globals and the steps
 pub record RunsPacked (image : Bytes) (hs w : List ℕ) (o : Bytes) (r : ℕ) (w' : List ℕ) (o' : Bytes) : Type 0 where

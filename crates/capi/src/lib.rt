@@ -8,12 +8,12 @@ ghost use Rattle.chin.specs.Chin.{to_chin, from_chin};
 ghost use Rattle.capi.specs.Named.{names_answer, NamesPacked};
 ghost use Rattle.capi.specs.Turned.{TurnsPacked};
 ghost use Rattle.capi.specs.Heights.{ChecksPacked, ProposesPacked};
-ghost use Rattle.capi.specs.Framed.{paired, count_answer, place_answer, CountsPacked, PlacesPacked, RefusesPacked};
+ghost use Rattle.capi.specs.Framed.{paired, count_answer, place_answer, refusal_answer, CountsPacked, PlacesPacked, RefusesPacked};
 ghost use Rattle.capi.specs.Trial.{ran_answer, RunsPacked};
 
-use definition::Answer;
+use definition::Refusal;
 use frames::{FrameCount, FramePlace};
-use trial::RunAnswer;
+use trial::Ran;
 
 // What the numbers of a half are below: 2 to the 32nd.
 const HALF_BOUND: u64 = 4294967296;
@@ -22,13 +22,13 @@ const HALF_BOUND: u64 = 4294967296;
 const QUARTER_BOUND: usize = 65536;
 
 // An answer as one number: a length; or a refusal's number in the high half and its place in the low one.
-fn pack(answer: Answer) -> u64
+fn pack(answer: Result<usize, Refusal>) -> u64
     requires { Fits answer }
     ensures { Packs answer result }
 {
     match answer {
-        Answer::Length(n) => n as u64,
-        Answer::Refused(r) => r.number as u64 * HALF_BOUND + r.place as u64,
+        Ok(n) => n as u64,
+        Err(r) => r.reason.number() * HALF_BOUND + r.place as u64,
     }
 }
 
@@ -66,13 +66,13 @@ pub extern "C" fn monkey_compile(
 }
 
 // What a call with records answers.
-fn names_answer(answer: Answer, count: usize) -> Answer
+fn names_answer(answer: Result<usize, Refusal>, count: usize) -> Result<usize, Refusal>
     requires { Fits (names_answer answer count) }
     ensures { result ≡ names_answer answer count }
 {
     match answer {
-        Answer::Length(n) => pair(count, n),
-        Answer::Refused(r) => Answer::Refused(r),
+        Ok(n) => pair(count, n),
+        Err(r) => Err(r),
     }
 }
 
@@ -106,32 +106,42 @@ pub extern "C" fn monkey_list_image(image: &[u8], output: &mut [u8]) -> u64
 }
 
 // Two numbers as one length: the first above the low 16 bits.
-fn pair(first: usize, second: usize) -> Answer
+fn pair(first: usize, second: usize) -> Result<usize, Refusal>
     requires { paired first second < half_bound }
-    ensures { result ≡ Answer.Length (paired first second) }
+    ensures { result ≡ Ok (paired first second) }
 {
-    Answer::Length(first * QUARTER_BOUND + second)
+    Ok(first * QUARTER_BOUND + second)
 }
 
 // What the count of frames answers.
-fn count_answer(count: FrameCount) -> Answer
+fn count_answer(count: Result<FrameCount, Refusal>) -> Result<usize, Refusal>
     requires { Fits (count_answer count) }
     ensures { result ≡ count_answer count }
 {
     match count {
-        FrameCount::Counted(whole, rest) => pair(whole, rest),
-        FrameCount::Refused(r) => Answer::Refused(r),
+        Ok(count) => pair(count.whole, count.rest),
+        Err(r) => Err(r),
     }
 }
 
 // What finding a frame answers.
-fn place_answer(place: FramePlace) -> Answer
+fn place_answer(place: Result<FramePlace, Refusal>) -> Result<usize, Refusal>
     requires { Fits (place_answer place) }
     ensures { result ≡ place_answer place }
 {
     match place {
-        FramePlace::At(start, len) => pair(start, len),
-        FramePlace::Refused(r) => Answer::Refused(r),
+        Ok(place) => pair(place.start, place.len),
+        Err(r) => Err(r),
+    }
+}
+
+// What a frame's refusal answers, or that there is none.
+fn refusal_answer(refusal: Option<Refusal>) -> Result<usize, Refusal>
+    ensures { result ≡ refusal_answer refusal }
+{
+    match refusal {
+        Some(r) => Err(r),
+        None => Ok(0),
     }
 }
 
@@ -158,8 +168,7 @@ pub extern "C" fn monkey_frame(image: &[u8], size: usize, number: usize) -> u64
 pub extern "C" fn monkey_frame_refusal(image: &[u8], size: usize, number: usize) -> u64
     ensures { RefusesPacked image.now size number result }
 {
-    let refusal = frames::frame_refusal(image, size, number);
-    let answer = Answer::Refused(refusal);
+    let answer = refusal_answer(frames::frame_refusal(image, size, number));
     pack(answer)
 }
 
@@ -210,13 +219,13 @@ pub extern "C" fn monkey_propose_heights(image: &[u8], heights: &mut [u32]) -> u
 }
 
 // What a trial run answers.
-fn run_answer(answer: RunAnswer) -> Answer
+fn run_answer(answer: Result<Ran, Refusal>) -> Result<usize, Refusal>
     requires { Fits (ran_answer answer) }
     ensures { result ≡ ran_answer answer }
 {
     match answer {
-        RunAnswer::Ran(globals, steps) => pair(globals, steps),
-        RunAnswer::Refused(r) => Answer::Refused(r),
+        Ok(ran) => pair(ran.globals, ran.steps),
+        Err(r) => Err(r),
     }
 }
 

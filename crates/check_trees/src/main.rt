@@ -1,97 +1,53 @@
 // Runs the tree check on recorded cases, and prints for each topic how many agree and how many differ.
 #![tactic(auto)]
 
+use definition::Refusal;
 use field::{wide, word};
-use report::{print_failure, read_full};
-use std::io::{BufReader, Read};
+use report::{Counts, as_recorded, open_cases, read_full};
+use std::io;
+use std::io::Read;
 use std::rt::Files;
-use std::{fs, io};
-use tree::Checked;
-
-// A case as it came out, or the end of the cases.
-#[derive(Clone, Copy)]
-enum Case {
-    Agrees,
-    Differs,
-    End,
-}
-
-// How many cases of a topic agree, and how many differ.
-#[derive(Clone, Copy)]
-struct Counts {
-    agree: u64,
-    differ: u64,
-}
-
-// Whether a check came out as recorded: number 0 stands for a good tree.
-fn as_recorded(checked: Checked, number: usize, place: usize) -> bool {
-    match checked {
-        Checked::Good => number == 0,
-        Checked::Refused(r) => (r.number == number) & (r.place == place),
-    }
-}
 
 // Reads a tree and checks it.
-fn check_next<R: Read>(reader: &mut R, tree: &mut [u8]) -> io::Result<Checked> {
+fn check_next<R: Read>(reader: &mut R, tree: &mut [u8]) -> io::Result<Result<(), Refusal>> {
     read_full(reader, tree)?;
     Ok(tree::check(tree))
 }
 
-// Reads the next case and checks its tree: a number in one byte, a place and the tree's length in two each, the tree.
-fn run_case<R: Read>(reader: &mut R) -> io::Result<Case> {
+// Reads the next case, if there is one, and says whether its tree's check came out as recorded: a number in one byte, a place and the tree's length in
+// two each, the tree. The number 0 stands for a good tree, whatever the place.
+fn run_case<R: Read>(reader: &mut R) -> io::Result<Option<bool>> {
     let mut head = [0u8; 5];
     if read_full(reader, &mut head)? < 5 {
-        return Ok(Case::End);
+        return Ok(None);
     }
     let length = word(head[3], head[4]);
+    let place = word(head[1], head[2]);
     let mut buffer = [0u8; 65536];
     let checked = check_next(reader, &mut buffer[..length])?;
-    if as_recorded(checked, wide(head[0]), word(head[1], head[2])) {
-        Ok(Case::Agrees)
-    } else {
-        Ok(Case::Differs)
-    }
+    Ok(Some(as_recorded(checked.map(|()| place), wide(head[0]), place)))
 }
 
 // Runs a topic's cases, at most so many.
 fn run_cases<R: Read>(reader: &mut R, most: u64) -> io::Result<Counts> {
-    let mut agree: u64 = 0;
-    let mut differ: u64 = 0;
-    while agree + differ < most {
+    let mut counts = Counts::default();
+    for _ in 0..most {
         match run_case(reader)? {
-            Case::Agrees => {
-                agree += 1;
-            }
-            Case::Differs => {
-                differ += 1;
-            }
-            Case::End => {
-                break;
-            }
+            Some(true) => counts.agree += 1,
+            Some(false) => counts.differ += 1,
+            None => break,
         }
     }
-    Ok(Counts {
-        agree: agree,
-        differ: differ,
-    })
+    Ok(counts)
 }
 
-// Prints a line of a topic's counts.
-fn print_counts(rt: &impl Print, topic: &str, counts: Counts) -> io::Result<()> {
-    let agree = counts.agree;
-    let differ = counts.differ;
-    println!(rt; "{topic}: {agree} agree, {differ} differ")
-}
-
-// The cases of the file that a topic names.
+// The cases of the file that a topic names: a line of its counts.
 fn run_topic<R: Files + Print + Eprint + Alloc>(rt: &R, topic: &str) -> io::Result<()> {
-    match fs::open(rt, topic) {
-        Ok(file) => {
-            let mut reader = BufReader::new(rt.alloc(), file)?;
-            print_counts(rt, topic, run_cases(&mut reader, 10000)?)
-        }
-        Err(e) => print_failure(rt, topic, &e),
-    }
+    let Some(mut reader) = open_cases(rt, topic)? else {
+        return Ok(());
+    };
+    let counts = run_cases(&mut reader, 10000)?;
+    println!(rt; "{topic}: {counts}")
 }
 
 fn main(rt: HostRuntime) -> io::Result<()> {

@@ -9,9 +9,9 @@ use Rattle.definition.specs.Literal.{Mask, image_mask}
 use Rattle.definition.specs.Series.{Agree}
 use Rattle.definition.specs.Session.{Words, word_list, Session, begun}
 use Rattle.definition.specs.Valid.{ValidImage, ValidWords, ValidSession}
-use Rattle.definition.specs.Number.{refusal}
+use Rattle.definition.specs.Number.{refusal, bad_jump}
 use Rattle.definition.specs.Compile.{Outcome, Step, Request, compile, steps}
-use Rattle.definition.specs.declared.Refusal.{Refusal}
+use Rattle.definition.specs.declared.reason.Refusal.{Refusal}
 use Rattle.definition.proofs.Agreement.{erase_image}
 use Rattle.definition.proofs.Erase.{Alike}
 use Rattle.definition.proofs.Series.{begun_like}
@@ -19,7 +19,7 @@ use Rattle.definition.proofs.Steps.{begun-valid, OutcomeLike, SessionLike, like_
 use Rattle.bytecode.specs.declared.Form.TheVariants.{Plain, Chin}
 use Rattle.bytecode.specs.Form.{image_in, read_form}
 use Rattle.chin.specs.Turn.{distance, Made, made, stopped, turn_image}
-use Rattle.chin.specs.Chin.{Given, given, refused, bad_jump, wrote, turn, translate, to_chin}
+use Rattle.chin.specs.Chin.{Given, given, refused, wrote, turn, translate, to_chin}
 use Rattle.chin.proofs.Rows.{made_once}
 use Rattle.chin.proofs.Operands.{distance_returns}
 use Rattle.chin.proofs.Turns.{turn-image}

@@ -16,7 +16,7 @@ use Rattle.definition.specs.Call.{Called}
 use Rattle.definition.specs.Series.{Call, calls, Start}
 use Rattle.definition.specs.Trusted.{Stands, constant_at, Chunk, TrustedChunk, Trusted, TrustedCall}
 use Rattle.definition.specs.Valid.{All}
-use Rattle.definition.specs.declared.Answer.TheVariants.{Length}
+use Rattle.std.specs.Prelude.{Ok}
 use Rattle.definition.proofs.Chunks.{pool_more, named_newest}
 use Rattle.definition.proofs.Trusted.{trusted_calls}
 use Rattle.bytecode.specs.declared.Form.TheVariants.{Chin}
@@ -81,7 +81,7 @@ pub data IsGiven : Given → Type 0 where
 
 -- the call's image has a chin form
 pub record Turned (x : Called) : Type 0 where
-  pub turned : (n : ℕ) → x.answer ≡ Length n → IsGiven (to_chin (take n x.lent.output))
+  pub turned : (n : ℕ) → x.answer ≡ Ok n → IsGiven (to_chin (take n x.lent.output))
 
 made-given : (r : Made Image) → IsMade distance r → IsGiven (wrote Chin r)
 made-given _ is_made = is_given

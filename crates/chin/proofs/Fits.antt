@@ -7,7 +7,7 @@ use lib.ListN.{length}
 use lib.Dec.{leb}
 use Rattle.definition.specs.Basic.{Bytes}
 use Rattle.definition.specs.Limit.{image_limit}
-use Rattle.definition.specs.Number.{refusal, output_short, bad_image}
+use Rattle.definition.specs.Number.{refusal, output_short, bad_image, bad_jump, numbers_of}
 use Rattle.definition.specs.Bytecode.{Image}
 use Rattle.definition.specs.Decode.{Decoded, decoded, malformed}
 use Rattle.definition.specs.Valid.{AreBytes, ValidImage}
@@ -17,7 +17,7 @@ use Rattle.bytecode.specs.declared.Form.{Form}
 use Rattle.bytecode.specs.declared.Form.TheVariants.{Plain}
 use Rattle.bytecode.specs.Form.{image_in, read_form}
 use Rattle.chin.specs.Turn.{Made, made, stopped, turn_image}
-use Rattle.chin.specs.Chin.{bad_jump, given, wrote, turn, translate, answer_of}
+use Rattle.chin.specs.Chin.{given, wrote, turn, translate, answer_of}
 use Rattle.chin.specs.Rows.{other_form, jump_of}
 use Rattle.chin.proofs.Forms.{write-form, write_plain, image-length}
 use Rattle.chin.proofs.Turns.{turn-image}
@@ -26,7 +26,7 @@ use Rattle.chin.proofs.Places.{form_place, jump-place}
 
 -- the numbers of translating
 abbrev pub chin_numbers : List ℕ
-chin_numbers = bad_image ∷ bad_jump ∷ output_short ∷ []
+chin_numbers = numbers_of (bad_image ∷ bad_jump ∷ output_short ∷ [])
 
 -- a valid image is within the limit in each form
 form_within : (f : Form) (m : Image) → ValidImage m → length (image_in f m) ≤ image_limit

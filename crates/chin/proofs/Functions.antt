@@ -17,8 +17,7 @@ use Rattle.bytecode.specs.declared.Form.TheVariants.{Plain, Chin}
 use Rattle.bytecode.specs.Form.{tag_function_in, tag_in, const_in}
 use Rattle.bytecode.proofs.Constants.{not_integer, not_string}
 use Rattle.bytecode.proofs.Fields.{const_ends_in}
-use Rattle.chin.specs.declared.operand.Jumps.{Jumps}
-use Rattle.chin.specs.declared.operand.Jumps.TheVariants.{Fine}
+use Rattle.std.specs.Prelude.{Result, Ok}
 use Rattle.chin.specs.Turn.{Made, made, stopped, along, turn_code, turn_const}
 use Rattle.chin.specs.Rows.{other_form, jump_of, verdict, Same, CodeAt, HasCode, TurnsCode, ConstAt, TurnsConst}
 use Rattle.chin.proofs.Constants.{write_const}
@@ -66,7 +65,7 @@ module _ (f : Form) (b : Bytes) (at end : ℕ) {x : Const} (a : ConstAt f b at e
       front s at (const_in f x) (omega arith) (omega arith) stands.stands ∙ ap (λ k. const_in f x ++ drop k o) n
 
 -- a constant that is no function stays
-stays : (f : Form) (b : Bytes) (at end : ℕ) {x : Const} → ConstAt f b at end x → turn_const (jump_of f) (at + 3) x ≡ made x → const_in (other_form f) x ≡ const_in f x → (o : Bytes) → TurnsConst f b at x o o Fine
+stays : (f : Form) (b : Bytes) (at end : ℕ) {x : Const} → ConstAt f b at end x → turn_const (jump_of f) (at + 3) x ≡ made x → const_in (other_form f) x ≡ const_in f x → (o : Bytes) → TurnsConst f b at x o o (Ok tt)
 stays f b at end {x} a t same o =
     record {
       judged = sym (ap verdict t);
@@ -76,7 +75,7 @@ stays f b at end {x} a t same o =
           ∙ ap (λ z. (p ++ const_in (other_form f) z) ++ r) (made_once (sym t ∙ e));
     }
 
-pub const_stays : (f : Form) (b : Bytes) (at end : ℕ) (x : Const) → ConstAt f b at end x → (byte_at b at ≡ tag_function_in f → ⊥) → (o : Bytes) → TurnsConst f b at x o o Fine
+pub const_stays : (f : Form) (b : Bytes) (at end : ℕ) (x : Const) → ConstAt f b at end x → (byte_at b at ≡ tag_function_in f → ⊥) → (o : Bytes) → TurnsConst f b at x o o (Ok tt)
 const_stays f b at end (Const.integer v) a n o = stays f b at end a refl refl o
 const_stays f b at end (Const.string v) a n o = stays f b at end a refl refl o
 const_stays f b at end (Const.function l p c) a n o = absurd (n (tag_is f b at end a))
@@ -146,7 +145,7 @@ module _ (f : Form) (b : Bytes) (at end l q : ℕ) (c : Code) (a : ConstAt f b a
         ∙ ap (λ z. z ++ drop next o₀) (append_assoc p (six (tag_function_in (other_form f)) (length (content (Const.function l q c))) l q) (encode d))
         ∙ ap (λ k. (p ++ (six (tag_function_in (other_form f)) (suc (suc (suc k))) l q ++ encode d)) ++ drop next o₀) n
 
-  pub const_turned : {o o' : Bytes} {r : Jumps} → TurnsCode (jump_of f) b (at + 6) next c (set o at (tag_function_in (other_form f))) o' r → TurnsConst f b at (Const.function l q c) o o' r
+  pub const_turned : {o o' : Bytes} {r : Result (Unit {0}) ℕ} → TurnsCode (jump_of f) b (at + 6) next c (set o at (tag_function_in (other_form f))) o' r → TurnsConst f b at (Const.function l q c) o o' r
   const_turned {o} {o'} {r} t =
       let same : at + 3 + 3 ≡ at + 6 = omega arith in
       record {
@@ -166,7 +165,7 @@ module _ (f : Form) (b : Bytes) (at end : ℕ) where
   function_at (Const.function l q c) a e k =
       record { code = c; is = subst (λ n. CodeAt b (at + 6) (at + 3 + n) c) (sym (k ∙ const_length f b at end a)) (function_code f b at end l q c a) }
 
-  pub function_turned : (x : Const) → ConstAt f b at end x → byte_at b at ≡ tag_function_in f → {len : ℕ} → len ≡ (head (byte_at b) at).len → {o o₁ o' : Bytes} {r : Jumps}
+  pub function_turned : (x : Const) → ConstAt f b at end x → byte_at b at ≡ tag_function_in f → {len : ℕ} → len ≡ (head (byte_at b) at).len → {o o₁ o' : Bytes} {r : Result (Unit {0}) ℕ}
       → o₁ ≡ set o at (tag_function_in (other_form f)) → ((c : Code) → CodeAt b (at + 6) (at + 3 + len) c → TurnsCode (jump_of f) b (at + 6) (at + 3 + len) c o₁ o' r)
       → TurnsConst f b at x o o' r
   function_turned (Const.integer v) a e k h t = absurd (not_integer f (sym e ∙ tag_is f b at end a))

@@ -3,7 +3,7 @@ use Prim.Native.Nat.{ℕ, zero, suc, ◌+◌, ◌-◌, ◌*◌, ◌/◌, ◌%◌
 use native.Mathlib.Omega.{arith}
 use mathlib.Core.Bool.{Bool, true, false}
 use mathlib.Core.List.{[], ◌∷◌, ◌++◌, append_assoc}
-use mathlib.Core.Option.{Option, none, some}
+use Rattle.std.specs.Prelude.{Option, None, Some, Ok, Err}
 use mathlib.Core.Path.{◌≡◌, refl, sym, ap, ◌∙◌}
 use lib.ListN.{length, drop, set, length-append, length-drop}
 use lib.Dec.{leb, eqb}
@@ -14,54 +14,42 @@ use Rattle.definition.proofs.Basic.{pick_true, pick_false}
 use Rattle.definition.proofs.Bytes.{Stands}
 use Rattle.bytecode.specs.declared.Form.{Form}
 use Rattle.bytecode.specs.declared.Form.TheVariants.{Plain, Chin}
-use Rattle.chin.specs.declared.operand.Operand.{Operand}
-use Rattle.chin.specs.declared.operand.Operand.TheVariants.{Is, Lacking}
-use Rattle.chin.specs.declared.operand.Jumps.TheVariants.{Fine, Bad}
 use Rattle.chin.specs.Turn.{exchanged, turned, jumps, Jump, Made, made, stopped, with_operand, operand_of, turn_instr}
-use Rattle.chin.specs.Rows.{jump_of, operand_answer, wide_operand, verdict, Same, stored_operand, InstrIn, TurnsInstr}
+use Rattle.chin.specs.Rows.{jump_of, wide_operand, verdict, Same, stored_operand, InstrIn, TurnsInstr}
 use Rattle.chin.proofs.Operands.{jump-width}
 use Rattle.chin.proofs.Rows.{made_once}
 use Rattle.chin.proofs.Turns.{got}
 use Rattle.chin.proofs.Stores.{front, set_two}
 
--- what an answer says of the operand
-pub is_some : (o : Option ℕ) {r : Operand} {a : ℕ} → r ≡ operand_answer o → r ≡ Is a → o ≡ some a
-is_some (some x) {r} {a} e f = let p : x ≡ a = cc in ap some p
-is_some none e f = let z : ◌≡◌ {A = ℕ} 0 1 = cc in absurd (omega arith)
-
-pub is_none : (o : Option ℕ) {r : Operand} → r ≡ operand_answer o → r ≡ Lacking → o ≡ none
-is_none (some x) e f = let z : ◌≡◌ {A = ℕ} 0 1 = cc in absurd (omega arith)
-is_none none e f = refl
-
 -- a jump's operand, by the form and by the test
-pub distance_before : {f : Form} {end a : ℕ} → f ≡ Plain → a < end → Lacking ≡ operand_answer (jump_of f end a)
-distance_before {end = end} {a} e h = sym (ap (λ g. operand_answer (jump_of g end a)) e ∙ ap operand_answer (pick_false (some (exchanged (a - end))) none (lt-leb end a h)))
+pub distance_before : {f : Form} {end a : ℕ} → f ≡ Plain → a < end → None ≡ (jump_of f end a)
+distance_before {end = end} {a} e h = sym (ap (λ g. jump_of g end a) e ∙ (pick_false (Some (exchanged (a - end))) None (lt-leb end a h)))
 
-pub distance_after : {f : Form} {end a x : ℕ} → f ≡ Plain → end ≤ a → x ≡ exchanged (a - end) → Is x ≡ operand_answer (jump_of f end a)
-distance_after {end = end} {a} e h k = ap Is k ∙ sym (ap (λ g. operand_answer (jump_of g end a)) e ∙ ap operand_answer (pick_true (some (exchanged (a - end))) none (le-leb end a h)))
+pub distance_after : {f : Form} {end a x : ℕ} → f ≡ Plain → end ≤ a → x ≡ exchanged (a - end) → Some x ≡ (jump_of f end a)
+distance_after {end = end} {a} e h k = ap Some k ∙ sym (ap (λ g. jump_of g end a) e ∙ (pick_true (Some (exchanged (a - end))) None (le-leb end a h)))
 
-pub target_past : {f : Form} (end a : ℕ) {x : ℕ} → f ≡ Chin → x ≡ exchanged a → 65535 < end + x → Lacking ≡ operand_answer (jump_of f end a)
+pub target_past : {f : Form} (end a : ℕ) {x : ℕ} → f ≡ Chin → x ≡ exchanged a → 65535 < end + x → None ≡ (jump_of f end a)
 target_past end a {x} e k h =
-    sym (ap (λ g. operand_answer (jump_of g end a)) e ∙ ap operand_answer (pick_false (some (end + exchanged a)) none (lt-leb (end + exchanged a) 65535 (omega arith))))
+    sym (ap (λ g. jump_of g end a) e ∙ (pick_false (Some (end + exchanged a)) None (lt-leb (end + exchanged a) 65535 (omega arith))))
 
-pub target_within : {f : Form} (end a : ℕ) {x : ℕ} → f ≡ Chin → x ≡ exchanged a → end + x ≤ 65535 → Is (end + x) ≡ operand_answer (jump_of f end a)
+pub target_within : {f : Form} (end a : ℕ) {x : ℕ} → f ≡ Chin → x ≡ exchanged a → end + x ≤ 65535 → Some (end + x) ≡ (jump_of f end a)
 target_within end a {x} e k h =
-    ap (λ n. Is (end + n)) k ∙ sym (ap (λ g. operand_answer (jump_of g end a)) e ∙ ap operand_answer (pick_true (some (end + exchanged a)) none (le-leb (end + exchanged a) 65535 (omega arith))))
+    ap (λ n. Some (end + n)) k ∙ sym (ap (λ g. jump_of g end a) e ∙ (pick_true (Some (end + exchanged a)) None (le-leb (end + exchanged a) 65535 (omega arith))))
 
 -- an operand of two bytes, by the instruction byte
-jumps_so : (jump : Jump) (op end a : ℕ) {r : Operand} → jumps op ≡ true → r ≡ operand_answer (jump end a) → r ≡ operand_answer (wide_operand jump op end a)
-jumps_so jump op end a e k = k ∙ sym (ap operand_answer (pick_true _ _ e))
+jumps_so : (jump : Jump) (op end a : ℕ) {r : Option ℕ} → jumps op ≡ true → r ≡ (jump end a) → r ≡ (wide_operand jump op end a)
+jumps_so jump op end a e k = k ∙ sym ((pick_true _ _ e))
 
-pub operand-jump : (f : Form) (op end a : ℕ) {r : Operand} → op ≡ op_jump → r ≡ operand_answer (jump_of f end a) → r ≡ operand_answer (wide_operand (jump_of f) op end a)
+pub operand-jump : (f : Form) (op end a : ℕ) {r : Option ℕ} → op ≡ op_jump → r ≡ (jump_of f end a) → r ≡ (wide_operand (jump_of f) op end a)
 operand-jump f op end a h k = jumps_so (jump_of f) op end a (pick_true true (eqb op op_jump_not_truthy) (eq-eqb op op_jump h)) k
 
-pub operand-jump_not_truthy : (f : Form) (op end a : ℕ) {r : Operand} → op ≡ op_jump_not_truthy → r ≡ operand_answer (jump_of f end a) → r ≡ operand_answer (wide_operand (jump_of f) op end a)
+pub operand-jump_not_truthy : (f : Form) (op end a : ℕ) {r : Option ℕ} → op ≡ op_jump_not_truthy → r ≡ (jump_of f end a) → r ≡ (wide_operand (jump_of f) op end a)
 operand-jump_not_truthy f op end a h k = jumps_so (jump_of f) op end a (ap jumps h) k
 
-pub operand_stays : (f : Form) (op end a : ℕ) {x : ℕ} → (op ≡ op_jump → ⊥) → (op ≡ op_jump_not_truthy → ⊥) → x ≡ exchanged a → Is x ≡ operand_answer (wide_operand (jump_of f) op end a)
+pub operand_stays : (f : Form) (op end a : ℕ) {x : ℕ} → (op ≡ op_jump → ⊥) → (op ≡ op_jump_not_truthy → ⊥) → x ≡ exchanged a → Some x ≡ (wide_operand (jump_of f) op end a)
 operand_stays f op end a h k e =
     let no : jumps op ≡ false = pick_false true (eqb op op_jump_not_truthy) (ne_eqb op op_jump h) ∙ ne_eqb op op_jump_not_truthy k in
-    ap Is e ∙ sym (ap operand_answer (pick_false (jump_of f end a) (some (exchanged a)) no))
+    ap Some e ∙ sym ((pick_false (jump_of f end a) (Some (exchanged a)) no))
 
 -- an operand of fewer than two bytes stays
 narrow : (n a : ℕ) → n < 2 → turned n a ≡ a
@@ -102,28 +90,28 @@ module _ (jump : Jump) (b : Bytes) (start at size : ℕ) (i : InstrIn b start at
   result_narrow : size < 3 → result ≡ made here
   result_narrow h =
       let w : width (byte_at b at) < 2 = omega (arith, i.long) in
-      ap (with_operand (start + (at - start)) here) (pick_false _ _ (narrow_stays (byte_at b at) w) ∙ ap some (narrow (width (byte_at b at)) here.a w))
+      ap (with_operand (start + (at - start)) here) (pick_false _ _ (narrow_stays (byte_at b at) w) ∙ ap Some (narrow (width (byte_at b at)) here.a w))
 
   operand_wide : 3 ≤ size → operand_of jump here (at - start + (1 + width (byte_at b at))) ≡ wide_operand jump (byte_at b at) (at - start + size) (byte_at b (at + 1) * 256 + byte_at b (at + 2))
   operand_wide h =
       let w : 2 ≤ width (byte_at b at) = omega (arith, i.long) in
       let a = wide_at (byte_at b) (width (byte_at b at)) at w in
-      (λ k. pick (jumps (byte_at b at)) (jump (end_is k) here.a) (some (wide (width (byte_at b at)) here.a w k)))
-      ∙ (λ k. pick (jumps (byte_at b at)) (jump (at - start + size) (a k)) (some (exchanged (a k))))
+      (λ k. pick (jumps (byte_at b at)) (jump (end_is k) here.a) (Some (wide (width (byte_at b at)) here.a w k)))
+      ∙ (λ k. pick (jumps (byte_at b at)) (jump (at - start + size) (a k)) (Some (exchanged (a k))))
 
   -- what becomes of it: without a two-byte operand, without one in the other form, and with one
-  pub turns_narrow : size < 3 → (o : Bytes) → TurnsInstr jump b start at size o o Fine
+  pub turns_narrow : size < 3 → (o : Bytes) → TurnsInstr jump b start at size o o (Ok tt)
   turns_narrow h o = record { judged = sym (ap verdict (result_narrow h)); stored = λ j e. sym (pick_false (stored_operand o at j.a) o (lt-leb 3 size h)) }
 
   module _ (h : 3 ≤ size) where
-    pub turns_lacking : wide_operand jump (byte_at b at) (at - start + size) (byte_at b (at + 1) * 256 + byte_at b (at + 2)) ≡ none → (o o' : Bytes) → TurnsInstr jump b start at size o o' (Bad at)
+    pub turns_lacking : wide_operand jump (byte_at b at) (at - start + size) (byte_at b (at + 1) * 256 + byte_at b (at + 2)) ≡ None → (o o' : Bytes) → TurnsInstr jump b start at size o o' (Err at)
     turns_lacking e o o' =
         let there : start + (at - start) ≡ at = omega (arith, i.order) in
         let k : result ≡ stopped at = ap (with_operand (start + (at - start)) here) (operand_wide h ∙ e) ∙ ap stopped there in
         record { judged = sym (ap verdict k); stored = λ j m. let z : ◌≡◌ {A = ℕ} 0 1 = cc in absurd (omega arith) }
 
-    pub turns_wide : {a : ℕ} → wide_operand jump (byte_at b at) (at - start + size) (byte_at b (at + 1) * 256 + byte_at b (at + 2)) ≡ some a → (o : Bytes)
-        → TurnsInstr jump b start at size o (stored_operand o at a) Fine
+    pub turns_wide : {a : ℕ} → wide_operand jump (byte_at b at) (at - start + size) (byte_at b (at + 1) * 256 + byte_at b (at + 2)) ≡ Some a → (o : Bytes)
+        → TurnsInstr jump b start at size o (stored_operand o at a) (Ok tt)
     turns_wide {a} e o =
         let k : result ≡ made (instr here.op a here.b) = ap (with_operand (start + (at - start)) here) (operand_wide h ∙ e) in
         record {

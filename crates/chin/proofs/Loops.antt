@@ -9,7 +9,7 @@ use Rattle.definition.specs.Basic.{Bytes}
 use Rattle.definition.specs.Bytecode.{written}
 use Rattle.definition.specs.Decode.{Decoded, decoded, items}
 use Rattle.listing.proofs.Items.{all_read, Reading, begins, ends, Next, next}
-use Rattle.chin.specs.declared.operand.Jumps.TheVariants.{Fine}
+use Rattle.std.specs.Prelude.{Ok}
 use Rattle.chin.specs.Turn.{Made, made, stopped, along, each}
 use Rattle.chin.specs.Rows.{verdict, Same}
 use Rattle.chin.proofs.Rows.{made_once}
@@ -51,7 +51,7 @@ module _ {A : Type 0} (f : ℕ → ℕ → Decoded A) (sizes : List A → ℕ) (
     turned_all h = ap (each sizes t) (sym (ends f end most start l.reading e (omega (arith, l.order)))) ∙ l.turned
 
     -- at the end all are turned
-    pub loop_fine : end ≤ at → Fine ≡ verdict (each sizes t c)
+    pub loop_fine : end ≤ at → Ok tt ≡ verdict (each sizes t c)
     loop_fine h = sym (ap verdict (turned_all h))
 
     pub loop_written : end ≤ at → (d : List A) → each sizes t c ≡ made d → Same o₀ b start end → o ≡ (take start o₀ ++ written w d) ++ drop end o₀

@@ -12,7 +12,7 @@ use Rattle.definition.specs.Decode.{decoded}
 use Rattle.bytecode.specs.declared.Form.{Form}
 use Rattle.bytecode.specs.Form.{const_in, read_const_in}
 use Rattle.bytecode.proofs.Fields.{const_end_in, const_ends_in}
-use Rattle.chin.specs.declared.operand.Jumps.TheVariants.{Fine, Bad}
+use Rattle.std.specs.Prelude.{Ok, Err}
 use Rattle.chin.specs.Turn.{Made, turn_const}
 use Rattle.chin.specs.Rows.{other_form, jump_of, verdict, ConstAt, HasConst, TurnsConst, PoolAt, TurnsPool}
 use Rattle.chin.proofs.Turns.{turn-const}
@@ -37,7 +37,7 @@ module _ (f : Form) (b : Bytes) (start end : ℕ) where
   pool-begins h o = loop_begins (read_const_in f (byte_at b)) pool_size turn_at (const_in (other_form f)) b constants_limit start end h refl o
 
   module _ {cs : List Const} (a : PoolAt f b start end cs) {o₀ o : Bytes} {at : ℕ} (l : PoolLoop o₀ at o) where
-    pub pool_ends : end ≤ at → TurnsPool f b start end cs o₀ o Fine
+    pub pool_ends : end ≤ at → TurnsPool f b start end cs o₀ o (Ok tt)
     pool_ends h =
         record {
           judged = loop_fine (read_const_in f (byte_at b)) pool_size turn_at (const_in (other_form f)) b constants_limit start end l a.reads h;
@@ -64,12 +64,12 @@ module _ (f : Form) (b : Bytes) (start end : ℕ) where
       offset : turn_at (pool_size l.xs) x ≡ turn_const (jump_of f) (at + 3) x
       offset = ap (λ k. turn_const (jump_of f) (k + 3) x) (sym l.place)
 
-      pub pool_stops : {o' o'' : Bytes} {p : ℕ} → TurnsConst f b at x o o' (Bad p) → TurnsPool f b start end cs o₀ o'' (Bad p)
+      pub pool_stops : {o' o'' : Bytes} {p : ℕ} → TurnsConst f b at x o o' (Err p) → TurnsPool f b start end cs o₀ o'' (Err p)
       pool_stops {p = p} t =
           let q = loop_stops (read_const_in f (byte_at b)) pool_size turn_at (const_in (other_form f)) b constants_limit start end l a.reads h there.reads (offset ∙ bad_stopped _ t.judged) in
           record { judged = sym (ap verdict q); written = λ d k m. absurd (not-made q k) }
 
-      pub pool_again : {o' : Bytes} → length o' ≡ length o → TurnsConst f b at x o o' Fine → PoolLoop o₀ (at + 3 + (head (byte_at b) at).len) o'
+      pub pool_again : {o' : Bytes} → length o' ≡ length o → TurnsConst f b at x o o' (Ok tt) → PoolLoop o₀ (at + 3 + (head (byte_at b) at).len) o'
       pool_again {o'} kept t =
           let m = fine_made (turn_const (jump_of f) (at + 3) x) t.judged in
           let w = write_const f a.small.below at end there.reads in

@@ -3,7 +3,7 @@ use Prim.Native.Nat.{ℕ, zero, suc, ◌+◌, ◌-◌, ◌<◌}
 use native.Mathlib.Omega.{arith}
 use mathlib.Core.Bool.{Bool, true, false}
 use mathlib.Core.List.{List, ◌∷◌, ◌++◌}
-use mathlib.Core.Option.{Option, none, some}
+use Rattle.std.specs.Prelude.{Option, None, Some}
 use mathlib.Core.Path.{◌≡◌, refl, sym, ap, ◌∙◌}
 use lib.ListN.{length}
 use lib.Dec.{leb, eqb}
@@ -20,12 +20,12 @@ use Rattle.chin.proofs.Operands.{turned_bound, turned_twice, turned-bytes, jump-
 -- an instruction's other operand
 pub record Got (i : Instr) (o : Option ℕ) (j : Instr) : Type 0 where
   pub operand : ℕ
-  pub found : o ≡ some operand
+  pub found : o ≡ Some operand
   pub same : instr i.op operand i.b ≡ j
 
 pub got : (p : ℕ) (i : Instr) (o : Option ℕ) {j : Instr} → with_operand p i o ≡ made j → Got i o j
-got p i (some a) e = record { operand = a; found = refl; same = made_once e }
-got p i none e = let z : ◌≡◌ {A = ℕ} 0 1 = cc in absurd (omega arith)
+got p i (Some a) e = record { operand = a; found = refl; same = made_once e }
+got p i None e = let z : ◌≡◌ {A = ℕ} 0 1 = cc in absurd (omega arith)
 
 -- an instruction and its other form
 pub record SameInstr (i j : Instr) : Type 0 where
@@ -57,23 +57,23 @@ module _ {f g : Jump} (r : Returns f g) where
   -- the other operand is within its bound, and comes back
   record Other (i : Instr) (end a : ℕ) : Type 0 where
     bound : a < operand_bound (width i.op)
-    back : operand_of g (instr i.op a i.b) end ≡ some i.a
+    back : operand_of g (instr i.op a i.b) end ≡ Some i.a
 
-  other : (i : Instr) → ValidInstr i → (end : ℕ) {a : ℕ} → operand_of f i end ≡ some a → Other i end a
+  other : (i : Instr) → ValidInstr i → (end : ℕ) {a : ℕ} → operand_of f i end ≡ Some a → Other i end a
   other i v end {a} e = go (jumps i.op) refl e
     where
-      go : (b : Bool) → jumps i.op ≡ b → pick b (f end i.a) (some (turned (width i.op) i.a)) ≡ some a → Other i end a
+      go : (b : Bool) → jumps i.op ≡ b → pick b (f end i.a) (Some (turned (width i.op) i.a)) ≡ Some a → Other i end a
       go true t e =
           let w : operand_bound (width i.op) ≡ 65536 = ap operand_bound (jump-width i.op t) in
           let h : i.a < 65536 = omega (arith, v.operand) in
           let k = r.small end h e in
-          record { bound = omega arith; back = ap (λ b. pick b (g end a) (some (turned (width i.op) a))) t ∙ r.back end h e }
+          record { bound = omega arith; back = ap (λ b. pick b (g end a) (Some (turned (width i.op) a))) t ∙ r.back end h e }
       go false t e =
           let n = width i.op in
           let s : turned n i.a ≡ a = cc in
           record {
             bound = rw s at (turned_bound n i.a v.operand);
-            back = ap (λ b. pick b (g end a) (some (turned n a))) t ∙ ap some (ap (turned n) (sym s) ∙ turned_twice n i.a v.operand);
+            back = ap (λ b. pick b (g end a) (Some (turned n a))) t ∙ ap Some (ap (turned n) (sym s) ∙ turned_twice n i.a v.operand);
           }
 
   turns-instr : (start : ℕ) → Turns SameInstr size_of ValidInstr (turn_instr f start)
@@ -188,10 +188,10 @@ abbrev pub meant : Instr → ℕ → ℕ
 meant i end = pick (jumps i.op) (i.a - end) i.a
 
 -- the operand is what is meant, exchanged where it has two bytes
-pub operand_meant : (i : Instr) (end : ℕ) {a : ℕ} → operand_of distance i end ≡ some a → turned (width i.op) (meant i end) ≡ a
+pub operand_meant : (i : Instr) (end : ℕ) {a : ℕ} → operand_of distance i end ≡ Some a → turned (width i.op) (meant i end) ≡ a
 operand_meant i end {a} e = go (jumps i.op) refl e
   where
-    go : (b : Bool) → jumps i.op ≡ b → pick b (distance end i.a) (some (turned (width i.op) i.a)) ≡ some a → turned (width i.op) (pick b (i.a - end) i.a) ≡ a
+    go : (b : Bool) → jumps i.op ≡ b → pick b (distance end i.a) (Some (turned (width i.op) i.a)) ≡ Some a → turned (width i.op) (pick b (i.a - end) i.a) ≡ a
     go true t e = ap (λ n. turned n (i.a - end)) (jump-width i.op t) ∙ (chosen_some (leb end i.a) (exchanged (i.a - end)) e).value
     go false t e = cc
 

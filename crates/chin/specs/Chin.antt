@@ -1,21 +1,16 @@
 -- The two calls: an image into the chin form, and back.
-use Rattle.std.specs.Prelude.{ℕ}
+use Rattle.std.specs.Prelude.{ℕ, Err}
 use Rattle.definition.specs.Basic.{Bytes}
-use Rattle.definition.specs.Number.{refusal, bad_image}
+use Rattle.definition.specs.Number.{refusal, bad_image, bad_jump}
 use Rattle.definition.specs.Bytecode.{Image}
 use Rattle.definition.specs.Decode.{Decoded, decoded, malformed}
 use Rattle.definition.specs.Output.{output_answer, output_after}
-use Rattle.definition.specs.declared.Refusal.{Refusal}
-use Rattle.definition.specs.declared.Answer.{Answer}
-use Rattle.definition.specs.declared.Answer.TheVariants.{Refused}
+use Rattle.definition.specs.declared.reason.Refusal.{Refusal}
+use Rattle.definition.specs.Answer.{Answer}
 use Rattle.bytecode.specs.declared.Form.{Form}
 use Rattle.bytecode.specs.declared.Form.TheVariants.{Plain, Chin}
 use Rattle.bytecode.specs.Form.{image_in, read_form}
 use Rattle.chin.specs.Turn.{Jump, distance, target, Made, made, stopped, turn_image}
-
--- a jump to before its own end, or a distance whose target passes 65,535
-abbrev pub bad_jump : ℕ
-bad_jump = 26
 
 -- the other form's bytes, or a refusal
 pub data Given : Type 0 where
@@ -44,7 +39,7 @@ from_chin = translate Chin Plain target
 -- what a call answers, with so many bytes lent as output
 abbrev pub answer_of : Given → ℕ → Answer
 answer_of (given b) room = output_answer b room
-answer_of (refused r) room = Refused r
+answer_of (refused r) room = Err r
 
 -- and the output after it
 abbrev pub output_of : Given → Bytes → Bytes

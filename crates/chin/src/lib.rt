@@ -9,66 +9,61 @@ ghost use Rattle.definition.specs.Bytecode.{Image};
 ghost use Rattle.chin.specs.Chin.{translate as translated, to_chin, from_chin, answer_of, output_of};
 ghost use Rattle.chin.specs.Rows.{jump_of, other_form, ImageAt, HasImage, TurnsImage, Copied};
 
-use bytecode::{Form, ImageCheck, check_form, main_tag};
-use definition::{Answer, Refusal, number};
+use bytecode::{Form, check_form, main_tag};
+use definition::{Reason, Refusal};
 use field::length_at;
-use operand::{Jumps, other_form};
+use operand::other_form;
 use row::{put_tag, turn_code, turn_constants};
-
-// A jump to before its own end, or a distance whose target passes 65,535.
-pub const BAD_JUMP: usize = 26;
 
 // Puts the other form of a sound image over its copy at the front of the output, up to a jump that has no operand there. Where the output is empty
 // it only looks for one.
-fn put_form(output: &mut [u8], image: &[u8], from: Form) -> Jumps
+fn put_form(output: &mut [u8], image: &[u8], from: Form) -> Result<(), usize>
     requires { HasImage from image.now }
     ensures { (m : Image) → ImageAt from image.now m → TurnsImage from m image.now output.old output.new result }
 {
     let end = 3 + length_at(image, 0);
     let tag = main_tag(other_form(from));
     put_tag(output, 0, tag);
-    match turn_code(output, image, 3, end, from) {
-        Jumps::Bad(place) => Jumps::Bad(place),
-        Jumps::Fine => turn_constants(output, image, end + 3, image.len(), from),
-    }
+    turn_code(output, image, 3, end, from)?;
+    turn_constants(output, image, end + 3, image.len(), from)
 }
 
 // Writes the other form of a sound image whose jumps have operands there; or 15.
-fn write_form(image: &[u8], output: &mut [u8], from: Form) -> Answer
+fn write_form(image: &[u8], output: &mut [u8], from: Form) -> Result<usize, Refusal>
     requires { HasImage from image.now }
     ensures { (m : Image) → ImageAt from image.now m → Copied from m output.old result output.new }
 {
     let len = image.len();
     if output.len() < len {
-        return Answer::Refused(Refusal {
-            number: number::OUTPUT_SHORT,
+        return Err(Refusal {
+            reason: Reason::OutputShort,
             place: 0,
         });
     }
     output[..len].copy_from_slice(image);
-    put_form(output, image, from);
-    Answer::Length(len)
+    let _ = put_form(output, image, from);
+    Ok(len)
 }
 
 // Translates an image of one form into the other: its length; or 17, 26 or 15, and the output stays.
-fn translate(image: &[u8], output: &mut [u8], from: Form) -> Answer
+fn translate(image: &[u8], output: &mut [u8], from: Form) -> Result<usize, Refusal>
     ensures answers { result ≡ answer_of (translated from (other_form from) (jump_of from) image.now) (length output.old) }
     ensures writes { output.new ≡ output_of (translated from (other_form from) (jump_of from) image.now) output.old }
 {
     match check_form(image, from) {
-        ImageCheck::Refused(r) => Answer::Refused(r),
-        ImageCheck::Sound(_) => match put_form(&mut output[..0], image, from) {
-            Jumps::Bad(place) => Answer::Refused(Refusal {
-                number: BAD_JUMP,
+        Err(r) => Err(r),
+        Ok(_) => match put_form(&mut output[..0], image, from) {
+            Err(place) => Err(Refusal {
+                reason: Reason::BadJump,
                 place: place,
             }),
-            Jumps::Fine => write_form(image, output, from),
+            Ok(()) => write_form(image, output, from),
         },
     }
 }
 
 // An image into the chin form: its length, which is the image's; or 17, 26 or 15, and the output stays.
-pub fn to_chin(image: &[u8], output: &mut [u8]) -> Answer
+pub fn to_chin(image: &[u8], output: &mut [u8]) -> Result<usize, Refusal>
     ensures answers { result ≡ answer_of (to_chin image.now) (length output.old) }
     ensures writes { output.new ≡ output_of (to_chin image.now) output.old }
 {
@@ -77,7 +72,7 @@ pub fn to_chin(image: &[u8], output: &mut [u8]) -> Answer
 }
 
 // The chin form back into an image, likewise.
-pub fn from_chin(image: &[u8], output: &mut [u8]) -> Answer
+pub fn from_chin(image: &[u8], output: &mut [u8]) -> Result<usize, Refusal>
     ensures answers { result ≡ answer_of (from_chin image.now) (length output.old) }
     ensures writes { output.new ≡ output_of (from_chin image.now) output.old }
 {

@@ -3,19 +3,19 @@ ghost use Rattle.std.specs.Prelude.{◌≡◌, List, ◌+◌, ◌<◌, set};
 ghost use Rattle.definition.specs.Bytecode.{Code, Const};
 ghost use Rattle.chin.specs.Rows.{jump_of, stored_operand, InstrIn, TurnsInstr, CodeAt, HasCode, TurnsCode, ConstAt, HasConst, TurnsConst, PoolAt, HasPool, TurnsPool};
 
-use crate::operand::{Jumps, Operand, other_form, other_operand};
+use crate::operand::{other_form, other_operand};
 use bytecode::{Form, function_tag};
 use field::{length_at, word};
 use opcode::size_at;
 
 // Puts a tag at an offset, if there is room.
+// Kept: a test of the offset, since over `get_mut` the proof did not close.
 pub fn put_tag(output: &mut [u8], at: usize, tag: u8)
     ensures { output.new ≡ set output.old at tag }
 {
-    if output.len() <= at {
-        return;
+    if at < output.len() {
+        output[at] = tag;
     }
-    output[at] = tag;
 }
 
 // Puts the operand of the instruction at an offset, high byte first, if there is room.
@@ -26,13 +26,13 @@ fn put_operand(output: &mut [u8], at: usize, a: usize)
     if output.len() <= at + 2 {
         return;
     }
-    let high = (a / 256 % 256) as u8;
-    let low = (a % 256) as u8;
+    let [.., high, low] = a.to_be_bytes();
     output[at + 1] = high;
     output[at + 2] = low;
 }
 
-// Turns the instruction of so many bytes at an offset, in the chunk that begins at `start`.
+// Turns the instruction of so many bytes at an offset, in the chunk that begins at `start`; or answers its offset, where its jump has no operand in
+// the other form.
 fn turn_instruction(
     output: &mut [u8],
     image: &[u8],
@@ -40,50 +40,61 @@ fn turn_instruction(
     at: usize,
     size: usize,
     from: Form,
-) -> Jumps
+) -> Result<(), usize>
     requires { InstrIn image.now start at size }
     ensures { TurnsInstr (jump_of from) image.now start at size output.old output.new result }
 {
     if size < 3 {
-        return Jumps::Fine;
+        return Ok(());
     }
     let operand = word(image[at + 1], image[at + 2]);
     match other_operand(from, image[at], at - start + size, operand) {
-        Operand::Lacking => Jumps::Bad(at),
-        Operand::Is(a) => {
+        Some(a) => {
             put_operand(output, at, a);
-            Jumps::Fine
+            Ok(())
         }
+        None => Err(at),
     }
 }
 
-// Turns the code of a chunk.
-pub fn turn_code(output: &mut [u8], image: &[u8], start: usize, end: usize, from: Form) -> Jumps
+// Turns the code of a chunk, up to a jump that has no operand in the other form: then its offset.
+pub fn turn_code(
+    output: &mut [u8],
+    image: &[u8],
+    start: usize,
+    end: usize,
+    from: Form,
+) -> Result<(), usize>
     requires { HasCode image.now start end }
     ensures { (c : Code) → CodeAt image.now start end c → TurnsCode (jump_of from) image.now start end c output.old output.new result }
 {
     let mut at = start;
     while at < end {
-        let size = size_at(image, at, end);
-        if size == 0 {
-            return Jumps::Fine;
-        }
-        match turn_instruction(output, image, start, at, size, from) {
-            Jumps::Bad(place) => return Jumps::Bad(place),
-            Jumps::Fine => at += size,
+        match size_at(image, at, end) {
+            Some(size) => {
+                turn_instruction(output, image, start, at, size, from)?;
+                at += size;
+            }
+            None => return Ok(()),
         }
     }
-    Jumps::Fine
+    Ok(())
 }
 
 // Turns the constant at an offset: a function has the other form's tag, and its code is turned; any other stays.
-fn turn_constant(output: &mut [u8], image: &[u8], at: usize, end: usize, from: Form) -> Jumps
+fn turn_constant(
+    output: &mut [u8],
+    image: &[u8],
+    at: usize,
+    end: usize,
+    from: Form,
+) -> Result<(), usize>
     requires { HasConst from image.now at end }
     ensures { (x : Const) → ConstAt from image.now at end x → TurnsConst from image.now at x output.old output.new result }
 {
     let function = function_tag(from);
     if image[at] != function {
-        return Jumps::Fine;
+        return Ok(());
     }
     let tag = function_tag(other_form(from));
     put_tag(output, at, tag);
@@ -98,16 +109,14 @@ pub fn turn_constants(
     start: usize,
     end: usize,
     from: Form,
-) -> Jumps
+) -> Result<(), usize>
     requires { HasPool from image.now start end }
     ensures { (cs : List Const) → PoolAt from image.now start end cs → TurnsPool from image.now start end cs output.old output.new result }
 {
     let mut at = start;
     while at < end {
-        match turn_constant(output, image, at, end, from) {
-            Jumps::Bad(place) => return Jumps::Bad(place),
-            Jumps::Fine => at = at + 3 + length_at(image, at),
-        }
+        turn_constant(output, image, at, end, from)?;
+        at = at + 3 + length_at(image, at);
     }
-    Jumps::Fine
+    Ok(())
 }

@@ -2,24 +2,18 @@
 // standard error, and standard output stays empty.
 #![tactic(auto)]
 
-use definition::Answer;
-use definition::limit::{CODE_SIZE, SESSION_SIZE, TABLE_SIZE, TREE_LIMIT};
-use report::{print_in_tree, read_full, write_first};
+use definition::limit::{SESSION_SIZE, TREE_LIMIT};
+use report::{compile_fresh, print_in_tree, read_full, write_first};
 use std::io;
 
-// Compiles a tree in a fresh session.
+// Compiles a tree, and writes its image or its refusal.
 fn run(rt: &(impl Print + Eprint), tree: &[u8]) -> io::Result<()> {
-    let mut session = [0u8; SESSION_SIZE];
-    compiler::make_session(&mut session);
     let mut output = [0u8; SESSION_SIZE];
-    let mut code = [0u8; CODE_SIZE];
-    let mut table = [0u32; TABLE_SIZE];
-    let answer = compiler::compile(&mut session, tree, &mut output, &mut code, &mut table);
-    match answer {
-        Answer::Length(n) => write_first(rt, &output, n),
-        Answer::Refused(r) => {
+    match compile_fresh(tree, &mut output) {
+        Ok(n) => write_first(rt, &output, n),
+        Err(r) => {
             rt.eprint("compile_tree")?;
-            print_in_tree(rt, r.number, r.place)
+            print_in_tree(rt, r)
         }
     }
 }

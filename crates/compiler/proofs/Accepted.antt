@@ -17,7 +17,7 @@ use Rattle.definition.specs.Session.{listed, Session, name_bytes, names_bytes, f
 use Rattle.definition.specs.Valid.{ValidSession}
 use Rattle.definition.specs.Output.{over}
 use Rattle.definition.specs.Compile.{image_of, session_of}
-use Rattle.definition.specs.declared.Answer.TheVariants.{Length, Refused}
+use Rattle.std.specs.Prelude.{Ok, Err}
 use Rattle.definition.proofs.Basic.{pick_true, pick_false}
 use Rattle.definition.proofs.Instructions.{code-length}
 use Rattle.definition.proofs.Pools.{pool-length}
@@ -146,7 +146,7 @@ module _ {tree c b : Bytes} {t : List ℕ} {l : SessionLayout} {s : Memory.State
       → o₁ ≡ over (field tag_main (take s.chunk.len c) ++ field tag_pool (take (s.pool_end - (l.names_end + 3)) (drop (l.names_end + 3) b))) o
       → Appends (later_fields tree (take l.names_end b) t l.names (get_or t 0 0)) l.names_end b b₁ end
       → b₂ ≡ written_back p.session.words end (take (total - (6 + s.chunk.len)) (drop (6 + s.chunk.len) o₁)) b₁
-      → record { answer = Length total; session = b₂; output = o₁ } ≡ final_result p o
+      → record { answer = Ok total; session = b₂; output = o₁ } ≡ final_result p o
   accepted o {o₁} {b₁} {end = end} {total} k h w n q =
       let m = image_of p.state in
       let code = encode p.state.code in
@@ -157,14 +157,14 @@ module _ {tree c b : Bytes} {t : List ℕ} {l : SessionLayout} {s : Memory.State
       ap (λ o. take (total - (6 + s.chunk.len)) (drop (6 + s.chunk.len) o)) image
       ∙ second_content o tag_main tag_pool code pool {i = 6 + s.chunk.len} {n = total - (6 + s.chunk.len)} (omega (arith, p.compiled.len, code-length p.state.code)) (omega (arith, new_end)) in
       let session = session_written n back q in
-      (λ i. record { answer = Length (size i); session = session i; output = image i })
+      (λ i. record { answer = Ok (size i); session = session i; output = image i })
       ∙ sym (ap (λ x. step_result (session_bytes p.session) o x) (pick_true _ _ (le-leb (length (image_bytes m)) (length o) (omega arith))))
 
   -- The output is short: zeros restore the session
   pub short : {o b₁ : Bytes} → length o < image_length l s → b₁ ≡ sets b l.pool_end (replicate (s.pool_end - l.pool_end) 0)
-      → record { answer = Refused (refusal Number.output_short 0); session = b₁; output = o } ≡ final_result p o
+      → record { answer = Err (refusal Number.output_short 0); session = b₁; output = o } ≡ final_result p o
   short {o} h q =
       let z = p.session in
       let back = q ∙ (λ i. sets b (old_end i) (replicate (s.pool_end - old_end i) 0)) ∙ restored z (session_bytes z) (all_held z p.valid) p.compiled.pool.appended in
-      (λ i. record { answer = Refused (refusal Number.output_short 0); session = back i; output = o })
+      (λ i. record { answer = Err (refusal Number.output_short 0); session = back i; output = o })
       ∙ sym (ap (λ x. step_result (session_bytes z) o x) (pick_false _ _ (lt-leb (length (image_bytes (image_of p.state))) (length o) (omega (arith, image-size)))))

@@ -1,18 +1,18 @@
 -- How names are appended to the session's.
 use Prim.Native.Nat.{ℕ, zero, suc, ◌+◌, ◌-◌, ◌*◌, ◌≤◌, ◌<◌}
 use native.Mathlib.Omega.{arith}
-use native.Mathlib.Numerals.{add-one}
 use mathlib.Core.List.{List, [], ◌∷◌, ◌++◌}
 use mathlib.Core.Path.{◌≡◌, refl, sym, ap, ◌∙◌}
-use lib.ListN.{length, get_or, set, take, drop, length-append, length-drop}
-use lib.Seq.{sets, length-sets, length-take-le, take-nil, take-suc, take-take, get_or-take, get_or-drop}
+use lib.ListN.{length, get_or, take, drop, length-append, length-drop}
+use lib.Seq.{sets, sets-eq, length-sets, length-take-le, take-nil, take-take, get_or-take}
 use borrow.Author.Tests.{lt-ltb, le-ltb}
+use Rattle.std.specs.List.{copy_within}
 use Rattle.definition.specs.Basic.{Bytes}
 use Rattle.definition.specs.Tag.{tag_name}
 use Rattle.definition.specs.Session.{name_bytes, names_bytes}
 use Rattle.definition.proofs.Basic.{pick_true, pick_false}
 use Rattle.session.specs.Write.{heading}
-use Rattle.session.proofs.Stores.{sets_append, take_sets, get_d_sets}
+use Rattle.session.proofs.Stores.{sets_append, take_sets}
 use Rattle.session.proofs.Fields.{field_stored}
 use Rattle.session.proofs.Sessions.{written-append}
 use Rattle.field.specs.Layout.{len, content}
@@ -40,39 +40,15 @@ module _ {A : Type 0} where
 
 -- Bytes that are there already, once more
 
--- the first i of n bytes from an offset on are stored at another, which lies behind them
-pub record Repeated (e : Bytes) (from to n i : ℕ) (b : Bytes) : Type 0 where
-  pub within : i ≤ n
-  pub stored : b ≡ sets e to (take i (drop from e))
-
-module _ {e : Bytes} {from to n : ℕ} where
-  pub repeated_none : Repeated e from to n 0 e
-  repeated_none = record { within = omega arith; stored = refl }
-
-  module _ {i : ℕ} {b : Bytes} (r : Repeated e from to n i b) where
-    pub repeated_length : length b ≡ length e
-    repeated_length = ap length r.stored ∙ length-sets e to (take i (drop from e))
-
-    pub repeated_more : i < n → from + n ≤ to → to + n ≤ length e → Repeated e from to n (i + 1) (set b (to + i) (get_or b (from + i) 0))
-    repeated_more h k room =
-        let xs = take i (drop from e) in
-        let l : i < length (drop from e) = omega (arith, length-drop from e) in
-        let n = length-take-le i (drop from e) (omega arith) in
-        let byte : get_or b (from + i) 0 ≡ get_or (drop from e) i 0 = ap (λ b. get_or b (from + i) 0) r.stored ∙ get_d_sets e to (from + i) xs (omega arith) ∙ sym (get_or-drop from e i 0) in
-        record {
-          within = omega arith;
-          stored =
-              (λ j. set (r.stored j) (to + i) (byte j))
-              ∙ sets_append e to xs (get_or (drop from e) i 0 ∷ []) (omega arith)
-              ∙ ap (sets e to) (sym (take-suc (drop from e) i 0 l))
-              ∙ ap (λ m. sets e to (take m (drop from e))) (sym (add-one i));
-        }
-
-    pub repeated_all : n ≤ i → b ≡ sets e to (take n (drop from e))
-    repeated_all h =
-        let w = r.within in
-        let m : i ≡ n = omega arith in
-        r.stored ∙ ap (λ m. sets e to (take m (drop from e))) m
+-- the library's copy of n bytes from an offset on stores them at another
+pub copied_within : (e : Bytes) (from n to : ℕ) → from + n ≤ length e → to + n ≤ length e → copy_within e from (from + n) to ≡ sets e to (take n (drop from e))
+copied_within e from n to h room =
+    let xs = take n (drop from e) in
+    let size : length (take n (drop from e)) ≡ n = length-take-le n (drop from e) (omega (arith, length-drop from e)) in
+    let m : from + n - from ≡ n = omega arith in
+    ap (λ k. take to e ++ take k (drop from e) ++ drop (to + k) e) m
+    ∙ ap (λ k. take to e ++ take n (drop from e) ++ drop (to + k) e) (sym size)
+    ∙ sym (sets-eq xs e to (omega (arith, size)))
 
 -- One name
 

@@ -9,16 +9,16 @@ use lib.Seq.{drop-append_seam, drop_at}
 use Rattle.definition.specs.Basic.{Bytes}
 use Rattle.definition.specs.Limit.{session_size}
 use Rattle.definition.specs.Number
-use Rattle.definition.specs.Number.{refusal, translate_numbers, lent_numbers}
+use Rattle.definition.specs.Number.{refusal, translate_numbers, lent_numbers, number_of}
 use Rattle.definition.specs.Bytecode.{Image, image_bytes}
 use Rattle.definition.specs.Session.{Words, word_list, field_count, Session, session_bytes}
 use Rattle.definition.specs.Decode.{Decoded, decoded, malformed, read_session}
 use Rattle.definition.specs.Compile.{Outcome, Step, enough, compile}
 use Rattle.definition.specs.Call.{Lent, Called, answered, in_session, request, call}
 use Rattle.definition.specs.Series.{Call, session_after, Start, calls, AllAlike, shapes, Indistinguishable}
-use Rattle.definition.specs.declared.Refusal.{Refusal}
-use Rattle.definition.specs.declared.Answer.{Answer}
-use Rattle.definition.specs.declared.Answer.TheVariants.{Refused}
+use Rattle.definition.specs.declared.reason.Refusal.{Refusal}
+use Rattle.definition.specs.Answer.{Answer}
+use Rattle.std.specs.Prelude.{Err}
 use Rattle.definition.specs.Valid.{AreBytes}
 use Rattle.definition.proofs.Numbers.{among}
 use Rattle.definition.proofs.Sessions.{write_session, session_length}
@@ -26,6 +26,7 @@ use Rattle.definition.proofs.Steps.{CallNumber, translate-valid, compile-valid, 
 use Rattle.definition.proofs.Series.{condition_3}
 use Rattle.compiler.proofs.Whole.{compile_is, call-enough, call_short, long_front}
 use Rattle.compiler.specs.Promise.{Compiles, MadeBy, Ended, Ran, Wrote, ExactIn, Exact}
+use Rattle.definition.specs.declared.reason.Reason.{Reason}
 
 -- Condition 3
 
@@ -63,25 +64,25 @@ module _ (tree : Bytes) (l : Lent) (z : Session) (n : ℕ) (big : enough (reques
         refused = λ q. (λ h. let w : ◌≡◌ {A = ℕ} 0 1 = cc in absurd (omega arith), λ h. let w : ◌≡◌ {A = ℕ} 0 1 = cc in absurd (omega arith));
       }
   exact (Outcome.refused q) e r l' a b =
-      record { accepted = λ k h. let w : ◌≡◌ {A = ℕ} 0 1 = cc in absurd (omega arith); refused = λ p. (λ h. let same : q ≡ p = cc in a ∙ ap Refused same, λ h. let same : q ≡ p = cc in e ∙ ap Outcome.refused same) }
+      record { accepted = λ k h. let w : ◌≡◌ {A = ℕ} 0 1 = cc in absurd (omega arith); refused = λ p. (λ h. let same : q ≡ p = cc in a ∙ ap Err same, λ h. let same : q ≡ p = cc in e ∙ ap Outcome.refused same) }
 
   -- in a session: image and session are the definition's, and a tree is refused exactly when the definition refuses it
   exact_in : (r : Answer) (l' : Lent) → Compiles tree l r l' → ExactIn tree z l r l'
   exact_in r l' p = exact next.outcome refl r l' (p.answer ∙ ap (λ (x : Called). x.answer) call_in) (p.lent ∙ ap (λ (x : Called). x.lent) call_in)
 
   -- and with none of the numbers 1 and 2
-  in_number : AreBytes (take session_size l.session) → (r : Answer) → r ≡ (call tree l).answer → (q : Refusal) → r ≡ Refused q → CallNumber q.number
+  in_number : AreBytes (take session_size l.session) → (r : Answer) → r ≡ (call tree l).answer → (q : Refusal) → r ≡ Err q → CallNumber (number_of q.reason)
   in_number bytes r a q h =
       let v = (write_session (take session_size l.session) bytes (long_front tree l big) reads).sound in
       go next.outcome (λ q e. (translate-valid (length l.output) z v tree).number q (sym (ap (λ (x : Step). x.outcome) (compile_is tree l big z)) ∙ e)) (sym h ∙ a ∙ ap (λ (x : Called). x.answer) call_in)
     where
-      go : (o : Outcome) → ((r : Refusal) → o ≡ Outcome.refused r → CallNumber r.number) → Refused q ≡ (answered l next.session o).answer → CallNumber q.number
+      go : (o : Outcome) → ((r : Refusal) → o ≡ Outcome.refused r → CallNumber (number_of r.reason)) → Err q ≡ (answered l next.session o).answer → CallNumber (number_of q.reason)
       go (Outcome.accepted m) k e = let w : ◌≡◌ {A = ℕ} 0 1 = cc in absurd (omega arith)
       go (Outcome.refused p) k e = let same : p ≡ q = cc in k q (ap Outcome.refused same)
 
 -- two refusals of different numbers
-other_number : {r : Answer} (n m : ℕ) → (n ≡ m → ⊥) → r ≡ Refused (refusal n 0) → r ≡ Refused (refusal m 0) → ⊥
-other_number n m h p q = let same : refusal n 0 ≡ refusal m 0 = cc in h (ap (λ (x : Refusal). x.number) same)
+other_number : {r : Answer} (n m : Reason) → (number_of n ≡ number_of m → ⊥) → r ≡ Err (refusal n 0) → r ≡ Err (refusal m 0) → ⊥
+other_number n m h p q = let same : refusal n 0 ≡ refusal m 0 = cc in h (ap (λ (x : Refusal). number_of x.reason) same)
 
 -- Every call on bytes: 1 and 2 exactly where document 01 says so, and else what the definition gives
 pub compile_condition_2 : (tree : Bytes) (l : Lent) (r : Answer) (l' : Lent) → AreBytes (take session_size l.session) → Compiles tree l r l' → Exact tree l r l'
@@ -93,10 +94,10 @@ compile_condition_2 tree l r l' bytes p = go (enough (request l tree)) refl (rea
     -- which is answered, by the two tests
     go : (b : Bool) → enough (request l tree) ≡ b → (d : Decoded Session) → read_session (take session_size l.session) ≡ d → Exact tree l r l'
     go false e d s =
-        let is : r ≡ Refused (refusal Number.short_buffer 0) = p.answer ∙ ap (λ (x : Called). x.answer) (call_short tree l e) in
+        let is : r ≡ Err (refusal Number.short_buffer 0) = p.answer ∙ ap (λ (x : Called). x.answer) (call_short tree l e) in
         record { short = (λ _. is, λ _. e); broken = (λ n. let f = n.lent in let w : ◌≡◌ {A = ℕ} 0 1 = cc in absurd (omega arith), λ q. absurd (other_number Number.short_buffer Number.no_session (λ h. omega arith) is q)); within = within }
     go true e (malformed k) s =
-        let is : r ≡ Refused (refusal Number.no_session 0) = p.answer ∙ ap (λ (x : Called). x.answer) (call-enough tree l e ∙ ap (in_session l tree) s) in
+        let is : r ≡ Err (refusal Number.no_session 0) = p.answer ∙ ap (λ (x : Called). x.answer) (call-enough tree l e ∙ ap (in_session l tree) s) in
         record { short = (λ f. let w : ◌≡◌ {A = ℕ} 0 1 = cc in absurd (omega arith), λ q. absurd (other_number Number.short_buffer Number.no_session (λ h. omega arith) q is)); broken = (λ _. is, λ _. record { lent = e; place = k; reads = s }); within = within }
     go true e (decoded z n) s =
         let known = in_number tree l z n e s bytes r p.answer in
@@ -109,11 +110,11 @@ compile_condition_2 tree l r l' bytes p = go (enough (request l tree)) refl (rea
 -- Condition 1
 
 -- how a call past numbers 1 and 2 ends, by its outcome
-ends : (l : Lent) (o : Outcome) → ((m : Image) → o ≡ Outcome.accepted m → length (image_bytes m) ≤ length l.output) → ((r : Refusal) → o ≡ Outcome.refused r → CallNumber r.number)
+ends : (l : Lent) (o : Outcome) → ((m : Image) → o ≡ Outcome.accepted m → length (image_bytes m) ≤ length l.output) → ((r : Refusal) → o ≡ Outcome.refused r → CallNumber (number_of r.reason))
     → (z : Session) → length (session_bytes z) ≡ session_size → Ended l (answered l z o).answer (answered l z o).lent
 ends l (Outcome.accepted m) f k z s =
     Ended.answered (f m refl) (drop-append_seam (image_bytes m) _) (drop_at (session_bytes z) _ session_size s ∙ ap (λ n. drop n l.session) s) (record { code = refl; table = refl })
-ends l (Outcome.refused r) f k z s = Ended.refused {r = r} (among translate_numbers lent_numbers tt r.number (k r refl)) refl refl (record { code = refl; table = refl })
+ends l (Outcome.refused r) f k z s = Ended.refused {r = r} (among translate_numbers lent_numbers tt (number_of r.reason) (k r refl)) refl refl (record { code = refl; table = refl })
 
 -- Every call on bytes: an answer, or a numbered refusal with its place that leaves session and output as they were
 pub compile_condition_1 : (tree : Bytes) (l : Lent) (r : Answer) (l' : Lent) → AreBytes (take session_size l.session) → Compiles tree l r l' → Ended l r l'

@@ -15,8 +15,8 @@ use Rattle.definition.specs.Number.{refusal}
 use Rattle.definition.specs.Compile.{enough}
 use Rattle.definition.specs.Call.{Lent, Called, cleared, request}
 use Rattle.definition.specs.Valid.{AreBytes}
-use Rattle.definition.specs.declared.Answer.{Answer}
-use Rattle.definition.specs.declared.Answer.TheVariants.{Refused}
+use Rattle.definition.specs.Answer.{Answer}
+use Rattle.std.specs.Prelude.{Err}
 use Rattle.definition.proofs.Basic.{both_left, both_right}
 use Rattle.compiler.specs.Result.{call_result, whole_of}
 use Rattle.compiler.specs.Promise.{Compiles}
@@ -74,7 +74,7 @@ promise_kept tree l big a e =
     record { answer = ap (λ (x : Called). x.answer) same; lent = ap (λ (x : Called). x.lent) same }
 
 -- and before it the refusal does
-pub promise_short : (tree : Bytes) (l : Lent) → enough (request l tree) ≡ false → Compiles tree l (Refused (refusal Number.short_buffer 0)) l
+pub promise_short : (tree : Bytes) (l : Lent) → enough (request l tree) ≡ false → Compiles tree l (Err (refusal Number.short_buffer 0)) l
 promise_short tree l h =
     let same = sym (call_short tree l h) in
     record { answer = ap (λ (x : Called). x.answer) same; lent = ap (λ (x : Called). x.lent) same }

@@ -12,7 +12,7 @@ use Rattle.definition.specs.Field.{field}
 use Rattle.definition.specs.Syntax.{Stmts}
 use Rattle.definition.specs.Tree.{Parsed, read_tree}
 use Rattle.definition.specs.Compile.{translate}
-use Rattle.definition.specs.declared.Refusal.{Refusal}
+use Rattle.definition.specs.declared.reason.Refusal.{Refusal}
 use Rattle.definition.specs.Bytecode.{pool_bytes}
 use Rattle.definition.specs.Session.{Session, names_bytes, words_field, front_fields, session_fields, session_bytes}
 use Rattle.definition.specs.Decode.{Decoded, decoded, malformed, read_words, read_names, read_session}
@@ -22,12 +22,11 @@ use Rattle.definition.proofs.Fields.{head-field}
 use Rattle.definition.proofs.Sessions.{names-length, words-length, read-words, read-names, read-session, write_session}
 use Rattle.session.proofs.Sessions.{front_length, front_stands}
 use Rattle.tree.specs.Check.{verdict}
-use Rattle.tree.specs.declared.Checked.TheVariants.{Refused}
+use Rattle.std.specs.Prelude.{Err, Some, None}
 use Rattle.field.specs.Layout.{after}
 use Rattle.refinement.specs.Relation.{names_end, pool_end}
 use Rattle.bytecode.specs.Checked.{layout_of, layout_answer, session_answer}
 use Rattle.bytecode.specs.declared.SessionLayout.{SessionLayout}
-use Rattle.bytecode.specs.declared.Layout.TheVariants.{Sound, Broken}
 use Rattle.bytecode.proofs.Laid.{laid}
 use Rattle.compiler.specs.Result.{refused_result, step_result, session_result, call_result}
 use Rattle.compiler.specs.Stage.{words_end, Opened}
@@ -78,7 +77,7 @@ pub room_behind : (z : Session) → ValidSession z → names_end z + 3 + pool_li
 room_behind z v = omega (arith, words-length z.words v.words, names-length v.names, v.count, front_length z.words z.globals)
 
 -- a layout that was found is that of a valid session
-pub opened : (e : Bytes) → AreBytes e → length e ≡ session_size → {l : SessionLayout} → layout_of e ≡ Sound l → Opened e l
+pub opened : (e : Bytes) → AreBytes e → length e ≡ session_size → {l : SessionLayout} → layout_of e ≡ Some l → Opened e l
 opened e a size {l} h =
     let x = laid e (sym h) in
     let z = x.session in
@@ -101,19 +100,19 @@ opened e a size {l} h =
     }
 
 -- where there is none the session is refused
-pub broken : (tree e o : Bytes) → layout_answer Broken ≡ session_answer (read_session e) → call_result tree e o ≡ refused_result e o (refusal Number.no_session 0)
+pub broken : (tree e o : Bytes) → layout_answer None ≡ session_answer (read_session e) → call_result tree e o ≡ refused_result e o (refusal Number.no_session 0)
 unfolding call_result
 broken tree e o = go (read_session e)
   where
-    go : (d : Decoded Session) → layout_answer Broken ≡ session_answer d → session_result tree e o d ≡ refused_result e o (refusal Number.no_session 0)
+    go : (d : Decoded Session) → layout_answer None ≡ session_answer d → session_result tree e o d ≡ refused_result e o (refusal Number.no_session 0)
     go (decoded z n) h = let no : ◌≡◌ {A = ℕ} 0 1 = cc in absurd (omega arith)
     go (malformed p) h = refl
 
 -- a tree that was refused is refused
-pub refused_tree : (tree e o : Bytes) {l : SessionLayout} → Opened e l → {r : Refusal} → verdict (read_tree tree) ≡ Refused r → call_result tree e o ≡ refused_result e o r
+pub refused_tree : (tree e o : Bytes) {l : SessionLayout} → Opened e l → {r : Refusal} → verdict (read_tree tree) ≡ Err r → call_result tree e o ≡ refused_result e o r
 unfolding call_result
 refused_tree tree e o x {r} h = ap (session_result tree e o) x.reads ∙ go (read_tree tree) h
   where
-    go : (p : Parsed Stmts) → verdict p ≡ Refused r → step_result e o (translate (length o) x.session p) ≡ refused_result e o r
+    go : (p : Parsed Stmts) → verdict p ≡ Err r → step_result e o (translate (length o) x.session p) ≡ refused_result e o r
     go (Parsed.parsed b n) h = let no : ◌≡◌ {A = ℕ} 0 1 = cc in absurd (omega arith)
     go (Parsed.refused q) h = let same : q ≡ r = cc in ap (refused_result e o) same

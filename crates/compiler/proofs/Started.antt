@@ -12,7 +12,7 @@ use Rattle.definition.proofs.Pools.{pool-length}
 use Rattle.definition.proofs.Sessions.{session_length}
 use Rattle.field.specs.Layout.{after}
 use Rattle.scope.specs.View.{view, Ready}
-use Rattle.scope.specs.declared.Walked.TheVariants.{On}
+use Rattle.std.specs.Prelude.{Ok}
 use Rattle.refinement.specs.Relation.{names_end, pool_end, start_view}
 use Rattle.bytecode.specs.declared.SessionLayout.{SessionLayout}
 use Rattle.symbol_table.specs.Layout.{tables_of}
@@ -76,9 +76,9 @@ module _ {e : Bytes} {l : SessionLayout} (x : Opened e l) where
     started_symbols = λ i. record { globals = begun.globals tree opened_names i; tables = [] }
 
     -- the whole memory is the start of the refinement
-    pub started-view : (c : Bytes) → memory tree c (rest e t) (On (start_state l)) ≡ on tt (start_view x.session e c)
+    pub started-view : (c : Bytes) → memory tree c (rest e t) (Ok (start_state l)) ≡ on tt (start_view x.session e c)
     started-view c = λ i. on tt (view c e (started_symbols i) (start_state (x.layout i)))
 
 -- an empty chunk
-pub started_ready : {c : Bytes} (l : SessionLayout) → length c ≡ code_size → Ready c (On (start_state l))
+pub started_ready : {c : Bytes} (l : SessionLayout) → length c ≡ code_size → Ready c (Ok (start_state l))
 started_ready l size = record { area = omega arith; sound = record { room = omega arith; last = omega arith; prev = omega arith } }

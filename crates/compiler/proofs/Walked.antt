@@ -16,19 +16,18 @@ use Rattle.definition.specs.Compiler as Structured
 use Rattle.definition.specs.Compiler.{State}
 use Rattle.definition.specs.Compile as Definition
 use Rattle.definition.specs.Compile.{start, translate}
-use Rattle.definition.specs.declared.Refusal.{Refusal}
-use Rattle.definition.specs.declared.Answer.TheVariants.{Refused}
+use Rattle.definition.specs.declared.reason.Refusal.{Refusal}
+use Rattle.std.specs.Prelude.{Err, Ok}
 use Rattle.definition.proofs.ReadWellFormed.{read_well_formed}
 use Rattle.definition.proofs.Sessions.{session_length}
-use Rattle.tree.specs.Check.{verdict}
+use Rattle.tree.specs.Check.{Good, verdict}
 use Rattle.tree.specs.Reads.{Some}
-use Rattle.tree.specs.declared.Checked.TheVariants.{Good}
 use Rattle.field.specs.Layout.{after}
 use Rattle.scope.specs.View.{View, view, then, Ready}
 use Rattle.scope.specs.Machine.{machine}
 use Rattle.scope.specs.declared.State as Memory
-use Rattle.scope.specs.declared.Walked.{Walked}
-use Rattle.scope.specs.declared.Walked.TheVariants.{On, Stop}
+use Rattle.scope.specs.Walked.{Walked}
+use Rattle.scope.specs.Walked.{stopped}
 use Rattle.refinement.specs.Relation.{pool_end, start_view, marks, Appended, Compiled, WalkEnds}
 use Rattle.refinement.proofs.Walk.{walk_ends}
 use Rattle.refinement.proofs.Outcome.{memory_through, memory_halts}
@@ -43,6 +42,7 @@ use Rattle.compiler.specs.Stage.{Opened, Checked}
 use Rattle.compiler.specs.Translated.{Small, start_state, Through, Halted, WalkEnded}
 use Rattle.compiler.proofs.Opened.{opened}
 use Rattle.compiler.proofs.Started.{opened_names, opened_small, opened_after, started_fine, started-view, started_ready}
+use Rattle.scope.specs.declared.Stopped.{Stopped}
 
 -- a walk that goes on is settled as it is
 settled_on : {A : Type 0} (y : Res View A) {a : A} {v : View} → on a v ≡ settled y → y ≡ on a v
@@ -64,7 +64,7 @@ settled_stop (stop q u) {r} {v} e =
     record { view = u; same = ap (λ r. stop r u) refusal; session = ap (λ (x : View). x.session) same; state = ap (λ (x : View). x.state) same }
 
 -- where the walk goes on, no function is open
-started_level : (l : SessionLayout) {s : Memory.State} → Origin 0 (On (start_state l)) s → s.level ≡ 0
+started_level : (l : SessionLayout) {s : Memory.State} → Origin 0 (Ok (start_state l)) s → s.level ≡ 0
 started_level l o =
     let same : start_state l ≡ o.from = let e = o.is in cc in
     let zero = ap (λ (s : Memory.State). s.level) same in
@@ -79,7 +79,7 @@ done z e c b = walk_stmts machine b (start_view z e c)
 
 -- what the walk over a tree promises, from the start of a call on
 abbrev pub WalksTree : Bytes → SessionLayout → Bytes → Bytes → Rest → Rest → Walked → Type 0
-WalksTree tree l c c' m m' = Walks tree (ReadsTree tree) (walk_stmts machine) c c' m m' (On (start_state l))
+WalksTree tree l c c' m m' = Walks tree (ReadsTree tree) (walk_stmts machine) c c' m m' (Ok (start_state l))
 
 -- In bytes that read as a session, with a table area that was started on it and a code area, for a tree that reads well
 module _ {e : Bytes} {l : SessionLayout} (x : Opened e l) {t₀ t : List ℕ} (begun : Starts e l.words_end l.names_end t₀ t) (c : Bytes) (size : length c ≡ code_size)
@@ -100,7 +100,7 @@ module _ {e : Bytes} {l : SessionLayout} (x : Opened e l) {t₀ t : List ℕ} (b
   walk_is : {c' : Bytes} {m : Rest} {r : Walked} → WalksTree tree l c c' (rest e t) m r → memory tree c' m r ≡ settled (done x.session e c b)
   walk_is w = w.step b (record { end = n; reads = reads }) ∙ ap (λ m. settled (then m (walk_stmts machine b))) (started-view x begun tree c)
 
-  pub walk_through : {c' e' : Bytes} {t' : List ℕ} {s : Memory.State} → WalksTree tree l c c' (rest e t) (rest e' t') (On s) → Through tree e c' e' t' l s
+  pub walk_through : {c' e' : Bytes} {t' : List ℕ} {s : Memory.State} → WalksTree tree l c c' (rest e t) (rest e' t') (Ok s) → Through tree e c' e' t' l s
   walk_through {c'} {e'} {t'} {s} w =
       let k = memory_through both_end (settled_on (done x.session e c b) (walk_is w)) in
       record {
@@ -117,7 +117,7 @@ module _ {e : Bytes} {l : SessionLayout} (x : Opened e l) {t₀ t : List ℕ} (b
         same = λ o. result_is o ∙ (λ i. step_result (x.bytes i) o (Definition.finish (length o) x.session (k.same i)));
       }
 
-  pub walk_stopped : {c' e' : Bytes} {t' : List ℕ} {q : Refusal} {s : Memory.State} → WalksTree tree l c c' (rest e t) (rest e' t') (Stop q s) → Halted tree e e' l q s
+  pub walk_stopped : {c' e' : Bytes} {t' : List ℕ} {q : Refusal} {s : Memory.State} → WalksTree tree l c c' (rest e t) (rest e' t') (Err (stopped q s)) → Halted tree e e' l q s
   walk_stopped {e'} {q} {s} w =
       let z = x.session in
       let u = settled_stop (done z e c b) (walk_is w) in
@@ -133,8 +133,8 @@ module _ {e : Bytes} {l : SessionLayout} (x : Opened e l) {t₀ t : List ℕ} (b
 
   -- however it ended
   pub walk_ended : {c' e' : Bytes} {t' : List ℕ} (r : Walked) → WalksTree tree l c c' (rest e t) (rest e' t') r → WalkEnded tree e c' e' t' l r
-  walk_ended (On s) w = walk_through w
-  walk_ended (Stop q s) w = walk_stopped w
+  walk_ended (Ok s) w = walk_through w
+  walk_ended (Err z) w = walk_stopped w
 
 -- The walk of a call
 
@@ -169,27 +169,27 @@ module _ {tree e c : Bytes} {t : List ℕ} {l : SessionLayout} (k : Checked tree
     begun_at = subst (λ n. Starts e l.words_end n t t₁) (ends ∙ opened_after x) begun
 
     -- what the walk needs
-    pub walk_needs : length t₁ ≡ length t → Some (ReadsTree tree) × (Ready c (On s) × FineState tree (rest e t₁) s)
+    pub walk_needs : length t₁ ≡ length t → Some (ReadsTree tree) × (Ready c (Ok s) × FineState tree (rest e t₁) s)
     walk_needs n = (
       (well.statements, record { end = well.end; reads = well.same }),
-      (subst (λ s. Ready c (On s)) (sym first) (started_ready l k.lengths.code), subst (λ s. FineState tree (rest e t₁) s) (sym first) (started_fine x begun_at tree (n ∙ k.lengths.table))),
+      (subst (λ s. Ready c (Ok s)) (sym first) (started_ready l k.lengths.code), subst (λ s. FineState tree (rest e t₁) s) (sym first) (started_fine x begun_at tree (n ∙ k.lengths.table))),
     )
 
     -- how it ended
-    pub walked : {c' e' : Bytes} {t' : List ℕ} (r : Walked) → Walks tree (ReadsTree tree) (walk_stmts machine) c c' (rest e t₁) (rest e' t') (On s) r → WalkEnded tree e c' e' t' l r
+    pub walked : {c' e' : Bytes} {t' : List ℕ} (r : Walked) → Walks tree (ReadsTree tree) (walk_stmts machine) c c' (rest e t₁) (rest e' t') (Ok s) r → WalkEnded tree e c' e' t' l r
     walked {c'} {e'} {t'} r w =
         walk_ended x begun_at c k.lengths.code tree well.statements well.end well.same r
-        (subst (λ s. Walks tree (ReadsTree tree) (walk_stmts machine) c c' (rest e t₁) (rest e' t') (On s) r) first w)
+        (subst (λ s. Walks tree (ReadsTree tree) (walk_stmts machine) c c' (rest e t₁) (rest e' t') (Ok s) r) first w)
 
 -- how it ended, by its answer
 module _ (tree e c' e' : Bytes) (t' : List ℕ) (l : SessionLayout) where
-  pub went_through : {r : Walked} {s : Memory.State} → WalkEnded tree e c' e' t' l r → r ≡ On s → Through tree e c' e' t' l s
+  pub went_through : {r : Walked} {s : Memory.State} → WalkEnded tree e c' e' t' l r → r ≡ Ok s → Through tree e c' e' t' l s
   went_through w h = subst (λ r. WalkEnded tree e c' e' t' l r) h w
 
-  pub went_back : {r : Walked} {q : Refusal} {s : Memory.State} → WalkEnded tree e c' e' t' l r → r ≡ Stop q s → Halted tree e e' l q s
+  pub went_back : {r : Walked} {z : Stopped} → WalkEnded tree e c' e' t' l r → r ≡ Err z → Halted tree e e' l z.refusal z.state
   went_back w h = subst (λ r. WalkEnded tree e c' e' t' l r) h w
 
 -- zeros over what was added, and the refusal
 pub halted_result : (tree e : Bytes) {e' : Bytes} {l : SessionLayout} {q : Refusal} {s : Memory.State} → Halted tree e e' l q s → {b : Bytes} → b ≡ sets e' l.pool_end (replicate (s.pool_end - l.pool_end) 0)
-    → (o : Bytes) → record { answer = Refused q; session = b; output = o } ≡ call_result tree e o
+    → (o : Bytes) → record { answer = Err q; session = b; output = o } ≡ call_result tree e o
 halted_result tree e {q = q} h k o = (λ i. refused_result ((k ∙ h.restores) i) o q) ∙ sym (h.same o)

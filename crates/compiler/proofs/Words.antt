@@ -15,8 +15,8 @@ use Rattle.definition.specs.Decode.{Decoded, decoded, malformed, read_handed}
 use Rattle.definition.specs.Call.{Made, not_made, begins_with, made_words}
 use Rattle.definition.specs.Output.{over}
 use Rattle.definition.specs.Valid.{AreBytes}
-use Rattle.definition.specs.declared.Answer.{Answer}
-use Rattle.definition.specs.declared.Answer.TheVariants.{Length, Refused}
+use Rattle.definition.specs.Answer.{Answer}
+use Rattle.std.specs.Prelude.{Ok, Err}
 use Rattle.definition.proofs.Basic.{pick_true}
 use Rattle.definition.proofs.Sessions.{Handed, write_handed, words-length}
 use Rattle.definition.proofs.Making.{made-words, short-words}
@@ -28,11 +28,11 @@ makes : {s names : Bytes} {r : Answer} {s' : Bytes} → made_words s names ≡ r
 makes e = record { answer = sym (ap (λ (m : Made). m.answer) e); session = sym (ap (λ (m : Made). m.session) e) }
 
 -- a short buffer
-pub words_short : {s names : Bytes} → length s < session_size → MakesWords s names (Refused (refusal Number.short_buffer 0)) s
+pub words_short : {s names : Bytes} → length s < session_size → MakesWords s names (Err (refusal Number.short_buffer 0)) s
 words_short {s} {names} h = makes (short-words s names h)
 
 -- bytes that are no list of words
-pub words_bad : (s names : Bytes) → session_size ≤ length s → {r : Bool} → r ≡ is_read (read_handed names) → r ≡ false → MakesWords s names (Refused (refusal Number.bad_words 0)) s
+pub words_bad : (s names : Bytes) → session_size ≤ length s → {r : Bool} → r ≡ is_read (read_handed names) → r ≡ false → MakesWords s names (Err (refusal Number.bad_words 0)) s
 unfolding made_words
 words_bad s names size e f = makes (pick_true (begins_with (read_handed names) s) (not_made Number.short_buffer s) (le-leb session_size (length s) size) ∙ go (read_handed names) (sym e ∙ f))
   where
@@ -54,7 +54,7 @@ module _ (names : Bytes) (bytes : AreBytes names) {r : Bool} (e : r ≡ is_read 
   words_fit = let h = handed.1 in omega (arith, words-length (listed h.list) h.valid, ap length h.bytes)
 
   -- its session
-  pub words-made : (s : Bytes) → session_size ≤ length s → {s' : Bytes} → ((ws : List Bytes) → names_bytes (reverse ws) ≡ names → s' ≡ over (session_bytes (begun (listed ws))) s) → MakesWords s names (Length session_size) s'
+  pub words-made : (s : Bytes) → session_size ≤ length s → {s' : Bytes} → ((ws : List Bytes) → names_bytes (reverse ws) ≡ names → s' ≡ over (session_bytes (begun (listed ws))) s) → MakesWords s names (Ok session_size) s'
   words-made s size k =
       let h = handed.1 in
-      makes (ap (made_words s) (sym h.bytes) ∙ made-words s size h.valid ∙ (λ i. record { answer = Length session_size; session = sym (k h.list h.bytes) i }))
+      makes (ap (made_words s) (sym h.bytes) ∙ made-words s size h.valid ∙ (λ i. record { answer = Ok session_size; session = sym (k h.list h.bytes) i }))

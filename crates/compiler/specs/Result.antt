@@ -1,5 +1,5 @@
 -- What a compile call gives once its buffers are large enough, on exactly the session's 65,536 bytes.
-use Rattle.std.specs.Prelude.{◌++◌, length, drop}
+use Rattle.std.specs.Prelude.{◌++◌, length, drop, Ok, Err}
 use Rattle.definition.specs.Basic.{Bytes}
 use Rattle.definition.specs.Limit.{session_size}
 use Rattle.definition.specs.Number
@@ -11,9 +11,8 @@ use Rattle.definition.specs.Decode.{Decoded, decoded, malformed, read_session}
 use Rattle.definition.specs.Compile.{Outcome, Step, translate}
 use Rattle.definition.specs.Call.{Lent, Called, ended}
 use Rattle.definition.specs.Output.{over}
-use Rattle.definition.specs.declared.Refusal.{Refusal}
-use Rattle.definition.specs.declared.Answer.{Answer}
-use Rattle.definition.specs.declared.Answer.TheVariants.{Length, Refused}
+use Rattle.definition.specs.declared.reason.Refusal.{Refusal}
+use Rattle.definition.specs.Answer.{Answer}
 
 -- the answer, and session and output afterwards
 pub record Result : Type 0 where
@@ -23,10 +22,10 @@ pub record Result : Type 0 where
 
 -- a refusal leaves both as they were
 abbrev pub refused_result : Bytes → Bytes → Refusal → Result
-refused_result e o r = record { answer = Refused r; session = e; output = o }
+refused_result e o r = record { answer = Err r; session = e; output = o }
 
 abbrev pub result_of : Bytes → Bytes → Session → Outcome → Result
-result_of e o z (Outcome.accepted m) = record { answer = Length (length (image_bytes m)); session = session_bytes z; output = over (image_bytes m) o }
+result_of e o z (Outcome.accepted m) = record { answer = Ok (length (image_bytes m)); session = session_bytes z; output = over (image_bytes m) o }
 result_of e o z (Outcome.refused r) = refused_result e o r
 
 abbrev pub step_result : Bytes → Bytes → Step → Result

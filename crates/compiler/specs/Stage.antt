@@ -1,5 +1,5 @@
 -- What is known between the parts of a compile call.
-use Rattle.std.specs.Prelude.{ℕ, ◌≤◌, ◌≡◌, List, length}
+use Rattle.std.specs.Prelude.{ℕ, ◌≤◌, ◌≡◌, List, length, Some}
 use Rattle.definition.specs.Basic.{Bytes}
 use Rattle.definition.specs.Limit.{session_size, code_size, table_size}
 use Rattle.definition.specs.Tree.{read_tree}
@@ -10,9 +10,7 @@ use Rattle.definition.specs.Call.{Lent}
 use Rattle.refinement.specs.Relation.{names_end, pool_end}
 use Rattle.bytecode.specs.Checked.{layout_of}
 use Rattle.bytecode.specs.declared.SessionLayout.{SessionLayout}
-use Rattle.bytecode.specs.declared.Layout.TheVariants.{Sound}
-use Rattle.tree.specs.Check.{verdict}
-use Rattle.tree.specs.declared.Checked.TheVariants.{Good}
+use Rattle.tree.specs.Check.{Good, verdict}
 
 -- what is lent
 abbrev pub lent_of : Bytes → Bytes → Bytes → List ℕ → Lent
@@ -50,5 +48,5 @@ pub record Opened (e : Bytes) (l : SessionLayout) : Type 0 where
 -- a checked tree, a session of that layout, and work areas of their sizes
 pub record Checked (tree e c : Bytes) (t : List ℕ) (l : SessionLayout) : Type 0 where
   pub lengths : Lengths e c t
-  pub layout : layout_of e ≡ Sound l
+  pub layout : layout_of e ≡ Some l
   pub good : verdict (read_tree tree) ≡ Good

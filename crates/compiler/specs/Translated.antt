@@ -1,5 +1,5 @@
 -- Before and after the walk.
-use Rattle.std.specs.Prelude.{ℕ, ◌+◌, ◌-◌, ◌≤◌, ◌≡◌, List, length, replicate}
+use Rattle.std.specs.Prelude.{ℕ, ◌+◌, ◌-◌, ◌≤◌, ◌≡◌, List, length, replicate, Ok, Err}
 use Rattle.std.proofs.lemmas.List.Edits.{sets}
 use Rattle.definition.specs.Basic.{Bytes}
 use Rattle.definition.specs.Limit.{session_size, code_size, constants_limit}
@@ -8,12 +8,11 @@ use Rattle.definition.specs.Valid.{ValidSession}
 use Rattle.definition.specs.Walk.{on}
 use Rattle.definition.specs.Compiler.{State}
 use Rattle.definition.specs.Compile as Definition
-use Rattle.definition.specs.declared.Refusal.{Refusal}
+use Rattle.definition.specs.declared.reason.Refusal.{Refusal}
 use Rattle.scope.specs.View.{view}
 use Rattle.scope.specs.Machine.{chunk}
 use Rattle.scope.specs.declared.State as Memory
-use Rattle.scope.specs.declared.Walked.{Walked}
-use Rattle.scope.specs.declared.Walked.TheVariants.{On, Stop}
+use Rattle.scope.specs.Walked.{Walked}
 use Rattle.refinement.specs.Relation.{Compiled}
 use Rattle.bytecode.specs.declared.SessionLayout.{SessionLayout}
 use Rattle.step.specs.Memory.{rest, symbols_of, FineState}
@@ -62,5 +61,5 @@ pub record Halted (tree e e' : Bytes) (l : SessionLayout) (q : Refusal) (s : Mem
 
 -- how the walk ended
 abbrev pub WalkEnded : Bytes → Bytes → Bytes → Bytes → List ℕ → SessionLayout → Walked → Type 0
-WalkEnded tree e c' e' t' l (On s) = Through tree e c' e' t' l s
-WalkEnded tree e c' e' t' l (Stop q s) = Halted tree e e' l q s
+WalkEnded tree e c' e' t' l (Ok s) = Through tree e c' e' t' l s
+WalkEnded tree e c' e' t' l (Err z) = Halted tree e e' l z.refusal z.state

@@ -12,36 +12,35 @@ ghost use Rattle.compiler.specs.Result.{call_result, whole_of};
 ghost use Rattle.compiler.specs.Promise.{Compiles, Makes, MakesWords};
 ghost use Rattle.compiler.specs.Stage.{lent_of, Long, Lengths};
 
-use bytecode::{Layout, read_layout, words_stand};
+use bytecode::{read_layout, words_stand};
 use definition::limit::{CODE_SIZE, SESSION_SIZE, TABLE_SIZE};
-use definition::{Answer, Refusal, number};
+use definition::{Reason, Refusal};
 use session::words::begin_session;
 use translate::translate;
-use tree::Checked;
 
 // Makes a fresh session of document 01's two fields.
-pub fn make_session(session: &mut [u8]) -> Answer
+pub fn make_session(session: &mut [u8]) -> Result<usize, Refusal>
     ensures { Makes session.old result session.new }
 {
     session::write_fresh(session)
 }
 
 // Makes a session of three fields with words that are handed over as name fields: at most 24, none repeated.
-pub fn make_session_words(session: &mut [u8], names: &[u8]) -> Answer
+pub fn make_session_words(session: &mut [u8], names: &[u8]) -> Result<usize, Refusal>
     ensures { MakesWords session.old names.now result session.new }
 {
     if session.len() < SESSION_SIZE {
-        return Answer::Refused(Refusal {
-            number: number::SHORT_BUFFER,
+        return Err(Refusal {
+            reason: Reason::ShortBuffer,
             place: 0,
         });
     }
     if words_stand(names) {
         begin_session(session, names);
-        return Answer::Length(SESSION_SIZE);
+        return Ok(SESSION_SIZE);
     }
-    Answer::Refused(Refusal {
-        number: number::BAD_WORDS,
+    Err(Refusal {
+        reason: Reason::BadWords,
         place: 0,
     })
 }
@@ -64,7 +63,7 @@ pub fn clear_code(code: &mut [u8])
     requires { code_size ≤ length code.old }
     ensures { code.new ≡ cleared code_size code.old }
 {
-    session::zero::clear(&mut code[..CODE_SIZE]);
+    code[..CODE_SIZE].fill(0);
 }
 
 // Zeroes the table area.
@@ -72,7 +71,7 @@ pub fn clear_table(table: &mut [u32])
     requires { table_size ≤ length table.old }
     ensures { table.new ≡ cleared table_size table.old }
 {
-    session::zero::clear_numbers(&mut table[..TABLE_SIZE]);
+    table[..TABLE_SIZE].fill(0);
 }
 
 // Compiles a tree in buffers of just these sizes: the session's layout, the tree, then the walk.
@@ -82,18 +81,18 @@ fn compile_in(
     output: &mut [u8],
     code: &mut [u8],
     table: &mut [u32],
-) -> Answer
+) -> Result<usize, Refusal>
     requires { Lengths session.old code.old table.old }
     ensures { record { answer = result; session = session.new; output = output.new } ≡ call_result tree.now session.old output.old }
 {
     match read_layout(session) {
-        Layout::Broken => Answer::Refused(Refusal {
-            number: number::NO_SESSION,
+        None => Err(Refusal {
+            reason: Reason::NoSession,
             place: 0,
         }),
-        Layout::Sound(layout) => match tree::check(tree) {
-            Checked::Refused(r) => Answer::Refused(r),
-            Checked::Good => translate(session, tree, output, code, table, layout),
+        Some(layout) => match tree::check(tree) {
+            Err(r) => Err(r),
+            Ok(()) => translate(session, tree, output, code, table, layout),
         },
     }
 }
@@ -105,7 +104,7 @@ fn compile_lent(
     output: &mut [u8],
     code: &mut [u8],
     table: &mut [u32],
-) -> Answer
+) -> Result<usize, Refusal>
     requires { Long session.old code.old table.old }
     ensures { record { answer = result; lent = lent_of session.new output.new code.new table.new } ≡ whole_of (lent_of session.old output.old code.old table.old) (call_result tree.now (take session_size session.old) output.old) }
 {
@@ -128,14 +127,14 @@ pub fn compile(
     output: &mut [u8],
     code: &mut [u8],
     table: &mut [u32],
-) -> Answer
+) -> Result<usize, Refusal>
     ensures { Compiles tree.now (lent_of session.old output.old code.old table.old) result (lent_of session.new output.new code.new table.new) }
 {
     if long_enough(session, code, table) {
         return compile_lent(session, tree, output, code, table);
     }
-    Answer::Refused(Refusal {
-        number: number::SHORT_BUFFER,
+    Err(Refusal {
+        reason: Reason::ShortBuffer,
         place: 0,
     })
 }

@@ -11,18 +11,6 @@ use session::write;
 use symbol_table::layout::IN_TREE;
 use symbol_table::{count_globals, global_name};
 
-// Stores bytes of the session once more, behind them.
-fn repeat(session: &mut [u8], from: usize, to: usize, n: usize)
-    requires { (from + n ≤ to) × (to + n ≤ length session.old) }
-    ensures { session.new ≡ sets session.old to (take n (drop from session.old)) }
-{
-    let mut i = 0;
-    while i < n {
-        session[to + i] = session[from + i];
-        i += 1;
-    }
-}
-
 // Appends the name of a global, by its number in the table area. The offset behind it.
 fn append_name(session: &mut [u8], tree: &[u8], v: u32, at: usize) -> usize
     requires { HasName tree.now session.old at v }
@@ -32,7 +20,7 @@ fn append_name(session: &mut [u8], tree: &[u8], v: u32, at: usize) -> usize
     if place < IN_TREE {
         let n = length_at(session, place);
         write::put_head(session, at, tag::NAME_BYTE, n);
-        repeat(session, place + 3, at + 3, n);
+        session.copy_within(place + 3..place + 3 + n, at + 3);
         return at + (3 + n);
     }
     let name = content_at(tree, place - IN_TREE);
@@ -46,12 +34,9 @@ pub fn append_names(session: &mut [u8], tree: &[u8], table: &[u32], from: usize,
     requires table_in_bounds { at + length (later_fields tree.now (take at session.old) table.now from (get_or table.now 0 0)) ≤ length session.old }
     ensures { Appends (later_fields tree.now (take at session.old) table.now from (get_or table.now 0 0)) at session.old session.new result }
 {
-    let count = count_globals(table);
     let mut end = at;
-    let mut k = from;
-    while k < count {
+    for k in from..count_globals(table) {
         end = append_name(session, tree, global_name(table, k), end);
-        k += 1;
     }
     end
 }

@@ -6,7 +6,7 @@ ghost use Rattle.compiler.specs.Translated.{Small, start_state, image_length, Tr
 
 use super::names::append_names;
 use bytecode::SessionLayout;
-use definition::{Answer, Refusal, number};
+use definition::{Reason, Refusal};
 use scope::{Chunk, State, Walked};
 use session::image::write_image;
 use session::write_back;
@@ -42,7 +42,7 @@ fn accept(
     layout: SessionLayout,
     s: State,
     total: usize,
-) -> Answer
+) -> Result<usize, Refusal>
     requires translated { Translated tree.now code.now session.old table.now layout s }
     requires total_value { total ≡ image_length layout s }
     requires total_in_bounds { total ≤ length output.old }
@@ -57,7 +57,7 @@ fn accept(
     let end = append_names(session, tree, table, layout.names, names_end);
     let start = 6 + len;
     write_back(session, layout.words_end, end, &output[start..total]);
-    Answer::Length(total)
+    Ok(total)
 }
 
 // The end of a walk that went through: the output has room for the image, or it is short and the session is restored.
@@ -69,7 +69,7 @@ fn finish(
     table: &[u32],
     layout: SessionLayout,
     s: State,
-) -> Answer
+) -> Result<usize, Refusal>
     requires { Translated tree.now code.now session.old table.now layout s }
     ensures { ((p : Translated tree.now code.now session.old table.now layout s) → record { answer = result; session = session.new; output = output.new } ≡ final_result p output.old) }
 {
@@ -78,8 +78,8 @@ fn finish(
     let total = 6 + chunk.len as usize + (end - (layout.names_end + 3));
     if output.len() < total {
         restore(session, layout.pool_end, end);
-        return Answer::Refused(Refusal {
-            number: number::OUTPUT_SHORT,
+        return Err(Refusal {
+            reason: Reason::OutputShort,
             place: 0,
         });
     }
@@ -109,15 +109,15 @@ pub fn translate(
     code: &mut [u8],
     table: &mut [u32],
     layout: SessionLayout,
-) -> Answer
+) -> Result<usize, Refusal>
     requires { Checked tree.now session.old code.old table.old layout }
     ensures { record { answer = result; session = session.new; output = output.new } ≡ call_result tree.now session.old output.old }
 {
     match walk_tree(tree, session, code, table, layout) {
-        Walked::Stop(r, s) => {
-            restore(session, layout.pool_end, s.pool_end as usize);
-            Answer::Refused(r)
+        Err(z) => {
+            restore(session, layout.pool_end, z.state.pool_end as usize);
+            Err(z.refusal)
         }
-        Walked::On(s) => finish(session, tree, output, code, table, layout, s),
+        Ok(s) => finish(session, tree, output, code, table, layout, s),
     }
 }

@@ -10,7 +10,7 @@ use lib.Dec.{T, leb}
 use borrow.Author.Tests.{leb-true}
 use Rattle.definition.specs.Basic.{Bytes}
 use Rattle.definition.specs.Limit.{session_size, code_size, table_size, tree_limit, image_limit}
-use Rattle.definition.specs.Number.{refusal, is_one_of, tree_numbers, walk_numbers, call_numbers, make_numbers, word_numbers}
+use Rattle.definition.specs.Number.{refusal, is_one_of, tree_numbers, walk_numbers, call_numbers, make_numbers, word_numbers, number_of}
 use Rattle.definition.specs.Tag.{tag_main, tag_pool}
 use Rattle.definition.specs.Syntax.{Stmts}
 use Rattle.definition.specs.Field.{field}
@@ -23,9 +23,9 @@ use Rattle.definition.specs.Decode.{Decoded, decoded, malformed, read_handed, re
 use Rattle.definition.specs.Compile.{Outcome, Step, Request, image_of, start, finish, translate, enough, compile}
 use Rattle.definition.specs.Call.{Lent, Called, answered, in_session, request, call, Made, made, begins_with, made_words}
 use Rattle.definition.specs.Valid.{AreBytes, ValidImage}
-use Rattle.definition.specs.declared.Refusal.{Refusal}
-use Rattle.definition.specs.declared.Answer.{Answer}
-use Rattle.definition.specs.declared.Answer.TheVariants.{Length, Refused}
+use Rattle.definition.specs.declared.reason.Refusal.{Refusal}
+use Rattle.definition.specs.Answer.{Answer}
+use Rattle.std.specs.Prelude.{Ok, Err}
 use Rattle.definition.proofs.Basic.{chosen, both_right}
 use Rattle.definition.proofs.Numbers.{among}
 use Rattle.definition.proofs.Instructions.{code-length}
@@ -34,14 +34,15 @@ use Rattle.definition.proofs.Sessions.{write_session}
 use Rattle.definition.proofs.Steps.{compile-valid}
 use Rattle.definition.proofs.ReadPlaces.{PlacedParsed, read-places}
 use Rattle.definition.proofs.WalkPlaces.{Bounded, Refuses, refuses_stmts, machine_local}
+use Rattle.definition.specs.declared.reason.Reason.{Reason}
 
 -- an answer within bounds
 pub data Within (lengths : ℕ) (numbers : List ℕ) (places : ℕ) : Answer → Type 0 where
-  wrote : {n : ℕ} → n ≤ lengths → Within lengths numbers places (Length n)
-  refused : {r : Refusal} → Bounded numbers places r → Within lengths numbers places (Refused r)
+  wrote : {n : ℕ} → n ≤ lengths → Within lengths numbers places (Ok n)
+  refused : {r : Refusal} → Bounded numbers places r → Within lengths numbers places (Err r)
 
 -- a refusal at no place
-pub nowhere : {lengths : ℕ} {numbers : List ℕ} {places n : ℕ} → T (is_one_of numbers n) → Within lengths numbers places (Refused (refusal n 0))
+pub nowhere : {lengths : ℕ} {numbers : List ℕ} {places : ℕ} {n : Reason} → T (is_one_of numbers (number_of n)) → Within lengths numbers places (Err (refusal n 0))
 nowhere {n = n} h = Within.refused {r = refusal n 0} (record { number = h; place = omega arith })
 
 -- making a session: its length, or number 1
@@ -68,18 +69,18 @@ data OutcomeWithin (bound : ℕ) : Outcome → Type 0 where
   accepted : {m : Image} → OutcomeWithin bound (Outcome.accepted m)
   refused : {r : Refusal} → Bounded call_numbers bound r → OutcomeWithin bound (Outcome.refused r)
 
-outcome_nowhere : {bound n : ℕ} → T (is_one_of call_numbers n) → OutcomeWithin bound (Outcome.refused (refusal n 0))
+outcome_nowhere : {bound : ℕ} {n : Reason} → T (is_one_of call_numbers (number_of n)) → OutcomeWithin bound (Outcome.refused (refusal n 0))
 outcome_nowhere {n = n} h = OutcomeWithin.refused {r = refusal n 0} (record { number = h; place = omega arith })
 
 module _ {bound : ℕ} where
   finish_within : (output : ℕ) (z : Session) {x : Res State (Unit {0})} → Refuses bound x → OutcomeWithin bound (finish output z x).outcome
   finish_within output z (Refuses.on {s = s}) =
       chosen (λ (x : Step). OutcomeWithin bound x.outcome) (leb (length (image_bytes (image_of s))) output) (λ _. OutcomeWithin.accepted) (λ _. outcome_nowhere tt)
-  finish_within output z (Refuses.stop {r = r} b) = OutcomeWithin.refused {r = r} (record { number = among walk_numbers call_numbers tt r.number b.number; place = b.place })
+  finish_within output z (Refuses.stop {r = r} b) = OutcomeWithin.refused {r = r} (record { number = among walk_numbers call_numbers tt (number_of r.reason) b.number; place = b.place })
 
   translate_within : (output : ℕ) (z : Session) {p : Parsed Stmts} → PlacedParsed bound p → OutcomeWithin bound (translate output z p).outcome
   translate_within output z (PlacedParsed.parsed {b = b} h) = finish_within output z (refuses_stmts (machine_local bound) b h (start z))
-  translate_within output z (PlacedParsed.refused n p h k) = OutcomeWithin.refused {r = refusal n p} (record { number = among tree_numbers call_numbers tt n h; place = k })
+  translate_within output z (PlacedParsed.refused n p h k) = OutcomeWithin.refused {r = refusal n p} (record { number = among tree_numbers call_numbers tt (number_of n) h; place = k })
 
   compile_within : (z : Session) (c : Request) → PlacedParsed bound (read_tree c.tree) → OutcomeWithin bound (compile z c).outcome
   unfolding compile

@@ -10,13 +10,14 @@ use borrow.Author.Tests.{eqb-true, leb-true}
 use Rattle.definition.specs.Basic.{Bytes, byte_at, both}
 use Rattle.definition.specs.Limit.{tree_limit}
 use Rattle.definition.specs.Number
-use Rattle.definition.specs.Number.{refusal, is_one_of, tree_numbers}
+use Rattle.definition.specs.Number.{refusal, is_one_of, tree_numbers, number_of}
 use Rattle.definition.specs.Tag.{tag_identifier, tag_macro, tag_boolean, tag_params, tag_operator, tag_block, tag_program}
 use Rattle.definition.specs.Syntax.{Stmt, Stmts, Else, Expr, Exprs}
 use Rattle.definition.specs.Field.{Head, tagged, name_head}
 use Rattle.definition.specs.Tree.{Read, ExprTag, StmtTag, expr_tag, stmt_tag, plain, literal, expr_len, expr_head, stmt_head, operator_head, pair_of, pairs_of, stmts_of, exprs_of, else_of, read_name, read_operator, read_params, expr_body, stmt_body, read_stmt, read_block, read_expr, read_program, read_tree, Parsed, judged}
 use Rattle.definition.proofs.Basic.{both_true}
 use Rattle.definition.proofs.Placed.{PlacedStmt, PlacedStmts, PlacedElse, PlacedExpr, PlacedExprs, Deep, Finds, Before, PlacedFields, finds_seq, finds_pick, finds_met, finds_before, finds_read, finds_last, finds_child, finds_field, finds_byte, finds_many}
+use Rattle.definition.specs.declared.reason.Reason.{Reason}
 
 -- of a boolean and an operator the content is one byte
 one-byte : (h : Head) → tagged tag_boolean h ≡ true → expr_len h ≡ true → h.len ≡ 1
@@ -173,7 +174,7 @@ finds_program byte n bound l =
 -- what reading comes to
 pub data PlacedParsed (bound : ℕ) : Parsed Stmts → Type 0 where
   parsed : {b : Stmts} {n : ℕ} → PlacedStmts bound b → PlacedParsed bound (Parsed.parsed b n)
-  refused : (number place : ℕ) → T (is_one_of tree_numbers number) → place ≤ bound → PlacedParsed bound (Parsed.refused (refusal number place))
+  refused : (reason : Reason) (place : ℕ) → T (is_one_of tree_numbers (number_of reason)) → place ≤ bound → PlacedParsed bound (Parsed.refused (refusal reason place))
 
 judged-placed : {bound end : ℕ} {x : Read Stmts} → Finds bound (Before (PlacedStmts bound) end) x → PlacedParsed bound (judged x)
 judged-placed (Finds.right p Deep.nowhere) = PlacedParsed.parsed p.placed

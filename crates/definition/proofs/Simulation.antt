@@ -17,12 +17,12 @@ use borrow.Author.Tests.{ltb-false, eqb-true}
 use Rattle.definition.specs.Basic.{Bytes, pick, both}
 use Rattle.definition.specs.Limit.{name_limit, arguments_limit}
 use Rattle.definition.specs.Number
-use Rattle.definition.specs.Number.{refusal, walk_number}
+use Rattle.definition.specs.Number.{refusal, walk_number, number_of}
 use Rattle.definition.specs.Syntax.{Stmt, Stmts, Else, Expr, Exprs, count}
 use Rattle.definition.specs.Opcode.{Instr, instr, plain, width, op_last, op_pop, op_jump_not_truthy, op_jump, op_null, op_array, op_hash, op_index, op_call, op_return_value}
 use Rattle.definition.specs.Valid.{All, IsName, ValidInstr, operand_bound, captures_bound}
 use Rattle.definition.specs.Walk.{Res, bind, Machine, prefixes, infixes, less_than, operate, walk_stmt, walk_stmts, walk_else, walk_expr, walk_exprs}
-use Rattle.definition.specs.declared.Refusal.{Refusal}
+use Rattle.definition.specs.declared.reason.Refusal.{Refusal}
 use Rattle.definition.proofs.Basic.{picked}
 use Rattle.definition.proofs.WellFormed.{WfStmt, WfStmts, WfElse, WfExpr, WfExprs}
 use Rattle.definition.proofs.Blank.{Literals, map_stmt, map_stmts, map_else, map_expr, map_exprs}
@@ -30,7 +30,7 @@ use Rattle.definition.proofs.Blank.{Literals, map_stmt, map_stmts, map_else, map
 -- both go on with one value, in states that P relates for it; or both stop with one refusal of the walk, in states that Q relates
 pub data Both {S U A : Type 0} (Q : S → U → Type 0) (P : A → S → U → Type 0) : Res S A → Res U A → Type 0 where
   on : (a : A) {s : S} {t : U} → P a s t → Both Q P (Res.on a s) (Res.on a t)
-  stop : (r : Refusal) → T (walk_number r.number) → {s : S} {t : U} → Q s t → Both Q P (Res.stop r s) (Res.stop r t)
+  stop : (r : Refusal) → T (walk_number (number_of r.reason)) → {s : S} {t : U} → Q s t → Both Q P (Res.stop r s) (Res.stop r t)
 
 module _ {S U : Type 0} {Q : S → U → Type 0} where
   pub both_bind : {A B : Type 0} {P : A → S → U → Type 0} {P' : B → S → U → Type 0} {x : Res S A} {y : Res U A} {k : A → S → Res S B} {l : A → U → Res U B}
@@ -190,7 +190,7 @@ pub record Held {S W : Type 0} (P : W → S → Type 0) (w : W) (s t : S) : Type
 -- P of the value and the state, if it goes on; or a refusal of the walk
 pub data Ends {S A : Type 0} (P : A → S → Type 0) : Res S A → Type 0 where
   on : (a : A) {s : S} → P a s → Ends P (Res.on a s)
-  stop : (r : Refusal) (s : S) → T (walk_number r.number) → Ends P (Res.stop r s)
+  stop : (r : Refusal) (s : S) → T (walk_number (number_of r.reason)) → Ends P (Res.stop r s)
 
 module _ {S A : Type 0} {P : A → S → Type 0} where
   pub ends_pick : {x y : Res S A} (b : Bool) → (b ≡ true → Ends P x) → (b ≡ false → Ends P y) → Ends P (pick b x y)

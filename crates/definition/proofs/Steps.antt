@@ -11,7 +11,7 @@ use borrow.Author.Tests.{leb-true}
 use Rattle.definition.specs.Basic.{Bytes, byte_at, pick}
 use Rattle.definition.specs.Limit.{name_limit}
 use Rattle.definition.specs.Number
-use Rattle.definition.specs.Number.{refusal, is_one_of, tree_numbers, walk_numbers, translate_numbers}
+use Rattle.definition.specs.Number.{refusal, is_one_of, tree_numbers, walk_numbers, translate_numbers, number_of}
 use Rattle.definition.specs.Syntax.{Stmts}
 use Rattle.definition.specs.Bytecode.{Image, image_bytes}
 use Rattle.definition.specs.Walk.{Res, walk_stmts}
@@ -22,7 +22,7 @@ use Rattle.definition.specs.Shape.{shape}
 use Rattle.definition.specs.Session.{Words, six, listed, word_list, Session, begun}
 use Rattle.definition.specs.Compile.{Outcome, Step, Request, image_of, session_of, start, turned_down, finish, translate, enough, compile}
 use Rattle.definition.specs.Valid.{All, IsName, ValidImage, ValidList, ValidWords, ValidSession}
-use Rattle.definition.specs.declared.Refusal.{Refusal}
+use Rattle.definition.specs.declared.reason.Refusal.{Refusal}
 use Rattle.definition.proofs.Basic.{picked, chosen}
 use Rattle.definition.proofs.Numbers.{among}
 use Rattle.definition.proofs.WellFormed.{WfStmts}
@@ -40,7 +40,7 @@ tree_number n = is_one_of tree_numbers n
 
 abbrev TreeNumber : {A : Type 0} → Parsed A → Type 0
 TreeNumber (Parsed.parsed a n) = Unit {0}
-TreeNumber (Parsed.refused r) = T (tree_number r.number)
+TreeNumber (Parsed.refused r) = T (tree_number (number_of r.reason))
 
 judged-number : {A : Type 0} (x : Read A) → TreeNumber (judged x)
 judged-number (Read.ok a n none l) = tt
@@ -55,7 +55,7 @@ read_number tree = judged-number (read_program (byte_at tree) (length tree))
 -- what a tree that was read gives
 module _ {A : Type 0} (P : Parsed Stmts → A → Type 0) (f : Parsed Stmts → A) where
   -- a statement about each outcome of reading
-  pub by_reading : ((b : Stmts) (n : ℕ) → WfStmts b → P (Parsed.parsed b n) (f (Parsed.parsed b n))) → ((r : Refusal) → T (tree_number r.number) → P (Parsed.refused r) (f (Parsed.refused r)))
+  pub by_reading : ((b : Stmts) (n : ℕ) → WfStmts b → P (Parsed.parsed b n) (f (Parsed.parsed b n))) → ((r : Refusal) → T (tree_number (number_of r.reason)) → P (Parsed.refused r) (f (Parsed.refused r)))
       → (tree : Bytes) → P (read_tree tree) (f (read_tree tree))
   by_reading h k tree = go (read_tree tree) (read_number tree) (λ b n e. read_well_formed tree b n e)
     where
@@ -89,10 +89,10 @@ CallNumber n = T (is_one_of translate_numbers n)
 
 -- and of any call in a session
 pub data CompileNumber (n : ℕ) : Type 0 where
-  short : n ≡ Number.short_buffer → CompileNumber n
+  short : n ≡ number_of Number.short_buffer → CompileNumber n
   other : CallNumber n → CompileNumber n
 
-pub not_two : {n : ℕ} → CompileNumber n → n ≡ Number.no_session → ⊥
+pub not_two : {n : ℕ} → CompileNumber n → n ≡ number_of Number.no_session → ⊥
 not_two (CompileNumber.short e) h = omega arith
 not_two (CompileNumber.other c) h = absurd (subst CallNumber h c)
 
@@ -101,16 +101,16 @@ pub record ValidStep (N : ℕ → Type 0) (z : Session) (x : Step) : Type 0 wher
   pub session : ValidSession x.session
   pub image : (m : Image) → x.outcome ≡ Outcome.accepted m → ValidImage m
   pub kept : (r : Refusal) → x.outcome ≡ Outcome.refused r → x.session ≡ z
-  pub number : (r : Refusal) → x.outcome ≡ Outcome.refused r → N r.number
+  pub number : (r : Refusal) → x.outcome ≡ Outcome.refused r → N (number_of r.reason)
 
 accepted_not_refused : (m : Image) (r : Refusal) → Outcome.accepted m ≡ Outcome.refused r → ⊥
 accepted_not_refused m r e = let z : ◌≡◌ {A = ℕ} 0 1 = cc in omega arith
 
-pub turned_down-valid : {N : ℕ → Type 0} (z : Session) → ValidSession z → (r : Refusal) → N r.number → ValidStep N z (turned_down z r)
+pub turned_down-valid : {N : ℕ → Type 0} (z : Session) → ValidSession z → (r : Refusal) → N (number_of r.reason) → ValidStep N z (turned_down z r)
 turned_down-valid {N} z v r n = record { session = v; image = λ m e. absurd (accepted_not_refused m r (sym e)); kept = λ _ _. refl; number = λ q e. subst N (number q e) n }
   where
-    number : (q : Refusal) → Outcome.refused r ≡ Outcome.refused q → r.number ≡ q.number
-    number q e = ap (λ x. x.number) (same q e)
+    number : (q : Refusal) → Outcome.refused r ≡ Outcome.refused q → (number_of r.reason) ≡ (number_of q.reason)
+    number q e = ap (λ x. (number_of x.reason)) (same q e)
       where
         same : (q : Refusal) → Outcome.refused r ≡ Outcome.refused q → r ≡ q
         same q e = cc
@@ -134,17 +134,17 @@ valid-pick false h k = k
 
 finish-valid : (n : ℕ) (z : Session) → ValidSession z → {x : Res State (Unit {0})} → Ends (λ (_ : Unit {0}). ValidState) x → ValidStep CallNumber z (finish n z x)
 finish-valid n z v (Ends.on a {s} h) = valid-pick (leb (length (image_bytes (image_of s))) n) (accepted_valid z s h) (turned_down-valid z v (refusal Number.output_short 0) tt)
-finish-valid n z v (Ends.stop r s w) = turned_down-valid z v r (among walk_numbers translate_numbers tt r.number w)
+finish-valid n z v (Ends.stop r s w) = turned_down-valid z v r (among walk_numbers translate_numbers tt (number_of r.reason) w)
 
 -- past numbers 1 and 2
 pub translate-valid : (n : ℕ) (z : Session) → ValidSession z → (tree : Bytes) → ValidStep CallNumber z (translate n z (read_tree tree))
 translate-valid n z v tree =
     by_reading (λ _ x. ValidStep CallNumber z x) (λ p. translate n z p) (λ b _ w. finish-valid n z v (walk_limits b w (start-valid z v)))
-    (λ r t. turned_down-valid z v r (among tree_numbers translate_numbers tt r.number t)) tree
+    (λ r t. turned_down-valid z v r (among tree_numbers translate_numbers tt (number_of r.reason) t)) tree
 
 -- with another account of the numbers
 renumbered : {N M : ℕ → Type 0} {z : Session} {x : Step} → ((n : ℕ) → N n → M n) → ValidStep N z x → ValidStep M z x
-renumbered f v = record { session = v.session; image = v.image; kept = v.kept; number = λ r e. f r.number (v.number r e) }
+renumbered f v = record { session = v.session; image = v.image; kept = v.kept; number = λ r e. f (number_of r.reason) (v.number r e) }
 
 pub compile-valid : (z : Session) → ValidSession z → (c : Request) → ValidStep CompileNumber z (compile z c)
 unfolding compile

@@ -8,14 +8,14 @@ use lib.Dec.{T, leb}
 use borrow.Author.Tests.{leb-false}
 use Rattle.definition.specs.Basic.{Bytes, pick}
 use Rattle.definition.specs.Limit.{globals_limit, locals_limit}
-use Rattle.definition.specs.Number.{walk_number}
+use Rattle.definition.specs.Number.{walk_number, number_of}
 use Rattle.definition.specs.SymbolTable.{Table, Defined, place}
 use Rattle.definition.specs.Valid.{ValidInstr}
 
 -- a definition's instruction is valid, and so is the number of one without room
 abbrev pub DefinedValid : Defined → Type 0
 DefinedValid (Defined.defined i gs ts) = ValidInstr i
-DefinedValid (Defined.no_room k) = T (walk_number k)
+DefinedValid (Defined.no_room k) = T (walk_number (number_of k))
 
 -- one of two, the second where a test is false
 defined_pick : (d e : Defined) (b : Bool) {c : Bool} → c ≡ b → DefinedValid d → (c ≡ false → DefinedValid e) → DefinedValid (pick b d e)

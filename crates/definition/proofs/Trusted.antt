@@ -18,7 +18,7 @@ use Rattle.definition.specs.Call.{call}
 use Rattle.definition.specs.Series.{Start, Call, lent, session_after, calls}
 use Rattle.definition.specs.Valid.{All, ValidImage, ValidWords, ValidSession}
 use Rattle.definition.specs.Trusted.{Stands, constant_at, Chunk, Lands, TrustedChunk, Trusted, TrustedOutput, TrustedCall, TrustedStep}
-use Rattle.definition.specs.declared.Answer.TheVariants.{Length}
+use Rattle.std.specs.Prelude.{Ok}
 use Rattle.definition.specs.SymbolTable.{Table}
 use Rattle.definition.proofs.Numbers.{one_of}
 use Rattle.definition.proofs.Account.{Known, state_of}
@@ -147,7 +147,7 @@ trusted_steps w v cs = trusted_from (begun w) (begun-valid w v) (begun-fits w) c
 pub wrote : {o : Outcome} {x : Called} {s : Bytes} {k : ℕ} {z : Session} → CallIs x s k o z → ((m : Image) → o ≡ Outcome.accepted m → Trusted m z) → TrustedCall x
 wrote {x = x} {z = z} d f = record { wrote = λ n e. go d.gave f n e }
   where
-    go : {o : Outcome} → Gave o x → ((m : Image) → o ≡ Outcome.accepted m → Trusted m z) → (n : ℕ) → x.answer ≡ Length n → TrustedOutput x n
+    go : {o : Outcome} → Gave o x → ((m : Image) → o ≡ Outcome.accepted m → Trusted m z) → (n : ℕ) → x.answer ≡ Ok n → TrustedOutput x n
     go (Gave.accepted {m} a t room) f n e =
         let l : length (image_bytes m) ≡ n = cc in
         let tr = f m refl in

@@ -12,7 +12,7 @@ use borrow.Author.Tests.{eqb-true, eq-eqb}
 use Rattle.definition.specs.Basic.{Bytes, pick}
 use Rattle.definition.specs.Limit.{free_limit, code_size}
 use Rattle.definition.specs.Number
-use Rattle.definition.specs.Number.{refusal}
+use Rattle.definition.specs.Number.{refusal, number_of}
 use Rattle.definition.specs.Opcode.{Instr, size}
 use Rattle.definition.specs.Bytecode.{size_of}
 use Rattle.definition.specs.Walk.{refuse}
@@ -146,7 +146,7 @@ unfolding emit_beside
 emit_known p i s t =
     chosen (λ r. r ≡ refuse Number.undefined p t → ⊥) (leb (s.around + size_of s.code + 0 + size i) code_size)
     (λ _ e. let z : ◌≡◌ {A = ℕ} 0 1 = cc in omega arith)
-    (λ _ e. let q : refusal Number.code p ≡ refusal Number.undefined p = cc in omega (arith, ap (λ r. r.number) q))
+    (λ _ e. let q : refusal Number.code p ≡ refusal Number.undefined p = cc in omega (arith, ap (λ r. (number_of r.reason)) q))
 
 -- Number 5 at an Identifier: exactly when no reachable table holds its name
 pub load-undefined : (p : ℕ) (n : Bytes) (s : State) → (load p n s ≡ refuse Number.undefined p s) ↔ Unheld s.words s.globals n s.tables
@@ -156,4 +156,4 @@ load-undefined p n s = (λ e. (resolve-undefined s.words s.globals n s.tables).0
     go : (r : Resolved) → loaded p s r ≡ refuse Number.undefined p s → r ≡ Resolved.undefined
     go (Resolved.found y ts) e = absurd (emit_known p (load_of y) (with_tables ts s) s e)
     go Resolved.undefined e = refl
-    go Resolved.full e = let q : refusal Number.captures p ≡ refusal Number.undefined p = cc in absurd (omega (arith, ap (λ r. r.number) q))
+    go Resolved.full e = let q : refusal Number.captures p ≡ refusal Number.undefined p = cc in absurd (omega (arith, ap (λ r. (number_of r.reason)) q))

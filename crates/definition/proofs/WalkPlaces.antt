@@ -7,20 +7,21 @@ use lib.ListN.{length, get_or}
 use lib.Dec.{T, leb, ltb, eqb}
 use Rattle.definition.specs.Basic.{Bytes, pick}
 use Rattle.definition.specs.Limit.{code_size, constants_limit, pool_limit, nesting_limit, arguments_limit, globals_limit, locals_limit}
-use Rattle.definition.specs.Number.{refusal, is_one_of, walk_numbers}
+use Rattle.definition.specs.Number.{refusal, is_one_of, walk_numbers, number_of}
 use Rattle.definition.specs.Syntax.{Stmt, Stmts, Else, Expr, Exprs, count}
 use Rattle.definition.specs.Opcode.{Instr, instr, plain, size, op_constant, op_pop, op_return_value, op_return}
 use Rattle.definition.specs.Bytecode.{Const, size_of, pool_size}
 use Rattle.definition.specs.Walk.{Res, bind, Machine, operate, prefixes, infixes, less_than, walk_stmt, walk_stmts, walk_else, walk_expr, walk_exprs}
 use Rattle.definition.specs.SymbolTable.{Table, Symbol, Resolved, resolve, place}
 use Rattle.definition.specs.Compiler.{State, machine, literal, boolean_of, emit_beside, add_constant, last_is, load, loaded, define, placed, dropped, jump, enter, returned, loads, close_over, leave}
-use Rattle.definition.specs.declared.Refusal.{Refusal}
+use Rattle.definition.specs.declared.reason.Refusal.{Refusal}
 use Rattle.definition.proofs.Basic.{chosen}
 use Rattle.definition.proofs.Placed.{PlacedStmt, PlacedStmts, PlacedElse, PlacedExpr, PlacedExprs}
+use Rattle.definition.specs.declared.reason.Reason.{Reason}
 
 -- a refusal's number is in a list, and its place within a bound
 pub record Bounded (numbers : List ℕ) (places : ℕ) (r : Refusal) : Type 0 where
-  pub number : T (is_one_of numbers r.number)
+  pub number : T (is_one_of numbers (number_of r.reason))
   pub place : r.place ≤ places
 
 -- a step that goes on; or that is refused, by a number of the walk, at a place within a bound
@@ -38,7 +39,7 @@ module _ {S A : Type 0} {bound : ℕ} where
   refuses_pick false h k = k
 
   -- a refusal at a place
-  refuses_at : {n p : ℕ} {s : S} → T (is_one_of walk_numbers n) → p ≤ bound → Refuses {A = A} bound (Res.stop (refusal n p) s)
+  refuses_at : {n : Reason} {p : ℕ} {s : S} → T (is_one_of walk_numbers (number_of n)) → p ≤ bound → Refuses {A = A} bound (Res.stop (refusal n p) s)
   refuses_at h k = Refuses.stop (record { number = h; place = k })
 
 -- a machine whose steps are refused at the places that they are given

@@ -1,5 +1,5 @@
 -- The listing of an image as text: fields one space apart, each line ended by 0A.
-use Rattle.std.specs.Prelude.{ℕ, zero, suc, List, [], ◌∷◌, ◌++◌, length, get_or}
+use Rattle.std.specs.Prelude.{ℕ, zero, suc, List, [], ◌∷◌, ◌++◌, length, get_or, Err}
 use Prim.Native.String.{String}
 use Rattle.definition.specs.Basic.{Bytes}
 use Rattle.definition.specs.Number.{refusal, bad_image}
@@ -8,8 +8,7 @@ use Rattle.definition.specs.Bytecode.{Code, size_of, Const, Image}
 use Rattle.definition.specs.Decode.{Decoded, decoded, malformed}
 use Rattle.definition.specs.Text.{ascii, decimal, padded, signed, hex}
 use Rattle.definition.specs.Output.{output_answer, output_after}
-use Rattle.definition.specs.declared.Answer.{Answer}
-use Rattle.definition.specs.declared.Answer.TheVariants.{Refused}
+use Rattle.definition.specs.Answer.{Answer}
 
 -- the end of a line
 abbrev pub newline : Bytes
@@ -72,7 +71,7 @@ listing m =
 -- listing an image: 17 where it is wrong
 abbrev pub list_answer : Decoded Image → ℕ → Answer
 list_answer (decoded m n) room = output_answer (listing m) room
-list_answer (malformed p) room = Refused (refusal bad_image p)
+list_answer (malformed p) room = Err (refusal bad_image p)
 
 abbrev pub list_into : Decoded Image → Bytes → Bytes
 list_into (decoded m n) out = output_after (listing m) out

@@ -1,5 +1,5 @@
 -- Two series of compile calls, and what they have in common.
-use Rattle.std.specs.Prelude.{ℕ, ◌≤◌, ◌≡◌, true, false, List, [], ◌∷◌, map, length, take, leb}
+use Rattle.std.specs.Prelude.{ℕ, ◌≤◌, ◌≡◌, true, false, List, [], ◌∷◌, map, length, take, leb, Ok, Err}
 use Rattle.definition.specs.Basic.{Bytes, pick}
 use Rattle.definition.specs.Limit.{session_size}
 use Rattle.definition.specs.Number
@@ -13,8 +13,7 @@ use Rattle.definition.specs.Compile.{Outcome, Step, Request, steps}
 use Rattle.definition.specs.Call.{Lent, Called, call, made, made_words}
 use Rattle.definition.specs.Output.{over}
 use Rattle.definition.specs.Literal.{Mask, image_mask, session_mask}
-use Rattle.definition.specs.declared.Refusal.{Refusal}
-use Rattle.definition.specs.declared.Answer.TheVariants.{Length, Refused}
+use Rattle.definition.specs.declared.reason.Refusal.{Refusal}
 
 -- a call of a series: its tree, and what each buffer that it is lent holds before it, but for the series' session
 pub record Call : Type 0 where
@@ -42,8 +41,8 @@ session_worded a names = take session_size (made_words a names).session
 
 -- where a series starts: a session that was made, with either call, and not refused; and its words
 pub data Start (s : Bytes) : Words → Type 0 where
-  fresh : (a : Bytes) → (made a).answer ≡ Length session_size → s ≡ session_made a → Start s six
-  worded : (a names : Bytes) {w : Words} {n : ℕ} → AreBytes names → (made_words a names).answer ≡ Length session_size → read_handed names ≡ decoded w n → s ≡ session_worded a names → Start s w
+  fresh : (a : Bytes) → (made a).answer ≡ Ok session_size → s ≡ session_made a → Start s six
+  worded : (a names : Bytes) {w : Words} {n : ℕ} → AreBytes names → (made_words a names).answer ≡ Ok session_size → read_handed names ≡ decoded w n → s ≡ session_worded a names → Start s w
 
 -- what a call is lent, in a series whose session is s
 abbrev pub lent : Bytes → Call → Lent
@@ -82,9 +81,9 @@ pub data Agree : Mask → Bytes → Bytes → Type 0 where
 
 -- beside the shapes' outcome: two images of its length that agree at all but its literal bytes, or its refusal twice
 pub data Answers : Outcome → Called → Called → Type 0 where
-  accepted : {m : Image} {x y : Called} → x.answer ≡ Length (length (image_bytes m)) → y.answer ≡ Length (length (image_bytes m))
+  accepted : {m : Image} {x y : Called} → x.answer ≡ Ok (length (image_bytes m)) → y.answer ≡ Ok (length (image_bytes m))
       → Agree (image_mask m) (take (length (image_bytes m)) x.lent.output) (take (length (image_bytes m)) y.lent.output) → Answers (Outcome.accepted m) x y
-  refused : {r : Refusal} {x y : Called} → x.answer ≡ Refused r → y.answer ≡ Refused r → Answers (Outcome.refused r) x y
+  refused : {r : Refusal} {x y : Called} → x.answer ≡ Err r → y.answer ≡ Err r → Answers (Outcome.refused r) x y
 
 -- and two sessions, where they are compared and the buffers have room for them, that agree, up to 65,536, at all but the literal bytes of the shapes' session
 pub record Same (compared : Type 0) (p : Step) (x y : Called) : Type 0 where
@@ -103,4 +102,4 @@ pub record ReadsBack (x : Called) : Type 0 where
   pub end : ℕ
   pub reads : session_size ≤ length x.lent.session → read_session (take session_size x.lent.session) ≡ decoded session end
   pub valid : ValidSession session
-  pub sound : (p : ℕ) → x.answer ≡ Refused (refusal Number.no_session p) → ⊥
+  pub sound : (p : ℕ) → x.answer ≡ Err (refusal Number.no_session p) → ⊥

@@ -1,5 +1,5 @@
 -- Shapes, the places of literal bytes, and two alike series, computed: condition 3's terms on small inputs.
-use Rattle.std.specs.Prelude.{ℕ, zero, suc, List, [], ◌∷◌, map, ◌≡◌, refl, replicate, take}
+use Rattle.std.specs.Prelude.{ℕ, zero, suc, List, [], ◌∷◌, map, ◌≡◌, refl, replicate, take, Ok}
 use Rattle.std.proofs.Common.{sym, subst}
 use Rattle.definition.specs.Basic.{Bytes, pick}
 use Rattle.definition.specs.Limit.{session_size, code_size, table_size}
@@ -17,7 +17,6 @@ use Rattle.definition.specs.Compile.{Outcome, Step, Request, compile, steps}
 use Rattle.definition.specs.Call.{Called}
 use Rattle.definition.specs.Series.{Agree, Answers}
 use Rattle.definition.specs.Values.{Given, refused, image, given}
-use Rattle.definition.specs.declared.Answer.TheVariants.{Length}
 
 -- a row: a tree, and its shape
 pub record Shaped : Type 0 where
@@ -158,7 +157,7 @@ series_places = refl
 abbrev fixed : Image
 fixed = record { code = []; pool = [] }
 
-pub fixed-image_answers : {x y : Called} → x.answer ≡ Length 6 → y.answer ≡ Length 6 → take 6 x.lent.output ≡ image_bytes fixed → take 6 y.lent.output ≡ image_bytes fixed
+pub fixed-image_answers : {x y : Called} → x.answer ≡ Ok 6 → y.answer ≡ Ok 6 → take 6 x.lent.output ≡ image_bytes fixed → take 6 y.lent.output ≡ image_bytes fixed
     → Answers (Outcome.accepted fixed) x y
 fixed-image_answers {x = x} {y = y} a b p q =
     Answers.accepted a b (subst (λ z. Agree (image_mask fixed) z (take 6 y.lent.output)) (sym p) (subst (λ z. Agree (image_mask fixed) (image_bytes fixed) z) (sym q)

@@ -8,7 +8,7 @@ use Rattle.definition.specs.Number.{refusal}
 use Rattle.definition.specs.Tag.{tag_identifier, tag_prefix, tag_infix, tag_if, tag_function, tag_call, tag_integer, tag_boolean, tag_string, tag_array, tag_index, tag_hash, tag_macro, tag_expr_stmt, tag_block, tag_let, tag_return, tag_params, tag_operator, tag_program}
 use Rattle.definition.specs.Syntax.{Stmt, Stmts, Else, Expr, Exprs}
 use Rattle.definition.specs.Field.{Head, tagged, name_head, fits, bytes, head}
-use Rattle.definition.specs.declared.Refusal.{Refusal}
+use Rattle.definition.specs.declared.reason.Refusal.{Refusal}
 
 -- What was read, and the offset after it; or the place of what is wrong. In both cases the first field met that is too deep, if any,
 -- and which bytes are the content of a literal that was got past.

@@ -1,5 +1,5 @@
 -- What the controller is promised of each image (document 02, P2), beside the session after the call that gave it.
-use Rattle.std.specs.Prelude.{ℕ, ◌<◌, List, [], ◌∷◌, ◌≡◌, length, take, T, eqb}
+use Rattle.std.specs.Prelude.{ℕ, ◌<◌, List, [], ◌∷◌, ◌≡◌, length, take, T, eqb, Ok}
 use Rattle.std.proofs.Math.Option.{Option, none, some}
 use Rattle.definition.specs.Basic.{Bytes, pick}
 use Rattle.definition.specs.Limit.{session_size}
@@ -10,7 +10,6 @@ use Rattle.definition.specs.Session.{Session}
 use Rattle.definition.specs.Decode.{decoded, read_image, read_session}
 use Rattle.definition.specs.Compile.{Outcome, Step}
 use Rattle.definition.specs.Call.{Called}
-use Rattle.definition.specs.declared.Answer.TheVariants.{Length}
 
 -- an instruction of code, and its position
 pub data Stands (i : Instr) : ℕ → Code → Type 0 where
@@ -80,7 +79,7 @@ pub record TrustedOutput (x : Called) (n : ℕ) : Type 0 where
 
 -- a call on lent memory, accepted or not
 pub record TrustedCall (x : Called) : Type 0 where
-  pub wrote : (n : ℕ) → x.answer ≡ Length n → TrustedOutput x n
+  pub wrote : (n : ℕ) → x.answer ≡ Ok n → TrustedOutput x n
 
 -- a call of the definition
 pub record TrustedStep (x : Step) : Type 0 where

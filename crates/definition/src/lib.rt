@@ -3,19 +3,7 @@
 #![tactic(auto)]
 
 pub mod limit;
-pub mod number;
+pub mod reason;
 pub mod tag;
 
-// Why a call was refused: document 01's number, and the place, an offset.
-#[derive(Clone, Copy)]
-pub struct Refusal {
-    pub number: usize,
-    pub place: usize,
-}
-
-// What a call answers: the length of what it wrote, or its refusal.
-#[derive(Clone, Copy)]
-pub enum Answer {
-    Length(usize),
-    Refused(Refusal),
-}
+pub use reason::{Reason, Refusal};

@@ -1,17 +1,16 @@
 -- Fields in a row: what is left decides.
 use Prim.Native.Nat.{ℕ, ◌+◌, ◌≤◌, ◌<◌}
 use native.Mathlib.Omega.{arith}
-use mathlib.Core.Bool.{true, false}
+use mathlib.Core.Bool.{Bool, true, false}
 use mathlib.Core.List.{List, [], ◌∷◌}
 use mathlib.Core.Option.{none, some}
+use Rattle.std.specs.Prelude.{Option, Some, None, is_some}
 use mathlib.Core.Path.{◌≡◌, refl, sym, ap, ◌∙◌}
 use lib.ListN.{length}
 use Rattle.definition.specs.Basic.{Bytes, pick}
 use Rattle.definition.specs.SymbolTable.{same, find_builtin, unfound, distinct}
 use Rattle.field.specs.Layout.{after, content}
 use Rattle.field.specs.Row.{RowTo, HasRow, found_of}
-use Rattle.field.specs.declared.names.Found.{Found}
-use Rattle.field.specs.declared.names.Found.TheVariants.{At, Nothing}
 
 -- the first field of a row that goes on, and the others
 pub record First (b : Bytes) (to at : ℕ) (ns : List Bytes) : Type 0 where
@@ -111,19 +110,26 @@ module _ {b : Bytes} {from to : ℕ} where
     abbrev pub compare_behind : at < to → HasRow b (after b at) to
     compare_behind h = let f = row_first x.row h in record { names = f.rest; row = f.row; within = x.has.within }
 
-    module _ (l : at < to) (f : Found) (e : (h : HasRow b (after b at) to) → found_of f ≡ find_builtin (content b at) h.names 0) where
+    module _ (l : at < to) (f : Option ℕ) (e : (h : HasRow b (after b at) to) → found_of f ≡ find_builtin (content b at) h.names 0) where
       -- by what was found behind the first
       compared : (h : HasRow b from to) → distinct h.names ≡ unfound (found_of f) (distinct (compare_behind l).names)
       unfolding distinct
       compared h =
           ap distinct (row_same h.row x.has.row) ∙ x.same ∙ ap distinct (row_first x.row l).is ∙ ap (λ o. unfound o (distinct (compare_behind l).names)) (sym (e (compare_behind l)))
 
-      pub compare_twice : {k : ℕ} → f ≡ At k → (h : HasRow b from to) → false ≡ distinct h.names
-      compare_twice q h = sym (compared h ∙ ap (λ g. unfound (found_of g) (distinct (compare_behind l).names)) q)
+      pub compare_twice : is_some f ≡ true → (h : HasRow b from to) → false ≡ distinct h.names
+      compare_twice q h = sym (compared h ∙ found_twice f (distinct (compare_behind l).names) q)
+        where
+          found_twice : (f : Option ℕ) (d : Bool) → is_some f ≡ true → unfound (found_of f) d ≡ false
+          found_twice (Some k) d q = refl
+          found_twice None d q = cc
 
-      pub compare_again : f ≡ Nothing → Comparing b from to (after b at)
-      compare_again q =
-          record { has = x.has; names = (compare_behind l).names; row = (compare_behind l).row; same = compared x.has ∙ ap (λ g. unfound (found_of g) (distinct (compare_behind l).names)) q }
+      pub compare_again : is_some f ≡ false → Comparing b from to (after b at)
+      compare_again q = record { has = x.has; names = (compare_behind l).names; row = (compare_behind l).row; same = compared x.has ∙ found_once f (distinct (compare_behind l).names) q }
+        where
+          found_once : (f : Option ℕ) (d : Bool) → is_some f ≡ false → unfound (found_of f) d ≡ d
+          found_once (Some k) d q = cc
+          found_once None d q = refl
 
     pub compare_none : to ≤ at → (h : HasRow b from to) → true ≡ distinct h.names
     unfolding distinct

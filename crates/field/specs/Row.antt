@@ -1,10 +1,8 @@
 -- Name fields that fill a part of some bytes, and a search among them.
-use Rattle.std.specs.Prelude.{ℕ, ◌≤◌, List, [], ◌∷◌, ◌≡◌, length}
-use Rattle.std.proofs.Math.Option.{Option, none, some}
+use Rattle.std.specs.Prelude.{ℕ, ◌≤◌, List, [], ◌∷◌, ◌≡◌, length, Option, Some, None}
+use Rattle.std.proofs.Math.Option as maybe
 use Rattle.definition.specs.Basic.{Bytes}
 use Rattle.field.specs.Layout.{after, content}
-use Rattle.field.specs.declared.names.Found.{Found}
-use Rattle.field.specs.declared.names.Found.TheVariants.{At, Nothing}
 
 -- the fields from an offset up to an end have these contents
 pub data RowTo (b : Bytes) (to : ℕ) : ℕ → List Bytes → Type 0 where
@@ -17,7 +15,7 @@ pub record HasRow (b : Bytes) (from to : ℕ) : Type 0 where
   pub row : RowTo b to from names
   pub within : to ≤ length b
 
--- what a search answers
-abbrev pub found_of : Found → Option ℕ
-found_of (At k) = some k
-found_of Nothing = none
+-- what a search answers, as the definition says it
+abbrev pub found_of : Option ℕ → maybe.Option ℕ
+found_of (Some k) = maybe.some k
+found_of None = maybe.none

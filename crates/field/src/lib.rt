@@ -13,7 +13,7 @@ pub fn wide(x: u8) -> usize
     ensures is { result ≡ x }
     ensures small { result < 256 }
 {
-    x as usize
+    usize::from(x)
 }
 
 // A number of two bytes, the high one first.
@@ -21,7 +21,7 @@ pub fn word(high: u8, low: u8) -> usize
     ensures is { result ≡ high * 256 + low }
     ensures small { result < 65536 }
 {
-    wide(high) * 256 + wide(low)
+    usize::from(u16::from_be_bytes([high, low]))
 }
 
 // The content length of the field at `at`.

@@ -7,6 +7,8 @@ use lib.ListN.{length, take}
 use lib.Seq.{take-append_seam, length-take-le}
 use lib.Dec.{leb}
 use borrow.Author.Tests.{leb-true}
+use Rattle.std.specs.Prelude.{Result, Ok, Err}
+use Rattle.std.specs.Result.{result_err}
 use Rattle.definition.specs.Basic.{Bytes}
 use Rattle.definition.specs.Limit.{session_size, code_size, table_size}
 use Rattle.definition.specs.Bytecode.{Image, image_bytes}
@@ -17,33 +19,32 @@ use Rattle.definition.specs.Call.{Lent, Called, answered, in_session, request, c
 use Rattle.definition.specs.Literal.{Mask}
 use Rattle.definition.specs.Series.{Agree, Answers, Same}
 use Rattle.definition.specs.Valid.{AreBytes, ValidImage}
-use Rattle.definition.specs.declared.Refusal.{Refusal}
-use Rattle.definition.specs.declared.Answer.TheVariants.{Length, Refused}
+use Rattle.definition.specs.declared.reason.Refusal.{Refusal}
 use Rattle.definition.proofs.Basic.{chosen, both_right}
 use Rattle.definition.proofs.Images.{read-image}
 use Rattle.definition.proofs.Sessions.{write_session}
 use Rattle.definition.proofs.Steps.{compile-valid}
 use Rattle.frames.specs.declared.FramePlace.{FramePlace}
-use Rattle.frames.specs.declared.FramePlace.TheVariants.{At, Refused as Nowhere}
-use Rattle.frames.specs.Frames.{counted, count_frames, placed, find_frame, part_at, frame_of, refusal_of}
+use Rattle.frames.specs.Frames.{counted, count_frames, placed, find_frame, part_at, frame_of}
 use Rattle.frames.specs.Together.{Sound, SameFrames, FramesAlike}
 use Rattle.frames.proofs.Division.{PlaceOf, part_length, frame-place}
+use Rattle.definition.specs.Answer.{Answer}
 
 -- how long a part is
-abbrev length_of : FramePlace → ℕ
-length_of (At start n) = n
-length_of (Nowhere r) = 0
+abbrev length_of : Result FramePlace Refusal → ℕ
+length_of (Ok p) = p.len
+length_of (Err r) = 0
 
 frame-length : (b : Bytes) (size k : ℕ) → length (frame_of b size k) ≡ length_of (find_frame b size k)
 frame-length b size k = go (find_frame b size k) (frame-place b size k)
   where
-    go : (p : FramePlace) → PlaceOf (length b) size k p → length (part_at b p) ≡ length_of p
+    go : (p : Result FramePlace Refusal) → PlaceOf (length b) size k p → length (part_at b p) ≡ length_of p
     go _ (PlaceOf.inside {n} some short fit) = part_length b (k * size) n fit
     go _ (PlaceOf.refused some) = refl
 
 -- Two sound images, equally long, have the same counts and rests, and equally long frames
 pub same_frames : (a b : Bytes) {m p : Image} {n q : ℕ} → read_image a ≡ decoded m n → read_image b ≡ decoded p q → length a ≡ length b → SameFrames a b
-same_frames a b {m} {p} {n} {q} s t e = record { counts = counts; lengths = lengths; refusals = λ size k. ap (λ c. refusal_of (placed c size k)) (counts size) }
+same_frames a b {m} {p} {n} {q} s t e = record { counts = counts; lengths = lengths; refusals = λ size k. ap (λ c. result_err (placed c size k)) (counts size) }
   where
     counts : (size : ℕ) → count_frames a size ≡ count_frames b size
     counts size = ap (λ d. counted d (length a) size) s ∙ ap (λ len. counted (decoded m n) len size) e ∙ sym (ap (λ d. counted d (length b) size) t)
@@ -68,7 +69,7 @@ answers_alike (Answers.refused a b) s t = FramesAlike.refused a b
 answered_sound : (l : Lent) (z : Session) (o : Outcome) → ((m : Image) → o ≡ Outcome.accepted m → ValidImage m) → Sound (answered l z o)
 answered_sound l z (Outcome.accepted m) v = record { reads = λ n e. (m, same n e) }
   where
-    same : (n : ℕ) → Length (length (image_bytes m)) ≡ Length n → read_image (take n (answered l z (Outcome.accepted m)).lent.output) ≡ decoded m n
+    same : (n : ℕ) → ◌≡◌ {A = Answer} (Ok (length (image_bytes m))) (Ok n) → read_image (take n (answered l z (Outcome.accepted m)).lent.output) ≡ decoded m n
     same n e =
         let k : length (image_bytes m) ≡ n = cc in
         subst (λ n. read_image (take n (answered l z (Outcome.accepted m)).lent.output) ≡ decoded m n) k
@@ -76,7 +77,7 @@ answered_sound l z (Outcome.accepted m) v = record { reads = λ n e. (m, same n 
 answered_sound l z (Outcome.refused r) v = record { reads = λ n e. let w : ◌≡◌ {A = ℕ} 0 1 = cc in absurd (omega arith) }
 
 -- a refusal has no image
-refused_sound : {r : Refusal} (l : Lent) → Sound (record { answer = Refused r; lent = l })
+refused_sound : {r : Refusal} (l : Lent) → Sound (record { answer = Err r; lent = l })
 refused_sound l = record { reads = λ n e. let w : ◌≡◌ {A = ℕ} 0 1 = cc in absurd (omega arith) }
 
 -- The image of an accepted call, in a session of any bytes, is sound

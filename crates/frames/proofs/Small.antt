@@ -7,37 +7,36 @@ use mathlib.Core.Path.{◌≡◌, refl, subst}
 use lib.ListN.{length}
 use lib.Dec.{leb, ltb, eqb}
 use borrow.Author.Tests.{leb-true}
+use Rattle.std.specs.Prelude.{Result, Err}
 use Rattle.definition.specs.Basic.{Bytes, both}
 use Rattle.definition.specs.Limit.{image_limit}
-use Rattle.definition.specs.Number.{refusal, bad_image}
+use Rattle.definition.specs.Number.{refusal, bad_image, bad_size, no_frame, number_of}
 use Rattle.definition.specs.Bytecode.{Image}
 use Rattle.definition.specs.Decode.{Decoded, decoded, malformed, read_image}
 use Rattle.definition.specs.Valid.{AreBytes}
-use Rattle.definition.specs.declared.Refusal.{Refusal}
+use Rattle.definition.specs.declared.reason.Refusal.{Refusal}
 use Rattle.definition.proofs.Basic.{chosen, both_right}
 use Rattle.definition.proofs.Images.{write-image}
 use Rattle.definition.proofs.Places.{image_within}
 use Rattle.definition.proofs.ImagePlaces.{image-place}
 use Rattle.frames.specs.declared.FrameCount.{FrameCount}
-use Rattle.frames.specs.declared.FrameCount.TheVariants.{Counted, Refused as Uncounted}
 use Rattle.frames.specs.declared.FramePlace.{FramePlace}
-use Rattle.frames.specs.declared.FramePlace.TheVariants.{At, Refused as Nowhere}
-use Rattle.frames.specs.Frames.{least_size, greatest_size, bad_size, no_frame, size_in_range, counted, count_frames, place_in, placed, find_frame, refusal_of}
+use Rattle.frames.specs.Frames.{count_is, place_is, least_size, greatest_size, size_in_range, counted, count_frames, place_in, placed, find_frame}
 use Rattle.frames.specs.Together.{Divided}
 use Rattle.frames.proofs.Division.{division, in-range, PlaceOf, place_of}
 
 -- a refusal of these calls
 pub record SmallRefusal (r : Refusal) : Type 0 where
-  pub number : r.number ≤ no_frame
+  pub number : number_of r.reason ≤ number_of no_frame
   pub place : r.place ≤ image_limit
 
-pub data SmallCount (size : ℕ) : FrameCount → Type 0 where
-  divided : {whole rest : ℕ} → whole < 65536 → rest < 65536 → Divided (whole * size + rest) size whole rest → whole * size + rest ≤ image_limit → SmallCount size (Counted whole rest)
-  refused : {r : Refusal} → SmallRefusal r → SmallCount size (Uncounted r)
+pub data SmallCount (size : ℕ) : Result FrameCount Refusal → Type 0 where
+  divided : {whole rest : ℕ} → whole < 65536 → rest < 65536 → Divided (whole * size + rest) size whole rest → whole * size + rest ≤ image_limit → SmallCount size (count_is whole rest)
+  refused : {r : Refusal} → SmallRefusal r → SmallCount size (Err r)
 
-pub data SmallPlace : FramePlace → Type 0 where
-  inside : {start n : ℕ} → start < 65536 → n < 65536 → SmallPlace (At start n)
-  refused : {r : Refusal} → SmallRefusal r → SmallPlace (Nowhere r)
+pub data SmallPlace : Result FramePlace Refusal → Type 0 where
+  inside : {start n : ℕ} → start < 65536 → n < 65536 → SmallPlace (place_is start n)
+  refused : {r : Refusal} → SmallRefusal r → SmallPlace (Err r)
 
 -- a sound image is within the limit
 sound_length : (b : Bytes) → AreBytes b → {m : Image} {n : ℕ} → read_image b ≡ decoded m n → length b ≤ image_limit
@@ -48,7 +47,7 @@ sound_length b a {m} e =
 counted_small : (d : Decoded Image) (len size : ℕ) → ((m : Image) (n : ℕ) → d ≡ decoded m n → len ≤ image_limit) → ((p : ℕ) → d ≡ malformed p → p ≤ image_limit) → SmallCount size (counted d len size)
 counted_small (decoded m n) len size short places = chosen (SmallCount size) (size_in_range size) good (λ e. SmallCount.refused {r = refusal bad_size 0} (record { number = omega arith; place = omega arith }))
   where
-    good : size_in_range size ≡ true → SmallCount size (Counted (len / size) (len % size))
+    good : size_in_range size ≡ true → SmallCount size (count_is (len / size) (len % size))
     good e =
         let least = in-range size e in
         let d = division len size (omega arith) in
@@ -60,22 +59,25 @@ counted_small (malformed p) len size short places = SmallCount.refused {r = refu
 pub count_small : (b : Bytes) → AreBytes b → (size : ℕ) → SmallCount size (count_frames b size)
 count_small b a size = counted_small (read_image b) (length b) size (λ m n e. sound_length b a e) (λ p e. image-place b p e)
 
--- the refusal of a frame among those counted: none, or 24
-place-refusal : (whole rest size k : ℕ) → SmallRefusal (refusal_of (place_in whole rest size k))
+-- what a place among those counted is, if it is none: 24
+abbrev SmallIn : Result FramePlace Refusal → Type 0
+SmallIn p = (r : Refusal) → p ≡ Err r → SmallRefusal r
+
+place-refusal : (whole rest size k : ℕ) → SmallIn (place_in whole rest size k)
 place-refusal whole rest size k =
-    chosen (λ p. SmallRefusal (refusal_of p)) (ltb k whole) (λ _. small)
-    (λ _. chosen (λ p. SmallRefusal (refusal_of p)) (both (eqb k whole) (ltb 0 rest)) (λ _. small) (λ _. record { number = omega arith; place = omega arith }))
+    chosen SmallIn (ltb k whole) (λ _ r e. cc)
+    (λ _. chosen SmallIn (both (eqb k whole) (ltb 0 rest)) (λ _ r e. cc) (λ _ r e. none r e))
   where
-    small : SmallRefusal (refusal 0 0)
-    small = record { number = omega arith; place = omega arith }
+    none : (r : Refusal) → ◌≡◌ {A = Result FramePlace Refusal} (Err (refusal no_frame 0)) (Err r) → SmallRefusal r
+    none r e = let f : refusal no_frame 0 ≡ r = cc in subst SmallRefusal f (record { number = omega arith; place = omega arith })
 
 -- a frame of a small count
-placed_small : {size : ℕ} (k : ℕ) {c : FrameCount} → SmallCount size c → SmallPlace (placed c size k)
+placed_small : {size : ℕ} (k : ℕ) {c : Result FrameCount Refusal} → SmallCount size c → SmallPlace (placed c size k)
 placed_small {size} k (SmallCount.divided {whole} {rest} w r d l) = go (place_in whole rest size k) (place_of k d) (place-refusal whole rest size k)
   where
-    go : (p : FramePlace) → PlaceOf (whole * size + rest) size k p → SmallRefusal (refusal_of p) → SmallPlace p
+    go : (p : Result FramePlace Refusal) → PlaceOf (whole * size + rest) size k p → SmallIn p → SmallPlace p
     go _ (PlaceOf.inside {n = n} some short fit) s = SmallPlace.inside {start = k * size} {n = n} (omega arith) (omega arith)
-    go _ (PlaceOf.refused some) s = SmallPlace.refused s
+    go _ (PlaceOf.refused {r} some) s = SmallPlace.refused (s r refl)
 placed_small k (SmallCount.refused h) = SmallPlace.refused h
 
 pub place_small : (b : Bytes) → AreBytes b → (size k : ℕ) → SmallPlace (find_frame b size k)

@@ -11,21 +11,19 @@ use lib.Seq.{take-add, take_all}
 use borrow.Author.Tests.{ltb-true, ltb-false, lt-ltb, le-ltb, eq-eqb}
 use Rattle.definition.specs.Basic.{Bytes}
 use Rattle.definition.proofs.Basic.{chosen, both_intro, pick_true, pick_false}
-use Rattle.frames.specs.declared.FrameCount.TheVariants.{Counted}
-use Rattle.frames.specs.declared.FramePlace.TheVariants.{At}
-use Rattle.frames.specs.Frames.{count_frames, place_in, placed, part_at, frame_of}
+use Rattle.frames.specs.Frames.{count_is, place_is, count_frames, place_in, placed, part_at, frame_of}
 use Rattle.frames.specs.Together.{Divided, frame_total, joined}
 use Rattle.frames.proofs.Division.{whole_and_rest}
 
 -- a whole frame, and the last shorter one, by their places
-whole-place : (whole rest size k : ℕ) → k < whole → place_in whole rest size k ≡ At (k * size) size
+whole-place : (whole rest size k : ℕ) → k < whole → place_in whole rest size k ≡ place_is (k * size) size
 whole-place whole rest size k h = pick_true _ _ (lt-ltb k whole h)
 
-last_place : (whole rest size : ℕ) → 0 < rest → place_in whole rest size whole ≡ At (whole * size) rest
+last_place : (whole rest size : ℕ) → 0 < rest → place_in whole rest size whole ≡ place_is (whole * size) rest
 last_place whole rest size h = pick_false _ _ (le-ltb whole whole (omega arith)) ∙ pick_true _ _ (both_intro (eq-eqb whole whole refl) (lt-ltb 0 rest h))
 
-module _ (b : Bytes) (size whole rest : ℕ) (count : count_frames b size ≡ Counted whole rest) where
-  frame_is : (k start n : ℕ) → place_in whole rest size k ≡ At start n → frame_of b size k ≡ take n (drop start b)
+module _ (b : Bytes) (size whole rest : ℕ) (count : count_frames b size ≡ count_is whole rest) where
+  frame_is : (k start n : ℕ) → place_in whole rest size k ≡ place_is start n → frame_of b size k ≡ take n (drop start b)
   frame_is k start n e = ap (λ c. part_at b (placed c size k)) count ∙ ap (part_at b) e
 
   -- the whole frames so far

@@ -6,24 +6,20 @@ use mathlib.Core.Path.{◌≡◌, refl, sym, ap, ◌∙◌}
 use lib.ListN.{length}
 use borrow.Author.Tests.{le-leb, lt-leb}
 use Rattle.definition.specs.Basic.{Bytes, pick}
-use Rattle.definition.specs.Number.{refusal, output_short}
+use Rattle.definition.specs.Number.{refusal, output_short, bad_heights}
 use Rattle.definition.specs.Bytecode.{Image}
 use Rattle.definition.specs.Decode.{Decoded, decoded, malformed, read_image}
 use Rattle.definition.specs.Output.{over}
 use Rattle.definition.specs.Valid.{AreBytes}
-use Rattle.definition.specs.declared.Refusal.{Refusal}
-use Rattle.definition.specs.declared.Answer.{Answer}
-use Rattle.definition.specs.declared.Answer.TheVariants.{Length, Refused}
+use Rattle.definition.specs.declared.reason.Refusal.{Refusal}
+use Rattle.definition.specs.Answer.{Answer}
+use Rattle.std.specs.Prelude.{Ok, Err, Result}
 use Rattle.definition.proofs.Images.{read-image, write-image}
 use Rattle.session.proofs.Stores.{sets_over}
 use Rattle.bytecode.specs.Checked.{image_answer}
-use Rattle.bytecode.specs.declared.ImageCheck.{ImageCheck}
-use Rattle.bytecode.specs.declared.ImageCheck.TheVariants.{Sound, Refused as Wrong}
 use Rattle.listing.specs.Reads.{ImageAt, HasImage}
-use Rattle.heights.specs.Pass.{Verdict, judged, bad_heights, verdict_answer, verdict_into, heights_answer, heights_into}
+use Rattle.heights.specs.Pass.{Verdict, judged, verdict_answer, verdict_into, heights_answer, heights_into}
 use Rattle.heights.specs.Chunks.{pool_answer, PoolJudges}
-use Rattle.heights.specs.declared.image.PoolCheck.{PoolCheck}
-use Rattle.heights.specs.declared.image.PoolCheck.TheVariants.{Tops as PoolTops, Fails as PoolFails}
 
 -- an empty part in front
 pub empty-part : (l o : List ℕ) → length l ≡ 0 → l ++ o ≡ o
@@ -31,20 +27,20 @@ empty-part [] o e = refl
 empty-part (x ∷ l) o e = absurd (omega arith)
 
 -- an image that was checked
-module _ (b : Bytes) {x : ImageCheck} (e : x ≡ image_answer (read_image b)) where
-  pub sound : {k : ℕ} → x ≡ Sound k → AreBytes b → HasImage b
+module _ (b : Bytes) {x : Result ℕ Refusal} (e : x ≡ image_answer (read_image b)) where
+  pub sound : {k : ℕ} → x ≡ Ok k → AreBytes b → HasImage b
   sound {k} s a = go (read_image b) refl (sym e ∙ s)
     where
-      go : (d : Decoded Image) → read_image b ≡ d → image_answer d ≡ Sound k → HasImage b
+      go : (d : Decoded Image) → read_image b ≡ d → image_answer d ≡ Ok k → HasImage b
       go (decoded m n) h i =
           let w = write-image b a h in
           record { image = m; is = record { reads = ap read_image (sym w.bytes) ∙ read-image m w.sound ∙ ap (λ b. decoded m (length b)) w.bytes } }
       go (malformed p) h i = let z : ◌≡◌ {A = ℕ} 0 1 = cc in absurd (omega arith)
 
-  pub wrong : {q : Refusal} → x ≡ Wrong q → (hs out : List ℕ) → (Refused q ≡ heights_answer (read_image b) hs (length out)) × (out ≡ heights_into (read_image b) hs out)
+  pub wrong : {q : Refusal} → x ≡ Err q → (hs out : List ℕ) → (Err q ≡ heights_answer (read_image b) hs (length out)) × (out ≡ heights_into (read_image b) hs out)
   wrong {q} s hs out = go (read_image b) (sym e ∙ s)
     where
-      go : (d : Decoded Image) → image_answer d ≡ Wrong q → (Refused q ≡ heights_answer d hs (length out)) × (out ≡ heights_into d hs out)
+      go : (d : Decoded Image) → image_answer d ≡ Err q → (Err q ≡ heights_answer d hs (length out)) × (out ≡ heights_into d hs out)
       go (decoded m n) i = let z : ◌≡◌ {A = ℕ} 0 1 = cc in absurd (omega arith)
       go (malformed p) i = (cc, refl)
 
@@ -59,16 +55,16 @@ module _ (b : Bytes) {m : Image} (i : ImageAt b m) (hs out : List ℕ) where
   )
 
   -- a chunk fails
-  pub fails : {r : PoolCheck} {place : ℕ} {o o₁ : List ℕ} → PoolJudges hs m m.pool o r o₁ → r ≡ PoolFails place
-      → (Refused (refusal bad_heights place) ≡ heights_answer (read_image b) hs (length out)) × (out ≡ heights_into (read_image b) hs out)
+  pub fails : {r : Result ℕ ℕ} {place : ℕ} {o o₁ : List ℕ} → PoolJudges hs m m.pool o r o₁ → r ≡ Err place
+      → (Err (refusal bad_heights place) ≡ heights_answer (read_image b) hs (length out)) × (out ≡ heights_into (read_image b) hs out)
   fails {place = place} k e = go (judged hs m m.pool) refl (sym e ∙ k.answers)
     where
-      go : (v : Verdict) → judged hs m m.pool ≡ v → PoolFails place ≡ pool_answer v → (Refused (refusal bad_heights place) ≡ heights_answer (read_image b) hs (length out)) × (out ≡ heights_into (read_image b) hs out)
+      go : (v : Verdict) → judged hs m m.pool ≡ v → Err place ≡ pool_answer v → (Err (refusal bad_heights place) ≡ heights_answer (read_image b) hs (length out)) × (out ≡ heights_into (read_image b) hs out)
       go (Verdict.tops ns) j q = let z : ◌≡◌ {A = ℕ} 0 1 = cc in absurd (omega arith)
-      go (Verdict.fails at) j q = let s : place ≡ at = cc in by_verdict j (ap (λ p. Refused (refusal bad_heights p)) s) refl
+      go (Verdict.fails at) j q = let s : place ≡ at = cc in by_verdict j (ap (λ p. Err (refusal bad_heights p)) s) refl
 
   -- all pass
-  module _ {r : PoolCheck} {count : ℕ} {o o₁ : List ℕ} (k : PoolJudges hs m m.pool o r o₁) (e : r ≡ PoolTops count) where
+  module _ {r : Result ℕ ℕ} {count : ℕ} {o o₁ : List ℕ} (k : PoolJudges hs m m.pool o r o₁) (e : r ≡ Ok count) where
     record Passed : Type 0 where
       tops : List ℕ
       is : judged hs m m.pool ≡ Verdict.tops tops
@@ -77,22 +73,22 @@ module _ (b : Bytes) {m : Image} (i : ImageAt b m) (hs out : List ℕ) where
     passed : Passed
     passed = go (judged hs m m.pool) refl (sym e ∙ k.answers)
       where
-        go : (v : Verdict) → judged hs m m.pool ≡ v → PoolTops count ≡ pool_answer v → Passed
+        go : (v : Verdict) → judged hs m m.pool ≡ v → Ok count ≡ pool_answer v → Passed
         go (Verdict.tops ns) j q = record { tops = ns; is = j; many = cc }
         go (Verdict.fails at) j q = let z : ◌≡◌ {A = ℕ} 0 1 = cc in absurd (omega arith)
 
     -- no room
-    pub long : length out < count → (Refused (refusal output_short 0) ≡ heights_answer (read_image b) hs (length out)) × (out ≡ heights_into (read_image b) hs out)
+    pub long : length out < count → (Err (refusal output_short 0) ≡ heights_answer (read_image b) hs (length out)) × (out ≡ heights_into (read_image b) hs out)
     long h =
         let p = passed in
         let l = lt-leb (length p.tops) (length out) (omega (arith, p.many)) in
-        by_verdict p.is (sym (ap (λ t. pick t (Length (length p.tops)) (Refused (refusal output_short 0))) l)) (sym (ap (λ t. pick t (over p.tops out) out) l))
+        by_verdict p.is (sym (ap (λ t. pick t (Ok (length p.tops)) (Err (refusal output_short 0))) l)) (sym (ap (λ t. pick t (over p.tops out) out) l))
 
     -- room: judged again, and stored
-    pub written : count ≤ length out → {s : PoolCheck} {last : List ℕ} → PoolJudges hs m m.pool out s last
-        → (Length count ≡ heights_answer (read_image b) hs (length out)) × (last ≡ heights_into (read_image b) hs out)
+    pub written : count ≤ length out → {s : Result ℕ ℕ} {last : List ℕ} → PoolJudges hs m m.pool out s last
+        → (Ok count ≡ heights_answer (read_image b) hs (length out)) × (last ≡ heights_into (read_image b) hs out)
     written h t =
         let p = passed in
         let l = le-leb (length p.tops) (length out) (omega (arith, p.many)) in
-        by_verdict p.is (ap Length (sym p.many) ∙ sym (ap (λ t. pick t (Length (length p.tops)) (Refused (refusal output_short 0))) l))
+        by_verdict p.is (ap Ok (sym p.many) ∙ sym (ap (λ t. pick t (Ok (length p.tops)) (Err (refusal output_short 0))) l))
         (t.stores p.tops p.is ∙ sets_over out p.tops (omega (arith, p.many)) ∙ sym (ap (λ t. pick t (over p.tops out) out) l))

@@ -7,7 +7,7 @@ use lib.ListN.{length, length-append}
 use lib.Dec.{leb}
 use Rattle.definition.specs.Basic.{Bytes}
 use Rattle.definition.specs.Limit.{code_size, pool_limit, constants_limit, image_limit}
-use Rattle.definition.specs.Number.{refusal, bad_image, output_short, list_numbers}
+use Rattle.definition.specs.Number.{refusal, bad_image, output_short, list_numbers, bad_heights, numbers_of}
 use Rattle.definition.specs.Bytecode.{Const, Image, pool_size, size_of}
 use Rattle.definition.specs.Decode.{Decoded, decoded, malformed, read_image}
 use Rattle.definition.specs.Valid.{AreBytes, ValidImage}
@@ -17,13 +17,13 @@ use Rattle.definition.proofs.ImagePlaces.{image-place}
 use Rattle.definition.proofs.Images.{write-image}
 use Rattle.definition.proofs.Instructions.{code-length, code-count}
 use Rattle.heights.specs.Judgement.{counted, Tops}
-use Rattle.heights.specs.Pass.{Verdict, bad_heights, verdict_answer, heights_answer}
+use Rattle.heights.specs.Pass.{Verdict, verdict_answer, heights_answer}
 use Rattle.heights.specs.Proposal.{proposal_answer}
 use Rattle.heights.proofs.Verdicts.{Right, judged_right, within}
 
 -- the numbers of the check
 abbrev pub heights_numbers : List ℕ
-heights_numbers = bad_image ∷ bad_heights ∷ output_short ∷ []
+heights_numbers = numbers_of (bad_image ∷ bad_heights ∷ output_short ∷ [])
 
 -- at most one greatest height a constant, and main's
 tops_count : {m : Image} {cs : List Const} {ns : List ℕ} → Tops m cs ns → length ns ≤ suc (length cs)

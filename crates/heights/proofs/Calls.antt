@@ -13,7 +13,7 @@ use Rattle.definition.specs.Call.{Called, call, request}
 use Rattle.definition.specs.Series.{Call, Start, lent, session_after, calls}
 use Rattle.definition.specs.Output.{output_answer}
 use Rattle.definition.specs.Valid.{All}
-use Rattle.definition.specs.declared.Answer.TheVariants.{Length}
+use Rattle.std.specs.Prelude.{Ok}
 use Rattle.definition.proofs.Series.{Holds, Gave, call_does, start_holds}
 use Rattle.heights.specs.Judgement.{AllPass, Tops, Offers}
 use Rattle.heights.specs.Pass.{heights_answer}
@@ -29,7 +29,7 @@ pub record OutputPasses (b : Bytes) : Type 0 where
 
 -- what a call wrote, if it was accepted
 pub record CallPasses (x : Called) : Type 0 where
-  pub wrote : (n : ℕ) → x.answer ≡ Length n → OutputPasses (take n x.lent.output)
+  pub wrote : (n : ℕ) → x.answer ≡ Ok n → OutputPasses (take n x.lent.output)
 
 -- calls on lent memory, beside the definition's
 data Paired : List Called → List Step → Type 0 where
@@ -48,14 +48,14 @@ paired s z h (c ∷ cs) =
 call_passes : {x : Called} {o : Outcome} → Gave o x → ((m : Image) → o ≡ Outcome.accepted m → OutputPasses (image_bytes m)) → CallPasses x
 call_passes {x} (Gave.accepted {m} a t room) f = record { wrote = λ n e. there n e }
   where
-    there : (n : ℕ) → x.answer ≡ Length n → OutputPasses (take n x.lent.output)
+    there : (n : ℕ) → x.answer ≡ Ok n → OutputPasses (take n x.lent.output)
     there n e =
         let l : length (image_bytes m) ≡ n = cc in
         let b : image_bytes m ≡ take n x.lent.output = sym t ∙ ap (λ k. take k x.lent.output) l in
         subst OutputPasses b (f m refl)
 call_passes {x} (Gave.refused a) f = record { wrote = λ n e. never n e }
   where
-    never : (n : ℕ) → x.answer ≡ Length n → OutputPasses (take n x.lent.output)
+    never : (n : ℕ) → x.answer ≡ Ok n → OutputPasses (take n x.lent.output)
     never n e = let z : ◌≡◌ {A = ℕ} 0 1 = cc in absurd (omega arith)
 
 -- each

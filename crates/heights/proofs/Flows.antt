@@ -17,15 +17,12 @@ use Rattle.definition.specs.Tag.{tag_function_const}
 use Rattle.definition.specs.Opcode.{Instr}
 use Rattle.definition.specs.Bytecode.{Code, Const, Image}
 use Rattle.definition.specs.Decode.{Decoded, decoded, malformed, read_instr, read_const, read_image}
-use Rattle.definition.specs.declared.Refusal.{Refusal}
-use Rattle.definition.specs.declared.Answer.TheVariants.{Length, Refused as Refuses}
+use Rattle.definition.specs.declared.reason.Refusal.{Refusal}
+use Rattle.std.specs.Prelude.{Ok, Err, Result}
 use Rattle.bytecode.specs.Checked.{image_answer}
-use Rattle.bytecode.specs.declared.ImageCheck.{ImageCheck}
-use Rattle.bytecode.specs.declared.ImageCheck.TheVariants.{Refused as Wrong}
-use Rattle.opcode.specs.Decoding.{read_before, decode_answer}
+use Rattle.opcode.specs.Decoding.{read_before, decode_answer, found as instruction_found}
 use Rattle.opcode.specs.declared.Instruction.{Instruction}
-use Rattle.opcode.specs.declared.Decoded.{Decoded as Answer}
-use Rattle.opcode.specs.declared.Decoded.TheVariants.{Instr as Found, Refused}
+use Rattle.opcode.specs.declared.Decoded.{Decoded as ReadInstruction}
 use Rattle.listing.specs.Reads.{CodeAt, PoolAt, ImageAt}
 use Rattle.listing.proofs.Images.{parts}
 use Rattle.listing.proofs.Items.{Reading, begins, ends, Next, next}
@@ -80,17 +77,17 @@ module _ (b : Bytes) (start end first : ℕ) where
           let q = ends (read_instr (byte_at b)) end (end - start) start p.reading a.reads e in
           record { many = p.many ∙ ap (λ c. first + length c) q; few = omega (arith, p.few); rest = p.rest }
 
-      module _ (before : at < end) {r : Answer} (t₀ : r ≡ decode_answer (read_before b at end)) where
+      module _ (before : at < end) {r : Result ReadInstruction Refusal} (t₀ : r ≡ decode_answer (read_before b at end)) where
         e : r ≡ decode_answer (read_instr (byte_at b) at end)
         e = t₀ ∙ ap decode_answer (before_within b at end h.code.is.within)
 
         found : Next (read_instr (byte_at b)) end (end - start) start p.reading h.code.is.reads
         found = next (read_instr (byte_at b)) end (end - start) start p.reading h.code.is.reads (λ i. omega arith)
 
-        pub flow_decodes : {q : Refusal} → r ≡ Refused q → ⊥
+        pub flow_decodes : {q : Refusal} → r ≡ Err q → ⊥
         flow_decodes t = unanswered e found.found t
 
-        module _ {i : Instruction} {after : ℕ} (t : r ≡ Found i after) where
+        module _ {i : Instruction} {after : ℕ} (t : r ≡ instruction_found i after) where
           pub flow_spot : length l₁ ≡ length l₀ → FlowSpot l start end at after i.op
           flow_spot n =
               let w = whole-read (byte_at b) end at found.x found.next found.found in
@@ -228,25 +225,25 @@ module _ (b : Bytes) (a : AreBytes b) {m : Image} (i : ImageAt b m) {len : ℕ} 
 
 -- The answer
 
-pub proposal_wrong : (b : Bytes) {x : ImageCheck} → x ≡ image_answer (read_image b) → {q : Refusal} → x ≡ Wrong q → (room : ℕ) → (Refuses q ≡ proposal_answer (read_image b) room) × (proposal_size (read_image b) room ≡ 0)
+pub proposal_wrong : (b : Bytes) {x : Result ℕ Refusal} → x ≡ image_answer (read_image b) → {q : Refusal} → x ≡ Err q → (room : ℕ) → (Err q ≡ proposal_answer (read_image b) room) × (proposal_size (read_image b) room ≡ 0)
 proposal_wrong b e {q} s room = go (read_image b) (sym e ∙ s)
   where
-    go : (d : Decoded Image) → image_answer d ≡ Wrong q → (Refuses q ≡ proposal_answer d room) × (proposal_size d room ≡ 0)
+    go : (d : Decoded Image) → image_answer d ≡ Err q → (Err q ≡ proposal_answer d room) × (proposal_size d room ≡ 0)
     go (decoded m n) i = let z : ◌≡◌ {A = ℕ} 0 1 = cc in absurd (omega arith)
     go (malformed p) i = (cc, refl)
 
 module _ (b : Bytes) {m : Image} (i : ImageAt b m) {count : ℕ} (c : count ≡ counted m m.pool) (room : ℕ) where
   by_test : {t : Bool} → leb (counted m m.pool) room ≡ t
-      → (proposal_answer (read_image b) room ≡ pick t (Length (counted m m.pool)) (Refuses (refusal output_short 0))) × (proposal_size (read_image b) room ≡ pick t (counted m m.pool) 0)
+      → (proposal_answer (read_image b) room ≡ pick t (Ok (counted m m.pool)) (Err (refusal output_short 0))) × (proposal_size (read_image b) room ≡ pick t (counted m m.pool) 0)
   by_test e = (
-    ap (λ d. proposal_answer d room) i.reads ∙ ap (λ t. pick t (Length (counted m m.pool)) (Refuses (refusal output_short 0))) e,
+    ap (λ d. proposal_answer d room) i.reads ∙ ap (λ t. pick t (Ok (counted m m.pool)) (Err (refusal output_short 0))) e,
     ap (λ d. proposal_size d room) i.reads ∙ ap (λ t. pick t (counted m m.pool) 0) e,
   )
 
   -- no room
-  pub proposal_long : room < count → (Refuses (refusal output_short 0) ≡ proposal_answer (read_image b) room) × (proposal_size (read_image b) room ≡ 0)
+  pub proposal_long : room < count → (Err (refusal output_short 0) ≡ proposal_answer (read_image b) room) × (proposal_size (read_image b) room ≡ 0)
   proposal_long h = let t = by_test (lt-leb (counted m m.pool) room (omega arith)) in (sym t.0, t.1)
 
   -- room for all
-  pub proposal_fits : count ≤ room → (Length count ≡ proposal_answer (read_image b) room) × (proposal_size (read_image b) room ≡ count)
-  proposal_fits h = let t = by_test (le-leb (counted m m.pool) room (omega arith)) in (ap Length c ∙ sym t.0, t.1 ∙ sym c)
+  pub proposal_fits : count ≤ room → (Ok count ≡ proposal_answer (read_image b) room) × (proposal_size (read_image b) room ≡ count)
+  proposal_fits h = let t = by_test (le-leb (counted m m.pool) room (omega arith)) in (ap Ok c ∙ sym t.0, t.1 ∙ sym c)

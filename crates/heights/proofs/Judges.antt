@@ -22,36 +22,34 @@ use Rattle.heights.specs.Judgement.{Kind, instructions}
 use Rattle.heights.specs.Pass.{Top, top_of}
 use Rattle.heights.specs.Marks.{Blank, chunk_answer, ChunkReady, ChunkEnds}
 use Rattle.heights.specs.Chunks.{top_answer, top_into, constant_answer, constant_into, Judges, Standing, ConstantReady}
-use Rattle.heights.specs.declared.chunk.ChunkCheck.{ChunkCheck}
-use Rattle.heights.specs.declared.chunk.ChunkCheck.TheVariants.{Top as ChunkTop, Fails as ChunkFails}
+use Rattle.heights.specs.declared.chunk.ChunkTop.{ChunkTop}
 use Rattle.heights.specs.declared.image.Progress.{Progress}
-use Rattle.heights.specs.declared.image.ConstantCheck.{ConstantCheck}
-use Rattle.heights.specs.declared.image.ConstantCheck.TheVariants.{On, Fails}
+use Rattle.std.specs.Prelude.{Option, Some, None}
 
 -- what fails does not go on
-pub not_on : {p : Progress} {A : Type 0} → Fails ≡ On p → A
+pub not_on : {p : Progress} {A : Type 0} → None ≡ Some p → A
 not_on {p} e = let z : ◌≡◌ {A = ℕ} 0 1 = cc in absurd (omega arith)
 
-module _ {hs : List ℕ} {kind : Kind} {end : ℕ} {c : Code} (p : Progress) {r : ChunkCheck} {l : List ℕ} (e : ChunkEnds hs kind p.heights end c r l) (out : List ℕ) where
+module _ {hs : List ℕ} {kind : Kind} {end : ℕ} {c : Code} (p : Progress) {r : Option ChunkTop} {l : List ℕ} (e : ChunkEnds hs kind p.heights end c r l) (out : List ℕ) where
   -- a chunk that fails
-  pub judged_fails : r ≡ ChunkFails → Judges end (top_answer (top_of hs kind p.heights c) p (length c)) (top_into (top_of hs kind p.heights c) p.chunks out) Fails out l
-  judged_fails f = go (top_of hs kind p.heights c) (sym f ∙ e.answer)
+  pub judged_fails : r ≡ None → {r₁ : Option Progress} → r₁ ≡ None → Judges end (top_answer (top_of hs kind p.heights c) p (length c)) (top_into (top_of hs kind p.heights c) p.chunks out) r₁ out l
+  judged_fails f q = subst (λ r. Judges end (top_answer (top_of hs kind p.heights c) p (length c)) (top_into (top_of hs kind p.heights c) p.chunks out) r out l) (sym q) (go (top_of hs kind p.heights c) (sym f ∙ e.answer))
     where
-      go : (t : Top) → ChunkFails ≡ chunk_answer t (p.heights + length c) → Judges end (top_answer t p (length c)) (top_into t p.chunks out) Fails out l
+      go : (t : Top) → None ≡ chunk_answer t (p.heights + length c) → Judges end (top_answer t p (length c)) (top_into t p.chunks out) None out l
       go (Top.top n) q = let z : ◌≡◌ {A = ℕ} 0 1 = cc in absurd (omega arith)
       go Top.fails q = record { answers = refl; stores = refl; blank = λ p g. not_on g }
 
   -- a chunk that passes
-  pub judged-on : {top k : ℕ} {out₁ : List ℕ} → r ≡ ChunkTop top k → out₁ ≡ set out p.chunks top
-      → Judges end (top_answer (top_of hs kind p.heights c) p (length c)) (top_into (top_of hs kind p.heights c) p.chunks out) (On (record { chunks = p.chunks + 1; heights = k })) out₁ l
-  judged-on {top} {k} {out₁} f s = go (top_of hs kind p.heights c) (sym f ∙ e.answer)
+  pub judged-on : {t : ChunkTop} {out₁ : List ℕ} → r ≡ Some t → out₁ ≡ set out p.chunks t.top
+      → Judges end (top_answer (top_of hs kind p.heights c) p (length c)) (top_into (top_of hs kind p.heights c) p.chunks out) (Some (record { chunks = p.chunks + 1; heights = t.heights })) out₁ l
+  judged-on {t} {out₁} f s = go (top_of hs kind p.heights c) (sym f ∙ e.answer)
     where
-      go : (t : Top) → ChunkTop top k ≡ chunk_answer t (p.heights + length c)
-          → Judges end (top_answer t p (length c)) (top_into t p.chunks out) (On (record { chunks = p.chunks + 1; heights = k })) out₁ l
+      go : (u : Top) → Some t ≡ chunk_answer u (p.heights + length c)
+          → Judges end (top_answer u p (length c)) (top_into u p.chunks out) (Some (record { chunks = p.chunks + 1; heights = t.heights })) out₁ l
       go (Top.top n) q =
-          let a : top ≡ n = cc in
-          let b : k ≡ p.heights + length c = cc in
-          record { answers = ap (λ h. On (record { chunks = p.chunks + 1; heights = h })) b; stores = s ∙ ap (set out p.chunks) a; blank = λ _ _. e.after top k f }
+          let a : t.top ≡ n = cc in
+          let b : t.heights ≡ p.heights + length c = cc in
+          record { answers = ap (λ h. Some (record { chunks = p.chunks + 1; heights = h })) b; stores = s ∙ ap (set out p.chunks) a; blank = λ _ _. e.after t f }
       go Top.fails q = let z : ◌≡◌ {A = ℕ} 0 1 = cc in absurd (omega arith)
 
 -- nothing arrives from a later offset on either
@@ -88,10 +86,10 @@ module _ (b : Bytes) {at next : ℕ} {x : Const} (s : Standing b at next x) wher
   no_instructions n = no_function n (λ x. instructions x ≡ 0) (λ c. refl) (λ c. refl)
 
   -- and no chunk
-  pub no_chunk : (byte_at b at ≡ tag_function_const → ⊥) → (hs : List ℕ) (p : Progress) (out l : List ℕ) → Blank l (suc at) → Judges next (constant_answer hs x p) (constant_into hs x p out) (On p) out l
+  pub no_chunk : (byte_at b at ≡ tag_function_const → ⊥) → (hs : List ℕ) (p : Progress) (out l : List ℕ) → Blank l (suc at) → Judges next (constant_answer hs x p) (constant_into hs x p out) (Some p) out l
   no_chunk n hs p out l e =
       let k : Blank l (suc next) = blank_later (let w = standing_head in omega arith) e in
-      no_function n (λ x. Judges next (constant_answer hs x p) (constant_into hs x p out) (On p) out l) (λ c. record { answers = refl; stores = refl; blank = λ _ _. k }) (λ c. record { answers = refl; stores = refl; blank = λ _ _. k })
+      no_function n (λ x. Judges next (constant_answer hs x p) (constant_into hs x p out) (Some p) out l) (λ c. record { answers = refl; stores = refl; blank = λ _ _. k }) (λ c. record { answers = refl; stores = refl; blank = λ _ _. k })
 
   -- a function's chunk
   module _ (e : byte_at b at ≡ tag_function_const) where
@@ -105,7 +103,7 @@ module _ (b : Bytes) {at next : ℕ} {x : Const} (s : Standing b at next x) wher
         let f = function_is b at s.end s.constant (λ i. omega arith) refl (λ i. omega arith) s.constant.within in
         record { code = f.code; stands = subst (λ n. CodeAt b (at + 3 + 3) n f.code) (sym s.sized) f.stands; is = f.is }
 
-    pub chunk_judges : (hs : List ℕ) (p : Progress) (out : List ℕ) {out₁ l : List ℕ} {r : ConstantCheck}
+    pub chunk_judges : (hs : List ℕ) (p : Progress) (out : List ℕ) {out₁ l : List ℕ} {r : Option Progress}
         → Judges next (top_answer (top_of hs Kind.function p.heights chunk.code) p (length chunk.code)) (top_into (top_of hs Kind.function p.heights chunk.code) p.chunks out) r out₁ l
         → Judges next (constant_answer hs x p) (constant_into hs x p out) r out₁ l
     chunk_judges hs p out {out₁} {l} {r} j = subst (λ x. Judges next (constant_answer hs x p) (constant_into hs x p out) r out₁ l) chunk.is j

@@ -6,6 +6,7 @@ pub mod Refuses
 pub mod Verdicts
 pub mod Offered
 pub mod Compiled
+pub mod EachInstruction
 pub mod Tables
 pub mod Laws
 pub mod Steps
@@ -19,3 +20,4 @@ pub mod Answers
 pub mod Calls
 pub mod Bounds
 pub mod Unread
+pub mod EachConstant

@@ -12,18 +12,17 @@ use Rattle.definition.specs.Opcode.{Instr, size}
 use Rattle.definition.specs.Bytecode.{Code, size_of}
 use Rattle.definition.specs.Decode.{read_instr}
 use Rattle.definition.specs.Effect.{takes, gives, flow_of, falls, leaps}
-use Rattle.definition.specs.declared.Refusal.{Refusal}
-use Rattle.opcode.specs.Decoding.{instr_of, read_before, decode_answer}
+use Rattle.definition.specs.declared.reason.Refusal.{Refusal}
+use Rattle.opcode.specs.Decoding.{instr_of, read_before, decode_answer, found as instruction_found}
 use Rattle.opcode.proofs.Decoding.{before_within, answered, unanswered}
 use Rattle.opcode.specs.declared.Instruction.{Instruction}
-use Rattle.opcode.specs.declared.Decoded.{Decoded as Answer}
-use Rattle.opcode.specs.declared.Decoded.TheVariants.{Instr as Found, Refused}
+use Rattle.opcode.specs.declared.Decoded.{Decoded as ReadInstruction}
 use Rattle.listing.specs.Reads.{CodeAt}
 use Rattle.listing.proofs.Items.{Reading, begins, ends, Next, next, all_read}
 use Rattle.listing.proofs.Lines.{whole-read}
 use Rattle.heights.specs.Pass.{Marks, greater, behind, arrived, leapt, fallen, Passing, Passed, onwards, steps_well, stepped, starting, pass}
-use Rattle.heights.specs.Marks.{marks_from, Spot, Stepped, pass_answer, PassReady, PassEnds}
-use Rattle.heights.specs.declared.chunk.ChunkCheck.TheVariants.{Top as ChunkTop, Fails as ChunkFails}
+use Rattle.heights.specs.Marks.{marks_from, Spot, Stepped, chunk_top, pass_answer, PassReady, PassEnds}
+use Rattle.std.specs.Prelude.{None, Result, Err}
 use Rattle.heights.proofs.Stepping.{greater_is}
 use Rattle.heights.proofs.Tables.{gives_one}
 
@@ -109,31 +108,31 @@ module _ (b : Bytes) (start end : ℕ) (hs : List ℕ) (first : ℕ) where
 
   module _ {l₀ l : List ℕ} {at k top : ℕ} (p : PassLoop l₀ l at k top) where
     -- at the end all was passed
-    pub loop_ends : end ≤ at → (c : Code) → CodeAt b start end c → PassEnds hs first (end - start) start c (ChunkTop top k) l
+    pub loop_ends : end ≤ at → (c : Code) → CodeAt b start end c → PassEnds hs first (end - start) start c (chunk_top top k) l
     loop_ends h c a =
         let e : at ≡ end = omega (arith, p.order) in
         let q = ends (read_instr (byte_at b)) end (end - start) start p.reading a.reads e in
         let d : pass hs first (end - start) c ≡ Passed.passed p.state = ap (pass hs first (end - start)) (sym q) ∙ p.passed in
         record {
-          answer = (λ j. ChunkTop (p.top_is j) ((p.index ∙ ap (λ c. first + length c) q) j)) ∙ sym (ap (λ r. pass_answer r (first + length c)) d);
+          answer = (λ j. chunk_top (p.top_is j) ((p.index ∙ ap (λ c. first + length c) q) j)) ∙ sym (ap (λ r. pass_answer r (first + length c)) d);
           after = λ s f. p.marks_are ∙ same s (sym d ∙ f);
         }
       where
         same : (s : Passing) → Passed.passed p.state ≡ Passed.passed s → p.state.marks ≡ s.marks
         same s e = let q : p.state ≡ s = cc in ap (λ (s : Passing). s.marks) q
 
-    module _ (h : PassReady l₀ b start end) (before : at < end) {r : Answer} (t₀ : r ≡ decode_answer (read_before b at end)) where
+    module _ (h : PassReady l₀ b start end) (before : at < end) {r : Result ReadInstruction Refusal} (t₀ : r ≡ decode_answer (read_before b at end)) where
       e : r ≡ decode_answer (read_instr (byte_at b) at end)
       e = t₀ ∙ ap decode_answer (before_within b at end h.code.is.within)
 
       pub found : Next (read_instr (byte_at b)) end (end - start) start p.reading h.code.is.reads
       found = next (read_instr (byte_at b)) end (end - start) start p.reading h.code.is.reads (λ i. omega arith)
 
-      pub not_refused : {q : Refusal} → r ≡ Refused q → ⊥
+      pub not_refused : {q : Refusal} → r ≡ Err q → ⊥
       not_refused t = unanswered e found.found t
 
       -- what failed once has failed
-      fails : {l₁ : List ℕ} → pass hs first (end - start) (found.x ∷ p.code) ≡ Passed.failed → (c : Code) → CodeAt b start end c → PassEnds hs first (end - start) start c ChunkFails l₁
+      fails : {l₁ : List ℕ} → pass hs first (end - start) (found.x ∷ p.code) ≡ Passed.failed → (c : Code) → CodeAt b start end c → PassEnds hs first (end - start) start c None l₁
       fails f c a =
           let g = found.reading in
           let d : pass hs first (end - start) c ≡ Passed.failed =
@@ -143,7 +142,7 @@ module _ (b : Bytes) (start end : ℕ) (hs : List ℕ) (first : ℕ) where
           never : {A : Type 0} (s : Passing) → Passed.failed ≡ Passed.passed s → A
           never s q = let z : ◌≡◌ {A = ℕ} 0 1 = cc in absurd (omega arith)
 
-      module _ {i : Instruction} {after : ℕ} (t : r ≡ Found i after) where
+      module _ {i : Instruction} {after : ℕ} (t : r ≡ instruction_found i after) where
         -- the instruction there
         pub record Turn : Type 0 where
           pub is : instr_of i ≡ found.x
@@ -181,7 +180,7 @@ module _ (b : Bytes) (start end : ℕ) (hs : List ℕ) (first : ℕ) where
             }
 
         -- too few heights
-        pub too_few : {l₁ : List ℕ} → length hs ≤ k → (c : Code) → CodeAt b start end c → PassEnds hs first (end - start) start c ChunkFails l₁
+        pub too_few : {l₁ : List ℕ} → length hs ≤ k → (c : Code) → CodeAt b start end c → PassEnds hs first (end - start) start c None l₁
         unfolding tests
         too_few m = fails (pass_more hs first (end - start) found.x p.code p.state p.passed
             ∙ ap (λ s. pick (both s (steps_well (end - start) p.state.marks (size_of p.code) (get_or hs (first + length p.code) 0) found.x (behind found.x (p.state.marks (size_of p.code))))) (Passed.passed (stepped (size_of p.code) found.x p.state)) Passed.failed)
@@ -198,7 +197,7 @@ module _ (b : Bytes) (start end : ℕ) (hs : List ℕ) (first : ℕ) where
               pass_more hs first (end - start) found.x p.code p.state p.passed ∙ (λ j. pick (both (v j) (sym u j)) (Passed.passed (stepped (size_of p.code) found.x p.state)) Passed.failed)
 
           -- the step fails
-          pub step_fails : {l₂ : List ℕ} → s ≡ false → (c : Code) → CodeAt b start end c → PassEnds hs first (end - start) start c ChunkFails l₂
+          pub step_fails : {l₂ : List ℕ} → s ≡ false → (c : Code) → CodeAt b start end c → PassEnds hs first (end - start) start c None l₂
           step_fails z = fails (pass_next ∙ ap (λ s. pick s (Passed.passed (stepped (size_of p.code) found.x p.state)) Passed.failed) z)
 
           -- or it passes

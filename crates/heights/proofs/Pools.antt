@@ -17,13 +17,11 @@ use Rattle.heights.specs.Pass.{Top, top_of, Verdict, also, judged_const, further
 use Rattle.heights.specs.Marks.{Blank}
 use Rattle.heights.specs.Chunks.{top_answer, top_into, constant_answer, constant_into, pool_answer, Judges, ConstantReady, PoolReady, SoFar, PoolJudges}
 use Rattle.heights.specs.declared.image.Progress.{Progress}
-use Rattle.heights.specs.declared.image.ConstantCheck.{ConstantCheck}
-use Rattle.heights.specs.declared.image.ConstantCheck.TheVariants.{On, Fails}
-use Rattle.heights.specs.declared.image.PoolCheck.TheVariants.{Tops as PoolTops, Fails as PoolFails}
+use Rattle.std.specs.Prelude.{Option, Some, None, Ok, Err}
 use Rattle.heights.proofs.Judges.{not_on, Turn}
 
 -- what goes on did not fail
-pub not_fails : {p : Progress} {A : Type 0} → On p ≡ Fails → A
+pub not_fails : {p : Progress} {A : Type 0} → Some p ≡ None → A
 not_fails e = not_on (sym e)
 
 -- One more constant
@@ -39,17 +37,17 @@ unfolding judged
 judged_failed hs m x cs e = ap (λ v. further v (judged_const hs m cs x)) e
 
 -- at most one chunk more
-few_more : (hs : List ℕ) (x : Const) (p : Progress) {q : Progress} → constant_answer hs x p ≡ On q → q.chunks ≤ p.chunks + 1
+few_more : (hs : List ℕ) (x : Const) (p : Progress) {q : Progress} → constant_answer hs x p ≡ Some q → q.chunks ≤ p.chunks + 1
 few_more hs (Const.integer b) p {q} e = let i : p ≡ q = cc in omega (arith, ap (λ (p : Progress). p.chunks) i)
 few_more hs (Const.string b) p {q} e = let i : p ≡ q = cc in omega (arith, ap (λ (p : Progress). p.chunks) i)
 few_more hs (Const.function l n c) p {q} e = go (top_of hs Kind.function p.heights c) e
   where
-    go : (t : Top) → top_answer t p (length c) ≡ On q → q.chunks ≤ p.chunks + 1
+    go : (t : Top) → top_answer t p (length c) ≡ Some q → q.chunks ≤ p.chunks + 1
     go (Top.top k) e = let i : ◌≡◌ {A = Progress} (record { chunks = p.chunks + 1; heights = p.heights + length c }) q = cc in omega (arith, ap (λ (p : Progress). p.chunks) i)
     go Top.fails e = not_on e
 
 -- one that passes
-more : {hs : List ℕ} {m : Image} (x : Const) {cs : List Const} {o₀ o : List ℕ} {p q : Progress} {o₁ : List ℕ} → SoFar hs m cs o₀ o p → constant_answer hs x p ≡ On q → o₁ ≡ constant_into hs x p o → SoFar hs m (x ∷ cs) o₀ o₁ q
+more : {hs : List ℕ} {m : Image} (x : Const) {cs : List Const} {o₀ o : List ℕ} {p q : Progress} {o₁ : List ℕ} → SoFar hs m cs o₀ o p → constant_answer hs x p ≡ Some q → o₁ ≡ constant_into hs x p o → SoFar hs m (x ∷ cs) o₀ o₁ q
 more {hs} {m} (Const.integer b) {cs} {p = p} {q} s e f =
     let i : p ≡ q = cc in
     record {
@@ -70,7 +68,7 @@ more {hs} {m} (Const.string b) {cs} {p = p} {q} s e f =
     }
 more {hs} {m} (Const.function l n c) {cs} {o₀} {o} {p} {q} {o₁} s e f = go (top_of hs Kind.function p.heights c) refl e f
   where
-    go : (t : Top) → top_of hs Kind.function p.heights c ≡ t → top_answer t p (length c) ≡ On q → o₁ ≡ top_into t p.chunks o → SoFar hs m (Const.function l n c ∷ cs) o₀ o₁ q
+    go : (t : Top) → top_of hs Kind.function p.heights c ≡ t → top_answer t p (length c) ≡ Some q → o₁ ≡ top_into t p.chunks o → SoFar hs m (Const.function l n c ∷ cs) o₀ o₁ q
     go (Top.top k) g e f =
         let i : ◌≡◌ {A = Progress} (record { chunks = p.chunks + 1; heights = p.heights + length c }) q = cc in
         let t : top_of hs Kind.function (counted m cs) c ≡ Top.top k = ap (λ h. top_of hs Kind.function h c) s.heights ∙ g in
@@ -84,12 +82,12 @@ more {hs} {m} (Const.function l n c) {cs} {o₀} {o} {p} {q} {o₁} s e f = go (
     go Top.fails g e f = not_on e
 
 -- one that fails
-fails_there : {hs : List ℕ} {m : Image} (x : Const) {cs : List Const} {o₀ o : List ℕ} {p : Progress} → SoFar hs m cs o₀ o p → constant_answer hs x p ≡ Fails → judged hs m (x ∷ cs) ≡ Verdict.fails (suc (length cs))
+fails_there : {hs : List ℕ} {m : Image} (x : Const) {cs : List Const} {o₀ o : List ℕ} {p : Progress} → SoFar hs m cs o₀ o p → constant_answer hs x p ≡ None → judged hs m (x ∷ cs) ≡ Verdict.fails (suc (length cs))
 fails_there (Const.integer b) s e = not_fails e
 fails_there (Const.string b) s e = not_fails e
 fails_there {hs} {m} (Const.function l n c) {cs} {p = p} s e = go (top_of hs Kind.function p.heights c) refl e
   where
-    go : (t : Top) → top_of hs Kind.function p.heights c ≡ t → top_answer t p (length c) ≡ Fails → judged hs m (Const.function l n c ∷ cs) ≡ Verdict.fails (suc (length cs))
+    go : (t : Top) → top_of hs Kind.function p.heights c ≡ t → top_answer t p (length c) ≡ None → judged hs m (Const.function l n c ∷ cs) ≡ Verdict.fails (suc (length cs))
     go (Top.top k) g e = not_fails e
     go Top.fails g e = judged_more hs m (Const.function l n c) cs s.passed ∙ ap (λ t. also t (suc (length cs)) s.tops) (ap (λ h. top_of hs Kind.function h c) s.heights ∙ g)
 
@@ -127,13 +125,13 @@ module _ (b : Bytes) (start end : ℕ) (hs o₀ l₀ : List ℕ) (p₀ : Progres
 
     module _ {o l : List ℕ} {at index : ℕ} {p : Progress} (i : PoolLoop o l at index p) where
       -- all constants passed
-      pub pool_ends : end ≤ at → (cs : List Const) → PoolAt b start end cs → (m : Image) (o' : List ℕ) → SoFar hs m [] o' o₀ p₀ → PoolJudges hs m cs o' (PoolTops p.chunks) o
+      pub pool_ends : end ≤ at → (cs : List Const) → PoolAt b start end cs → (m : Image) (o' : List ℕ) → SoFar hs m [] o' o₀ p₀ → PoolJudges hs m cs o' (Ok p.chunks) o
       pool_ends g cs k m o' s =
           let e : at ≡ end = omega (arith, i.order) in
           let same = ends (read_const (byte_at b)) end constants_limit start i.reading k.reads e in
           let t = i.so_far m o' s in
           let d : judged hs m cs ≡ Verdict.tops t.tops = ap (judged hs m) (sym same) ∙ t.passed in
-          record { answers = ap PoolTops (sym t.chunks) ∙ sym (ap pool_answer d); stores = λ ns f. t.stored ∙ ap (sets o' 0) (tops_same (sym d ∙ f)) }
+          record { answers = ap Ok (sym t.chunks) ∙ sym (ap pool_answer d); stores = λ ns f. t.stored ∙ ap (sets o' 0) (tops_same (sym d ∙ f)) }
         where
           tops_same : {ns ks : List ℕ} → Verdict.tops ns ≡ Verdict.tops ks → ns ≡ ks
           tops_same e = cc
@@ -149,22 +147,22 @@ module _ (b : Bytes) (start end : ℕ) (hs o₀ l₀ : List ℕ) (p₀ : Progres
               blank = i.blank;
             }
 
-        module _ {r : ConstantCheck} {o₁ l₁ : List ℕ} (j : Judges after (constant_answer hs t.x p) (constant_into hs t.x p o) r o₁ l₁) where
+        module _ {r : Option Progress} {o₁ l₁ : List ℕ} (j : Judges after (constant_answer hs t.x p) (constant_into hs t.x p o) r o₁ l₁) where
           -- it fails
-          pub pool_fails : r ≡ Fails → (cs : List Const) → PoolAt b start end cs → (m : Image) (o' : List ℕ) → SoFar hs m [] o' o₀ p₀ → PoolJudges hs m cs o' (PoolFails (index + 1)) o₁
+          pub pool_fails : r ≡ None → (cs : List Const) → PoolAt b start end cs → (m : Image) (o' : List ℕ) → SoFar hs m [] o' o₀ p₀ → PoolJudges hs m cs o' (Err (index + 1)) o₁
           pool_fails f cs k m o' s =
               let g = t.reading in
               let d : judged hs m cs ≡ Verdict.fails (suc (length i.pool)) =
               all_read (read_const (byte_at b)) end (λ c _. judged hs m c ≡ Verdict.fails (suc (length i.pool))) (λ xs _ x _ q _. judged_failed hs m x xs q) g.rest (t.x ∷ i.pool) after
               (sym g.same ∙ k.reads) (fails_there t.x (i.so_far m o' s) (sym j.answers ∙ f)) in
               let n : index + 1 ≡ suc (length i.pool) = omega (arith, i.counted) in
-              record { answers = ap PoolFails n ∙ sym (ap pool_answer d); stores = λ ns q. never (sym d ∙ q) }
+              record { answers = ap Err n ∙ sym (ap pool_answer d); stores = λ ns q. never (sym d ∙ q) }
             where
               never : {ns : List ℕ} {place : ℕ} {A : Type 0} → Verdict.fails place ≡ Verdict.tops ns → A
               never e = let z : ◌≡◌ {A = ℕ} 0 1 = cc in absurd (omega arith)
 
           -- or it passes
-          pub pool_again : {q : Progress} → r ≡ On q → length l₁ ≡ length l → length o₁ ≡ length o → PoolLoop o₁ l₁ after (index + 1) q
+          pub pool_again : {q : Progress} → r ≡ Some q → length l₁ ≡ length l → length o₁ ≡ length o → PoolLoop o₁ l₁ after (index + 1) q
           pool_again {q} e f g =
               record {
                 pool = t.x ∷ i.pool;

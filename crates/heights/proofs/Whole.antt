@@ -1,9 +1,9 @@
 -- A sound image: main, then the pool; and what checking its heights answers.
-use Prim.Native.Nat.{ℕ, zero, suc, ◌+◌, ◌≤◌, ◌<◌}
+use Prim.Native.Nat.{ℕ, ◌+◌, ◌≤◌, ◌<◌}
 use native.Mathlib.Omega.{arith}
 use mathlib.Core.List.{List, [], ◌∷◌}
 use mathlib.Core.Path.{◌≡◌, refl, sym, ap, ◌∙◌}
-use lib.ListN.{length, get_or, replicate, length-replicate}
+use lib.ListN.{length, replicate, length-replicate}
 use Rattle.definition.specs.Basic.{Bytes, byte_at}
 use Rattle.definition.specs.Limit.{image_limit}
 use Rattle.definition.specs.Field.{head}
@@ -18,17 +18,10 @@ use Rattle.heights.specs.Pass.{Top, top_of, Verdict, also, judged}
 use Rattle.heights.specs.Marks.{ChunkReady}
 use Rattle.heights.specs.Chunks.{top_answer, top_into, pool_answer, Judges, PoolReady, SoFar, PoolJudges}
 use Rattle.heights.specs.declared.image.Progress.{Progress}
-use Rattle.heights.specs.declared.image.ConstantCheck.{ConstantCheck}
-use Rattle.heights.specs.declared.image.ConstantCheck.TheVariants.{On, Fails}
-use Rattle.heights.specs.declared.image.PoolCheck.TheVariants.{Fails as PoolFails}
+use Rattle.std.specs.Prelude.{Option, Some, None, Err}
+use Rattle.heights.proofs.Tables.{one_element}
 use Rattle.heights.proofs.Judges.{not_on, blank_later}
 use Rattle.heights.proofs.Pools.{not_fails, judged_failed}
-
--- nothing arrives where all is zero
-zeros : (n k : ℕ) → ◌≡◌ {A = ℕ} (get_or (replicate n 0) k 0) 0
-zeros zero k = refl
-zeros (suc n) zero = refl
-zeros (suc n) (suc k) = zeros n k
 
 -- main alone
 judged_main : (hs : List ℕ) (m : Image) → judged hs m [] ≡ also (top_of hs Kind.main 0 m.code) 0 []
@@ -53,19 +46,19 @@ module _ (b : Bytes) (a : AreBytes b) {m : Image} (i : ImageAt b m) {len : ℕ} 
           code = record { code = m.code; is = k.code };
           room = omega (arith, length-replicate {A = ℕ} n 0, k.code.within);
           short = omega (arith, k.code.within);
-          blank = record { zero = λ j _. zeros n j };
+          blank = record { zero = λ j _. one_element 0 n j };
         },
         omega arith,
       )
 
-  module _ (hs out : List ℕ) {r : ConstantCheck} {out₁ l : List ℕ} (j : Judges (3 + len) (top_answer (top_of hs Kind.main 0 m.code) none (length m.code)) (top_into (top_of hs Kind.main 0 m.code) 0 out) r out₁ l) where
+  module _ (hs out : List ℕ) {r : Option Progress} {out₁ l : List ℕ} (j : Judges (3 + len) (top_answer (top_of hs Kind.main 0 m.code) none (length m.code)) (top_into (top_of hs Kind.main 0 m.code) 0 out) r out₁ l) where
     -- main fails
-    pub main_fails : r ≡ Fails → {o : List ℕ} → PoolJudges hs m m.pool out (PoolFails 0) o
+    pub main_fails : r ≡ None → {o : List ℕ} → PoolJudges hs m m.pool out (Err 0) o
     main_fails f =
         let d = all m.pool (first (top_of hs Kind.main 0 m.code) refl (sym j.answers ∙ f)) in
         record { answers = sym (ap pool_answer d); stores = λ ns q. never (sym d ∙ q) }
       where
-        first : (t : Top) → top_of hs Kind.main 0 m.code ≡ t → top_answer t none (length m.code) ≡ Fails → judged hs m [] ≡ Verdict.fails 0
+        first : (t : Top) → top_of hs Kind.main 0 m.code ≡ t → top_answer t none (length m.code) ≡ None → judged hs m [] ≡ Verdict.fails 0
         first (Top.top n) g q = not_fails q
         first Top.fails g q = judged_main hs m ∙ ap (λ t. also t 0 []) g
 
@@ -76,12 +69,12 @@ module _ (b : Bytes) (a : AreBytes b) {m : Image} (i : ImageAt b m) {len : ℕ} 
         never : {ns : List ℕ} {A : Type 0} → Verdict.fails 0 ≡ Verdict.tops ns → A
         never e = let z : ◌≡◌ {A = ℕ} 0 1 = cc in absurd (omega arith)
 
-    module _ {p : Progress} (f : r ≡ On p) where
+    module _ {p : Progress} (f : r ≡ Some p) where
       -- main passes
       pub main_passes : SoFar hs m [] out out₁ p
       main_passes = go (top_of hs Kind.main 0 m.code) refl (sym j.answers ∙ f) j.stores
         where
-          go : (t : Top) → top_of hs Kind.main 0 m.code ≡ t → top_answer t none (length m.code) ≡ On p → out₁ ≡ top_into t 0 out → SoFar hs m [] out out₁ p
+          go : (t : Top) → top_of hs Kind.main 0 m.code ≡ t → top_answer t none (length m.code) ≡ Some p → out₁ ≡ top_into t 0 out → SoFar hs m [] out out₁ p
           go (Top.top n) g q s =
               let i : ◌≡◌ {A = Progress} (record { chunks = 0 + 1; heights = 0 + length m.code }) p = cc in
               record {

@@ -1,5 +1,5 @@
 -- What judging the chunks of an image one after the other answers and stores.
-use Rattle.std.specs.Prelude.{ℕ, suc, ◌+◌, ◌≤◌, ◌<◌, List, ◌≡◌, length, set}
+use Rattle.std.specs.Prelude.{ℕ, suc, ◌+◌, ◌≤◌, ◌<◌, List, Option, Some, None, Result, Ok, Err, ◌≡◌, length, set}
 use Rattle.std.proofs.lemmas.List.Edits.{sets}
 use Rattle.definition.specs.Basic.{Bytes, byte_at}
 use Rattle.definition.specs.Field.{head}
@@ -9,15 +9,11 @@ use Rattle.heights.specs.Judgement.{Kind, counted}
 use Rattle.heights.specs.Pass.{Top, top_of, Verdict, judged}
 use Rattle.heights.specs.Marks.{Blank}
 use Rattle.heights.specs.declared.image.Progress.{Progress}
-use Rattle.heights.specs.declared.image.ConstantCheck.{ConstantCheck}
-use Rattle.heights.specs.declared.image.ConstantCheck.TheVariants.{On, Fails}
-use Rattle.heights.specs.declared.image.PoolCheck.{PoolCheck}
-use Rattle.heights.specs.declared.image.PoolCheck.TheVariants.{Tops as PoolTops, Fails as PoolFails}
 
 -- a chunk of so many instructions behind others, by its greatest height
-abbrev pub top_answer : Top → Progress → ℕ → ConstantCheck
-top_answer (Top.top n) p k = On (record { chunks = p.chunks + 1; heights = p.heights + k })
-top_answer Top.fails p k = Fails
+abbrev pub top_answer : Top → Progress → ℕ → Option Progress
+top_answer (Top.top n) p k = Some (record { chunks = p.chunks + 1; heights = p.heights + k })
+top_answer Top.fails p k = None
 
 -- the output afterwards
 abbrev pub top_into : Top → ℕ → List ℕ → List ℕ
@@ -25,9 +21,9 @@ top_into (Top.top n) at out = set out at n
 top_into Top.fails at out = out
 
 -- a constant behind others
-abbrev pub constant_answer : List ℕ → Const → Progress → ConstantCheck
-constant_answer hs (Const.integer b) p = On p
-constant_answer hs (Const.string b) p = On p
+abbrev pub constant_answer : List ℕ → Const → Progress → Option Progress
+constant_answer hs (Const.integer b) p = Some p
+constant_answer hs (Const.string b) p = Some p
 constant_answer hs (Const.function l n c) p = top_answer (top_of hs Kind.function p.heights c) p (length c)
 
 -- the output afterwards
@@ -37,15 +33,15 @@ constant_into hs (Const.string b) p out = out
 constant_into hs (Const.function l n c) p out = top_into (top_of hs Kind.function p.heights c) p.chunks out
 
 -- all chunks
-abbrev pub pool_answer : Verdict → PoolCheck
-pool_answer (Verdict.tops ns) = PoolTops (length ns)
-pool_answer (Verdict.fails place) = PoolFails place
+abbrev pub pool_answer : Verdict → Result ℕ ℕ
+pool_answer (Verdict.tops ns) = Ok (length ns)
+pool_answer (Verdict.fails place) = Err place
 
 -- what judging a chunk or a constant answers, the output afterwards, and where nothing arrives then
-pub record Judges (next : ℕ) (answer : ConstantCheck) (out : List ℕ) (r : ConstantCheck) (out₁ l : List ℕ) : Type 0 where
+pub record Judges (next : ℕ) (answer : Option Progress) (out : List ℕ) (r : Option Progress) (out₁ l : List ℕ) : Type 0 where
   pub answers : r ≡ answer
   pub stores : out₁ ≡ out
-  pub blank : (p : Progress) → r ≡ On p → Blank l (suc next)
+  pub blank : (p : Progress) → r ≡ Some p → Blank l (suc next)
 
 -- a constant that stands from an offset up to another
 pub record Standing (b : Bytes) (at next : ℕ) (x : Const) : Type 0 where
@@ -82,6 +78,6 @@ pub record SoFar (hs : List ℕ) (m : Image) (cs : List Const) (out₀ out : Lis
   pub stored : out ≡ sets out₀ 0 tops
 
 -- what judging main and the constants of a pool answers, and the output where all pass
-pub record PoolJudges (hs : List ℕ) (m : Image) (cs : List Const) (out₀ : List ℕ) (r : PoolCheck) (out : List ℕ) : Type 0 where
+pub record PoolJudges (hs : List ℕ) (m : Image) (cs : List Const) (out₀ : List ℕ) (r : Result ℕ ℕ) (out : List ℕ) : Type 0 where
   pub answers : r ≡ pool_answer (judged hs m cs)
   pub stores : (ns : List ℕ) → judged hs m cs ≡ Verdict.tops ns → out ≡ sets out₀ 0 ns

@@ -1,4 +1,6 @@
 pub mod Judgement
+pub mod Instructions
+pub mod Constants
 pub mod Pass
 pub mod Marks
 pub mod Chunks

@@ -1,14 +1,13 @@
 -- The same by one forward pass over each chunk, with what arrives at each position; and what the call answers.
-use Rattle.std.specs.Prelude.{ℕ, zero, suc, ◌+◌, ◌-◌, Bool, true, List, [], ◌∷◌, ◌++◌, length, get_or, leb, ltb, eqb}
+use Rattle.std.specs.Prelude.{ℕ, zero, suc, ◌+◌, ◌-◌, Bool, true, List, [], ◌∷◌, ◌++◌, length, get_or, leb, ltb, eqb, Err}
 use Rattle.definition.specs.Basic.{pick, both}
-use Rattle.definition.specs.Number.{refusal, bad_image}
+use Rattle.definition.specs.Number.{refusal, bad_image, bad_heights}
 use Rattle.definition.specs.Opcode.{Instr, size, width}
 use Rattle.definition.specs.Bytecode.{Code, size_of, Const, Image}
 use Rattle.definition.specs.Decode.{Decoded, decoded, malformed}
 use Rattle.definition.specs.Effect.{takes, gives, flow_of, falls, leaps}
 use Rattle.definition.specs.Output.{output_answer, output_after}
-use Rattle.definition.specs.declared.Answer.{Answer}
-use Rattle.definition.specs.declared.Answer.TheVariants.{Refused}
+use Rattle.definition.specs.Answer.{Answer}
 use Rattle.heights.specs.Judgement.{Kind, counted}
 
 -- what arrives at each position: 0 nothing, 1 no way from the start, h + 2 the height h
@@ -124,12 +123,9 @@ judged hs m [] = also (top_of hs Kind.main 0 m.code) 0 []
 judged hs m (x ∷ cs) = further (judged hs m cs) (judged_const hs m cs x)
 
 -- the chunk fails, or the list that is answered
-abbrev pub bad_heights : ℕ
-bad_heights = 25
-
 abbrev pub verdict_answer : Verdict → ℕ → Answer
 verdict_answer (Verdict.tops ns) room = output_answer ns room
-verdict_answer (Verdict.fails place) room = Refused (refusal bad_heights place)
+verdict_answer (Verdict.fails place) room = Err (refusal bad_heights place)
 
 abbrev pub verdict_into : Verdict → List ℕ → List ℕ
 verdict_into (Verdict.tops ns) out = output_after ns out
@@ -138,7 +134,7 @@ verdict_into (Verdict.fails place) out = out
 -- checking the heights of an image: 17 where it is wrong
 abbrev pub heights_answer : Decoded Image → List ℕ → ℕ → Answer
 heights_answer (decoded m n) hs room = verdict_answer (judged hs m m.pool) room
-heights_answer (malformed p) hs room = Refused (refusal bad_image p)
+heights_answer (malformed p) hs room = Err (refusal bad_image p)
 
 abbrev pub heights_into : Decoded Image → List ℕ → List ℕ → List ℕ
 heights_into (decoded m n) hs out = verdict_into (judged hs m m.pool) out

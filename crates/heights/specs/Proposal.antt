@@ -1,19 +1,18 @@
 -- What proposing heights for an image answers, and what of the lent list stays. Nothing is said of the heights: the check judges them.
-use Rattle.std.specs.Prelude.{ℕ, ◌≤◌, ◌<◌, List, ◌≡◌, length, drop, leb}
+use Rattle.std.specs.Prelude.{ℕ, ◌≤◌, ◌<◌, List, ◌≡◌, length, drop, leb, Ok, Err}
 use Rattle.definition.specs.Basic.{Bytes, pick}
 use Rattle.definition.specs.Number.{refusal, bad_image, output_short}
 use Rattle.definition.specs.Bytecode.{Image}
 use Rattle.definition.specs.Decode.{Decoded, decoded, malformed}
-use Rattle.definition.specs.declared.Answer.{Answer}
-use Rattle.definition.specs.declared.Answer.TheVariants.{Length, Refused}
+use Rattle.definition.specs.Answer.{Answer}
 use Rattle.listing.specs.Reads.{HasCode, HasPool}
 use Rattle.heights.specs.Judgement.{counted}
 use Rattle.heights.specs.Chunks.{HasStanding}
 
 -- how many instructions an image has, if the list has a number for each; 15 where it has not, 17 where the image is wrong
 abbrev pub proposal_answer : Decoded Image → ℕ → Answer
-proposal_answer (decoded m n) room = pick (leb (counted m m.pool) room) (Length (counted m m.pool)) (Refused (refusal output_short 0))
-proposal_answer (malformed p) room = Refused (refusal bad_image p)
+proposal_answer (decoded m n) room = pick (leb (counted m m.pool) room) (Ok (counted m m.pool)) (Err (refusal output_short 0))
+proposal_answer (malformed p) room = Err (refusal bad_image p)
 
 -- how many numbers of the list are written
 abbrev pub proposal_size : Decoded Image → ℕ → ℕ

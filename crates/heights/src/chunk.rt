@@ -3,43 +3,28 @@ ghost use Rattle.std.specs.Prelude.{true, ◌≡◌, ℕ, ◌+◌, ◌-◌, ◌<
 ghost use Rattle.definition.specs.Basic.{pick, both};
 ghost use Rattle.definition.specs.Effect.{takes as taken};
 ghost use Rattle.opcode.specs.Decoding.{instr_of};
-ghost use Rattle.heights.specs.Pass.{agree as agreeing, greater as greatest, behind as after, free as clear, fits as fitting, lastly};
+ghost use Rattle.heights.specs.Pass.{agree as agreeing, behind as after, free as clear, fits as fitting, lastly};
 ghost use Rattle.definition.specs.Bytecode.{Code};
 ghost use Rattle.listing.specs.Reads.{CodeAt};
 ghost use Rattle.heights.specs.Marks.{with_arrival, Spot, Stepped, PassReady, PassEnds, ChunkReady, ChunkEnds};
 ghost use Rattle.heights.specs.Judgement.{Kind};
 
 use crate::effect::{falls, gives, leaps, takes};
-use opcode::{Decoded, Instruction, decode_at};
+use crate::instructions::Instructions;
+use opcode::Instruction;
 
-// What the pass over a chunk finds: its greatest height and how many heights were read so far, or that it fails.
+// A chunk that passes: its greatest height, and how many heights were read so far.
 #[derive(Clone, Copy)]
-pub enum ChunkCheck {
-    Top(u32, usize),
-    Fails,
-}
-
-// The greater of two.
-fn greater(a: u32, b: u32) -> u32
-    ensures { result ≡ greatest a b }
-{
-    if a <= b {
-        return b;
-    }
-    a
+pub struct ChunkTop {
+    pub top: u32,
+    pub heights: usize,
 }
 
 // Whether two arrivals do not bring two heights.
 fn agree(a: u32, b: u32) -> bool
     ensures { result ≡ agreeing a b }
 {
-    if a <= 1 {
-        return true;
-    }
-    if b <= 1 {
-        return true;
-    }
-    a == b
+    a <= 1 || b <= 1 || a == b
 }
 
 // Let a level arrive at an offset; whether it agrees with what arrived before.
@@ -49,7 +34,7 @@ fn arrive(marks: &mut [u32], at: usize, level: u32) -> bool
     ensures stores { marks.new ≡ with_arrival marks.old at level }
 {
     let before = marks[at];
-    marks[at] = greater(before, level);
+    marks[at] = before.max(level);
     agree(before, level)
 }
 
@@ -58,13 +43,7 @@ fn fits(i: Instruction, level: u32, offered: u32) -> bool
     requires { i.op < 30 }
     ensures { result ≡ fitting (instr_of i) level offered }
 {
-    if level <= 1 {
-        return true;
-    }
-    if level - 2 != offered {
-        return false;
-    }
-    takes(i) <= level - 2
+    level <= 1 || level - 2 == offered && takes(i) <= level - 2
 }
 
 // Whether nothing arrives at the operands of an instruction.
@@ -72,14 +51,7 @@ fn free(marks: &[u32], at: usize, width: usize) -> bool
     requires { at + width < length marks.now }
     ensures { result ≡ clear (λ k. get_or marks.now k 0) at width }
 {
-    let mut w = width;
-    while 0 < w {
-        if marks[at + w] != 0 {
-            return false;
-        }
-        w -= 1;
-    }
-    true
+    marks[at + 1..at + 1 + width].iter().all(|m| *m == 0)
 }
 
 // What arrives behind an instruction.
@@ -88,9 +60,10 @@ fn behind(i: Instruction, level: u32) -> u32
     ensures { result ≡ after (instr_of i) level }
 {
     if level <= 1 {
-        return 1;
+        1
+    } else {
+        level + gives(i.op) - takes(i)
     }
-    level + gives(i.op) - takes(i)
 }
 
 // Go on at the target of a jump, which must lie before the end and not before the next instruction.
@@ -99,16 +72,7 @@ pub fn leap(marks: &mut [u32], jumps: bool, next: usize, end: usize, to: usize, 
     ensures answers { result ≡ pick jumps (both (leb next to) (both (ltb to end) (agreeing (get_or marks.old to 0) level))) true }
     ensures stores { result ≡ true → marks.new ≡ pick jumps (with_arrival marks.old to level) marks.old }
 {
-    if !jumps {
-        return true;
-    }
-    if to < next {
-        return false;
-    }
-    if end <= to {
-        return false;
-    }
-    arrive(marks, to, level)
+    !jumps || next <= to && to < end && arrive(marks, to, level)
 }
 
 // Go on at the next instruction.
@@ -117,10 +81,7 @@ pub fn fall(marks: &mut [u32], goes: bool, next: usize, level: u32) -> bool
     ensures answers { result ≡ pick goes (agreeing (get_or marks.old next 0) level) true }
     ensures stores { marks.new ≡ pick goes (with_arrival marks.old next level) marks.old }
 {
-    if !goes {
-        return true;
-    }
-    arrive(marks, next, level)
+    !goes || arrive(marks, next, level)
 }
 
 // One instruction of the chunk from `start` up to `end`; whether it passes.
@@ -155,10 +116,7 @@ fn step(
 pub fn height(level: u32) -> u32
     ensures { result ≡ level - 2 }
 {
-    if level <= 1 {
-        return 0;
-    }
-    level - 2
+    level.saturating_sub(2)
 }
 
 // The instructions from `start` up to `end`, with the heights from `first` on.
@@ -169,31 +127,24 @@ pub fn pass(
     end: usize,
     heights: &[u32],
     first: usize,
-) -> ChunkCheck
+) -> Option<ChunkTop>
     requires { PassReady marks.old image.now start end }
     ensures { (c : Code) → CodeAt image.now start end c → PassEnds heights.now first (end - start) start c result marks.new }
 {
-    let mut at = start;
     let mut k = first;
-    let mut top = 0;
-    while at < end {
-        match decode_at(image, at, end) {
-            Decoded::Refused(_) => return ChunkCheck::Fails,
-            Decoded::Instr(i, next) => {
-                if heights.len() <= k {
-                    return ChunkCheck::Fails;
-                }
-                let level = marks[at];
-                if !step(marks, start, end, at, next, i, heights[k]) {
-                    return ChunkCheck::Fails;
-                }
-                top = greater(top, height(level));
-                at = next;
-                k += 1;
-            }
+    let mut top = 0u32;
+    for (at, i, next) in Instructions::new(image, start, end) {
+        if heights.len() <= k {
+            return None;
         }
+        let level = marks[at];
+        if !step(marks, start, end, at, next, i, heights[k]) {
+            return None;
+        }
+        top = top.max(height(level));
+        k += 1;
     }
-    ChunkCheck::Top(top, k)
+    Some(ChunkTop { top, heights: k })
 }
 
 // A chunk, at whose end no more than `last` may arrive.
@@ -205,18 +156,14 @@ pub fn check_chunk(
     heights: &[u32],
     first: usize,
     last: u32,
-) -> ChunkCheck
+) -> Option<ChunkTop>
     requires { ChunkReady marks.old image.now start end }
     ensures { (c : Code) → CodeAt image.now start end c → (kind : Kind) → last ≡ lastly kind → ChunkEnds heights.now kind first end c result marks.new }
 {
     marks[start] = 2;
-    match pass(marks, image, start, end, heights, first) {
-        ChunkCheck::Fails => ChunkCheck::Fails,
-        ChunkCheck::Top(top, k) => {
-            if last < marks[end] {
-                return ChunkCheck::Fails;
-            }
-            ChunkCheck::Top(top, k)
-        }
+    let chunk = pass(marks, image, start, end, heights, first)?;
+    if last < marks[end] {
+        return None;
     }
+    Some(chunk)
 }

@@ -7,7 +7,8 @@ ghost use Rattle.heights.specs.Pass.{lastly, top_of};
 ghost use Rattle.heights.specs.Marks.{ChunkReady};
 ghost use Rattle.heights.specs.Chunks.{top_answer, top_into, constant_answer, constant_into, Judges, Standing, ConstantReady, PoolReady, SoFar, PoolJudges};
 
-use crate::chunk::{ChunkCheck, check_chunk};
+use crate::chunk::check_chunk;
+use crate::constants::Constants;
 use definition::tag;
 use field::length_at;
 
@@ -18,21 +19,8 @@ pub struct Progress {
     pub heights: usize,
 }
 
-// What judging a chunk or a constant behind others finds.
-#[derive(Clone, Copy)]
-pub enum ConstantCheck {
-    On(Progress),
-    Fails,
-}
-
-// What judging all chunks finds: how many there are, or the place of the first that fails.
-#[derive(Clone, Copy)]
-pub enum PoolCheck {
-    Tops(usize),
-    Fails(usize),
-}
-
 // Stores a height where there is room.
+// Kept: a proof knows no element of a slice after its `get_mut`, so a test and an index.
 pub fn put(output: &mut [u32], at: usize, top: u32)
     ensures { output.new ≡ set output.old at top }
 {
@@ -41,7 +29,7 @@ pub fn put(output: &mut [u32], at: usize, top: u32)
     }
 }
 
-// Judges a chunk behind others.
+// Judges a chunk behind others; none where it fails.
 fn judge_chunk(
     output: &mut [u32],
     marks: &mut [u32],
@@ -51,25 +39,19 @@ fn judge_chunk(
     heights: &[u32],
     before: Progress,
     last: u32,
-) -> ConstantCheck
+) -> Option<Progress>
     requires { ChunkReady marks.old image.now start end × (before.chunks < 131072) }
     ensures { (c : Code) → CodeAt image.now start end c → (kind : Kind) → last ≡ lastly kind → Judges end (top_answer (top_of heights.now kind before.heights c) before (length c)) (top_into (top_of heights.now kind before.heights c) before.chunks output.old) result output.new marks.new }
 {
-    let first = before.heights;
-    let at = before.chunks;
-    match check_chunk(marks, image, start, end, heights, first, last) {
-        ChunkCheck::Fails => ConstantCheck::Fails,
-        ChunkCheck::Top(top, after) => {
-            put(output, at, top);
-            ConstantCheck::On(Progress {
-                chunks: at + 1,
-                heights: after,
-            })
-        }
-    }
+    let chunk = check_chunk(marks, image, start, end, heights, before.heights, last)?;
+    put(output, before.chunks, chunk.top);
+    Some(Progress {
+        chunks: before.chunks + 1,
+        heights: chunk.heights,
+    })
 }
 
-// Judges the constant that stands from an offset up to another.
+// Judges the constant that stands from an offset up to another; none where its chunk fails.
 fn judge_constant(
     output: &mut [u32],
     marks: &mut [u32],
@@ -78,17 +60,17 @@ fn judge_constant(
     next: usize,
     heights: &[u32],
     before: Progress,
-) -> ConstantCheck
+) -> Option<Progress>
     requires { ConstantReady marks.old image.now at next before }
     ensures { (x : Const) → Standing image.now at next x → Judges next (constant_answer heights.now x before) (constant_into heights.now x before output.old) result output.new marks.new }
 {
     if image[at] != tag::FUNCTION_CONST {
-        return ConstantCheck::On(before);
+        return Some(before);
     }
     judge_chunk(output, marks, image, at + 3 + 3, next, heights, before, 1)
 }
 
-// Judges the constants that fill the part from an offset up to another.
+// Judges the constants that fill the part from an offset up to another: how many chunks there are, or the place of the first that fails.
 fn judge_pool(
     output: &mut [u32],
     marks: &mut [u32],
@@ -97,29 +79,26 @@ fn judge_pool(
     end: usize,
     heights: &[u32],
     before: Progress,
-) -> PoolCheck
+) -> Result<usize, usize>
     requires { PoolReady marks.old image.now start end before }
     ensures { (cs : List Const) → PoolAt image.now start end cs → (m : Image) → (o : List ℕ) → SoFar heights.now m [] o output.old before → PoolJudges heights.now m cs o result output.new }
 {
-    let mut at = start;
     let mut index = 0;
     let mut progress = before;
-    while at < end {
-        let next = at + 3 + length_at(image, at);
-        match judge_constant(output, marks, image, at, next, heights, progress) {
-            ConstantCheck::Fails => return PoolCheck::Fails(index + 1),
-            ConstantCheck::On(p) => {
-                progress = p;
-                at = next;
-                index += 1;
-            }
-        }
+    for (at, next) in Constants::new(image, start, end) {
+        let judged = judge_constant(output, marks, image, at, next, heights, progress);
+        let Some(p) = judged else {
+            return Err(index + 1);
+        };
+        progress = p;
+        index += 1;
     }
-    PoolCheck::Tops(progress.chunks)
+    Ok(progress.chunks)
 }
 
-// Judges main and the pool of a sound image, and stores the greatest heights as far as there is room.
-pub fn judge(output: &mut [u32], image: &[u8], heights: &[u32]) -> PoolCheck
+// Judges main and the pool of a sound image, and stores the greatest heights as far as there is room: how many chunks there are, or the place of the
+// first that fails.
+pub fn judge(output: &mut [u32], image: &[u8], heights: &[u32]) -> Result<usize, usize>
     requires { HasImage image.now }
     ensures { (m : Image) → ImageAt image.now m → PoolJudges heights.now m m.pool output.old result output.new }
 {
@@ -129,16 +108,17 @@ pub fn judge(output: &mut [u32], image: &[u8], heights: &[u32]) -> PoolCheck
         chunks: 0,
         heights: 0,
     };
-    match judge_chunk(output, &mut marks, image, 3, end, heights, none, 2) {
-        ConstantCheck::Fails => PoolCheck::Fails(0),
-        ConstantCheck::On(p) => judge_pool(
-            output,
-            &mut marks,
-            image,
-            end + 3,
-            image.len(),
-            heights,
-            p,
-        ),
-    }
+    let judged = judge_chunk(output, &mut marks, image, 3, end, heights, none, 2);
+    let Some(main) = judged else {
+        return Err(0);
+    };
+    judge_pool(
+        output,
+        &mut marks,
+        image,
+        end + 3,
+        image.len(),
+        heights,
+        main,
+    )
 }

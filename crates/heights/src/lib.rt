@@ -2,8 +2,10 @@
 #![tactic(auto)]
 
 pub mod chunk;
+pub mod constants;
 pub mod effect;
 pub mod image;
+pub mod instructions;
 mod propose;
 
 ghost use Rattle.std.specs.Prelude.{◌≡◌, length, drop};
@@ -11,59 +13,50 @@ ghost use Rattle.definition.specs.Decode.{read_image};
 ghost use Rattle.heights.specs.Pass.{heights_answer, heights_into};
 ghost use Rattle.heights.specs.Proposal.{proposal_answer, proposal_size};
 
-use bytecode::{ImageCheck, check_image};
-use definition::{Answer, Refusal, number};
-use image::{PoolCheck, judge};
+use bytecode::check_image;
+use definition::{Reason, Refusal};
+use image::judge;
 use propose::propose;
-
-// A chunk that does not pass.
-pub const BAD_HEIGHTS: usize = 25;
 
 // Checks the heights offered for an image: how many greatest heights stand at the start of the output then; or 17 where the image is wrong; or 25 at
 // the first chunk that fails; or 15 where there are more chunks than the output has room for.
-pub fn check_heights(image: &[u8], heights: &[u32], output: &mut [u32]) -> Answer
+pub fn check_heights(image: &[u8], heights: &[u32], output: &mut [u32]) -> Result<usize, Refusal>
     ensures answers { result ≡ heights_answer (read_image image.now) heights.now (length output.old) }
     ensures writes { output.new ≡ heights_into (read_image image.now) heights.now output.old }
 {
-    match check_image(image) {
-        ImageCheck::Refused(r) => Answer::Refused(r),
-        ImageCheck::Sound(_) => match judge(&mut output[..0], image, heights) {
-            PoolCheck::Fails(place) => Answer::Refused(Refusal {
-                number: BAD_HEIGHTS,
-                place: place,
-            }),
-            PoolCheck::Tops(count) => {
-                if output.len() < count {
-                    return Answer::Refused(Refusal {
-                        number: number::OUTPUT_SHORT,
-                        place: 0,
-                    });
-                }
-                judge(output, image, heights);
-                Answer::Length(count)
+    check_image(image)?;
+    match judge(&mut output[..0], image, heights) {
+        Err(place) => Err(Refusal {
+            reason: Reason::BadHeights,
+            place,
+        }),
+        Ok(count) => {
+            if output.len() < count {
+                return Err(Refusal {
+                    reason: Reason::OutputShort,
+                    place: 0,
+                });
             }
-        },
+            let _ = judge(output, image, heights);
+            Ok(count)
+        }
     }
 }
 
 // Proposes heights for an image by forward flow along the code, 0 where there is no way from the chunk's start: how many stand at the start of the list
 // then, one for each instruction; or 17 where the image is wrong; or 15 where there are more than the list has room for.
-pub fn propose_heights(image: &[u8], heights: &mut [u32]) -> Answer
+pub fn propose_heights(image: &[u8], heights: &mut [u32]) -> Result<usize, Refusal>
     ensures answers { result ≡ proposal_answer (read_image image.now) (length heights.old) }
     ensures stays { drop (proposal_size (read_image image.now) (length heights.old)) heights.new ≡ drop (proposal_size (read_image image.now) (length heights.old)) heights.old }
 {
-    match check_image(image) {
-        ImageCheck::Refused(r) => Answer::Refused(r),
-        ImageCheck::Sound(_) => {
-            let count = propose(&mut heights[..0], image);
-            if heights.len() < count {
-                return Answer::Refused(Refusal {
-                    number: number::OUTPUT_SHORT,
-                    place: 0,
-                });
-            }
-            propose(heights, image);
-            Answer::Length(count)
-        }
+    check_image(image)?;
+    let count = propose(&mut heights[..0], image);
+    if heights.len() < count {
+        return Err(Refusal {
+            reason: Reason::OutputShort,
+            place: 0,
+        });
     }
+    propose(heights, image);
+    Ok(count)
 }

@@ -7,27 +7,24 @@ ghost use Rattle.heights.specs.Chunks.{Standing};
 ghost use Rattle.heights.specs.Proposal.{Proposed, FlowSpot, FlowReady, ConstantFlow, PoolFlow};
 
 use crate::chunk::{fall, height, leap};
+use crate::constants::Constants;
 use crate::effect::{falls, gives, leaps, takes};
 use crate::image::put;
+use crate::instructions::Instructions;
 use definition::tag;
 use field::length_at;
-use opcode::{Decoded, Instruction, decode_at};
+use opcode::Instruction;
 
 // What arrives behind an instruction, as if there were no way to it where it takes more than is there.
 fn flow(i: Instruction, level: u32) -> u32
     requires { i.op < 30 }
 {
-    if level <= 1 {
-        return 1;
-    }
-    if 100000 < level {
-        return 1;
-    }
     let taken = takes(i);
-    if level - 2 < taken {
-        return 1;
+    if level <= 1 || 100000 < level || level - 2 < taken {
+        1
+    } else {
+        level - taken + gives(i.op)
     }
-    level - taken + gives(i.op)
 }
 
 // Proposes the height of an instruction, and goes on along the code from it.
@@ -65,17 +62,10 @@ fn propose_chunk(
     ensures { (c : Code) → CodeAt image.now start end c → Proposed (first + length c) end heights.old result heights.new }
 {
     marks[start] = 2;
-    let mut at = start;
     let mut k = first;
-    while at < end {
-        match decode_at(image, at, end) {
-            Decoded::Refused(_) => return k,
-            Decoded::Instr(i, next) => {
-                propose_one(heights, marks, start, end, at, next, i, k);
-                at = next;
-                k += 1;
-            }
-        }
+    for (at, i, next) in Instructions::new(image, start, end) {
+        propose_one(heights, marks, start, end, at, next, i, k);
+        k += 1;
     }
     k
 }
@@ -110,12 +100,9 @@ fn propose_pool(
     requires { PoolFlow marks.old image.now start end first }
     ensures { (cs : List Const) → PoolAt image.now start end cs → (m : Image) → counted m [] ≡ first → Proposed (counted m cs) end heights.old result heights.new }
 {
-    let mut at = start;
     let mut k = first;
-    while at < end {
-        let next = at + 3 + length_at(image, at);
+    for (at, next) in Constants::new(image, start, end) {
         k = propose_constant(heights, marks, image, at, next, k);
-        at = next;
     }
     k
 }

@@ -1,29 +1,15 @@
 // Reads an image from standard input and writes its listing; or only `refused`, the number and the place.
 #![tactic(auto)]
 
-use definition::Answer;
-use report::read_full;
+use report::{print_refusal, read_full, write_first};
 use std::io;
-
-// Writes a refusal.
-fn print_refusal(rt: &impl Print, number: usize, place: usize) -> io::Result<()> {
-    println!(rt; "refused {number} {place}")
-}
-
-// Writes the first bytes of the output.
-fn write_listing(rt: &impl Print, output: &[u8], length: usize) -> io::Result<()> {
-    if length <= output.len() {
-        rt.write_all(&output[..length])?;
-    }
-    Ok(())
-}
 
 // Lists an image into an output of 65,536 bytes.
 fn run(rt: &impl Print, image: &[u8]) -> io::Result<()> {
     let mut output = [0u8; 65536];
     match listing::list_image(image, &mut output) {
-        Answer::Length(n) => write_listing(rt, &output, n),
-        Answer::Refused(r) => print_refusal(rt, r.number, r.place),
+        Ok(n) => write_first(rt, &output, n),
+        Err(r) => print_refusal(rt, r),
     }
 }
 

@@ -16,15 +16,14 @@ use Rattle.definition.specs.Text.{ascii, decimal}
 use Rattle.definition.specs.Bytecode.{Code, Const, Image, size_of}
 use Rattle.definition.specs.Decode.{Decoded, decoded, malformed, then, ending, main_head, pool_head, read_instr, read_const, read_code, read_pool, read_image_of, read_image}
 use Rattle.definition.specs.Listing.{also, newline, code_lines, constant_lines, listing, list_answer, list_into}
-use Rattle.definition.specs.declared.Refusal.{Refusal}
-use Rattle.definition.specs.declared.Answer.TheVariants.{Length, Refused}
+use Rattle.definition.specs.declared.reason.Refusal.{Refusal}
+use Rattle.std.specs.Prelude.{Ok, Err, Result}
 use Rattle.session.proofs.Stores.{sets_over}
 use Rattle.bytecode.specs.Checked.{constants}
 use Rattle.bytecode.proofs.Heads.{both_true}
 use Rattle.bytecode.proofs.Items.{ended, unlike}
 use Rattle.bytecode.proofs.Fields.{main_content, pool_content, head_read, then_read}
 use Rattle.listing.specs.declared.measure.MeasuredImage.{MeasuredImage}
-use Rattle.listing.specs.declared.measure.MeasuredImage.TheVariants.{Sound, Refused as Wrong}
 use Rattle.listing.specs.Measured.{image_measured}
 use Rattle.listing.specs.Put.{Puts, text_limit}
 use Rattle.listing.specs.Reads.{CodeAt, PoolAt, ImageAt, HasImage, pool_text}
@@ -118,40 +117,38 @@ listing_is m = regrouped (ascii "main" ++ also (decimal (size_of m.code)) ++ new
     regrouped s n t = simp append_assoc
 
 -- what the reading of an image says of it: it reads, has so many constants, and a listing of such a length
-pub sound_image : (b : Bytes) {r : MeasuredImage} {k size : ℕ} → r ≡ image_measured (read_image b) → r ≡ Sound k size
-    → (h : HasImage b) × (k ≡ length h.image.pool) × (length (listing h.image) ≡ size)
-sound_image b {r} {k} {size} e t = go (read_image b) refl
+pub sound_image : (b : Bytes) {r : Result MeasuredImage Refusal} {v : MeasuredImage} → r ≡ image_measured (read_image b) → r ≡ Ok v
+    → (h : HasImage b) × (v.constants ≡ length h.image.pool) × (length (listing h.image) ≡ v.size)
+sound_image b {r} {v} e t = go (read_image b) refl
   where
-    go : (d : Decoded Image) → read_image b ≡ d → (h : HasImage b) × (k ≡ length h.image.pool) × (length (listing h.image) ≡ size)
+    go : (d : Decoded Image) → read_image b ≡ d → (h : HasImage b) × (v.constants ≡ length h.image.pool) × (length (listing h.image) ≡ v.size)
     go (decoded m n) i =
-        let g : Sound (length m.pool) (length (listing m)) ≡ Sound k size = sym (e ∙ ap image_measured i) ∙ t in
-        (record { image = m; is = record { reads = i ∙ ap (decoded m) (image_parts b i).1 } }, cc, cc)
-    go (malformed p) i =
-        let g : Wrong (refusal bad_image p) ≡ Sound k size = sym (e ∙ ap image_measured i) ∙ t in
-        let z : ◌≡◌ {A = ℕ} 0 1 = cc in
-        absurd (omega arith)
+        let made : MeasuredImage = record { constants = length m.pool; size = length (listing m) } in
+        let g : ◌≡◌ {A = Result MeasuredImage Refusal} (Ok made) (Ok v) = sym (e ∙ ap image_measured i) ∙ t in
+        let j : made ≡ v = cc in
+        (record { image = m; is = record { reads = i ∙ ap (decoded m) (image_parts b i).1 } }, sym (ap (λ (x : MeasuredImage). x.constants) j), ap (λ (x : MeasuredImage). x.size) j)
+    go (malformed p) i = let g : ◌≡◌ {A = Result MeasuredImage Refusal} (Err (refusal bad_image p)) (Ok v) = sym (e ∙ ap image_measured i) ∙ t in cc
 
-pub wrong_image : (b out : Bytes) {r : MeasuredImage} {q : Refusal} → r ≡ image_measured (read_image b) → r ≡ Wrong q
-    → (Refused q ≡ list_answer (read_image b) (length out)) × (out ≡ list_into (read_image b) out)
+pub wrong_image : (b out : Bytes) {r : Result MeasuredImage Refusal} {q : Refusal} → r ≡ image_measured (read_image b) → r ≡ Err q
+    → (Err q ≡ list_answer (read_image b) (length out)) × (out ≡ list_into (read_image b) out)
 wrong_image b out {r} {q} e t = go (read_image b) refl
   where
-    go : (d : Decoded Image) → read_image b ≡ d → (Refused q ≡ list_answer (read_image b) (length out)) × (out ≡ list_into (read_image b) out)
+    go : (d : Decoded Image) → read_image b ≡ d → (Err q ≡ list_answer (read_image b) (length out)) × (out ≡ list_into (read_image b) out)
     go (decoded m n) i =
-        let g : Sound (length m.pool) (length (listing m)) ≡ Wrong q = sym (e ∙ ap image_measured i) ∙ t in
-        let z : ◌≡◌ {A = ℕ} 0 1 = cc in
-        absurd (omega arith)
+        let g : ◌≡◌ {A = Result MeasuredImage Refusal} (Ok (record { constants = length m.pool; size = length (listing m) })) (Err q) = sym (e ∙ ap image_measured i) ∙ t in
+        cc
     go (malformed p) i =
-        let g : Wrong (refusal bad_image p) ≡ Wrong q = sym (e ∙ ap image_measured i) ∙ t in
+        let g : ◌≡◌ {A = Result MeasuredImage Refusal} (Err (refusal bad_image p)) (Err q) = sym (e ∙ ap image_measured i) ∙ t in
         let f : refusal bad_image p ≡ q = cc in
-        (ap Refused (sym f) ∙ rw i, rw i)
+        (ap Err (sym f) ∙ rw i, rw i)
 
 -- what listing a sound image answers and leaves, by the length of the listing
 module _ (b out : Bytes) {m : Image} (i : ImageAt b m) {size : ℕ} (counts : length (listing m) ≡ size) where
-  pub listing_long : length out < size → (Refused (refusal output_short 0) ≡ list_answer (read_image b) (length out)) × (out ≡ list_into (read_image b) out)
+  pub listing_long : length out < size → (Err (refusal output_short 0) ≡ list_answer (read_image b) (length out)) × (out ≡ list_into (read_image b) out)
   listing_long h = (rw (i.reads, counts, lt-leb size (length out) h), rw (i.reads, counts, lt-leb size (length out) h))
 
   pub listing-written : {last : Bytes} {next : ℕ} → size ≤ length out → Puts text_limit out last 0 next (listing m)
-      → (Length size ≡ list_answer (read_image b) (length out)) × (last ≡ list_into (read_image b) out)
+      → (Ok size ≡ list_answer (read_image b) (length out)) × (last ≡ list_into (read_image b) out)
   listing-written h p = (
     rw (i.reads, counts, le-leb size (length out) h),
     p.stored ∙ sets_over out (listing m) (omega (arith, counts)) ∙ rw (i.reads, counts, le-leb size (length out) h),

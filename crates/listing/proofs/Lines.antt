@@ -13,10 +13,9 @@ use Rattle.definition.specs.Bytecode.{Code, size_of}
 use Rattle.definition.specs.Decode.{decoded, read_instr, read_code}
 use Rattle.definition.specs.Listing.{also, operand_fields, code_line, code_lines}
 use Rattle.opcode.specs.Decoding.{instr_of, read_before, decode_answer}
-use Rattle.opcode.specs.declared.Instruction.{Instruction}
-use Rattle.opcode.specs.declared.Decoded.{Decoded as Answer}
-use Rattle.opcode.specs.declared.Decoded.TheVariants.{Instr as Found, Refused}
-use Rattle.definition.specs.declared.Refusal.{Refusal}
+use Rattle.std.specs.Prelude.{Result, Ok, Err}
+use Rattle.opcode.specs.declared.Decoded.{Decoded as Found}
+use Rattle.definition.specs.declared.reason.Refusal.{Refusal}
 use Rattle.opcode.proofs.Decoding.{both_left, both_right, before_within, answered, unanswered}
 use Rattle.bytecode.proofs.Items.{unlike}
 use Rattle.listing.specs.Put.{Puts, per_byte}
@@ -98,24 +97,24 @@ module _ (b : Bytes) (start end : ℕ) where
         let e : pos ≡ end = omega (arith, l.order) in
         wider (reworded l.puts (ap code_lines (ends (read_instr (byte_at b)) end (end - start) start l.reading k.reads e))) (omega arith)
 
-    module _ (h : HasCode b start end) (before : pos < end) {r : Answer} (t₀ : r ≡ decode_answer (read_before b pos end)) where
+    module _ (h : HasCode b start end) (before : pos < end) {r : Result Found Refusal} (t₀ : r ≡ decode_answer (read_before b pos end)) where
       e : r ≡ decode_answer (read_instr (byte_at b) pos end)
       e = t₀ ∙ ap decode_answer (before_within b pos end h.is.within)
 
-      pub code_not_refused : {q : Refusal} → r ≡ Refused q → ⊥
+      pub code_not_refused : {q : Refusal} → r ≡ Err q → ⊥
       code_not_refused t = unanswered e (next (read_instr (byte_at b)) end (end - start) start l.reading h.is.reads (λ i. omega arith)).found t
 
-      module _ {i : Instruction} {after : ℕ} (t : r ≡ Found i after) where
+      module _ {v : Found} (t : r ≡ Ok v) where
         pub found : Next (read_instr (byte_at b)) end (end - start) start l.reading h.is.reads
         found = next (read_instr (byte_at b)) end (end - start) start l.reading h.is.reads (λ i. omega arith)
 
         -- the instruction there
         pub record Turn : Type 0 where
-          pub is : instr_of i ≡ found.x
-          pub known : i.op < 30
-          pub after_is : after ≡ found.next
-          pub sized : after ≡ pos + size found.x
-          pub within : after ≤ end
+          pub is : instr_of v.instruction ≡ found.x
+          pub known : v.instruction.op < 30
+          pub after_is : v.after ≡ found.next
+          pub sized : v.after ≡ pos + size found.x
+          pub within : v.after ≤ end
 
         pub code-turn : Turn
         code-turn =
@@ -129,7 +128,7 @@ module _ (b : Bytes) (start end : ℕ) where
               within = omega (arith, w.within, a.1);
             }
 
-        pub code_again : {o₁ : Bytes} {to₁ : ℕ} → Puts per_byte o o₁ to to₁ (code_line (pos - start) (instr_of i)) → CodeLoop o₀ at o₁ to₁ after
+        pub code_again : {o₁ : Bytes} {to₁ : ℕ} → Puts per_byte o o₁ to to₁ (code_line (pos - start) (instr_of v.instruction)) → CodeLoop o₀ at o₁ to₁ v.after
         code_again p =
             let k = code-turn in
             let s : pos - start ≡ size_of l.code = omega (arith, l.size_is) in

@@ -14,18 +14,6 @@ use Rattle.definition.specs.Listing.{hex_field}
 
 module _ (byte : ℕ → ℕ) (at : ℕ) where
   -- a number of four bytes, from two numbers of two
-  pub four_are : {h l : ℕ} → h ≡ byte at * 256 + byte (at + 1) → l ≡ byte (at + 2) * 256 + byte (at + 3) → h * 65536 + l ≡ number 0 (bytes byte at 4)
-  four_are p q =
-      let two : at + 2 ≡ at + 1 + 1 = omega arith in
-      let three : at + 3 ≡ at + 1 + 1 + 1 = omega arith in
-      omega (arith, ap byte two, ap byte three)
-
-  -- a number of eight bytes, from two numbers of four
-  pub eight_are : {h l : ℕ} → h ≡ number 0 (bytes byte at 4) → l ≡ number 0 (bytes byte (at + 4) 4) → h * 4294967296 + l ≡ number 0 (bytes byte at 8)
-  eight_are p q =
-      let four : at + 4 ≡ at + 1 + 1 + 1 + 1 = omega arith in
-      omega (arith, ap byte four, ap (λ n. byte (n + 1)) four, ap (λ n. byte (n + 1 + 1)) four, ap (λ n. byte (n + 1 + 1 + 1)) four)
-
   -- its sign is that of its first byte
   module _ {n : ℕ} (e : n ≡ number 0 (bytes byte at 8)) where
     pub positive : byte at < 128 → decimal n ≡ signed (bytes byte at 8)

@@ -1,17 +1,17 @@
 -- What the reading that checks an image and counts its listing answers, from what the definition reads.
-use Rattle.std.specs.Prelude.{ℕ, ◌+◌, ◌≤◌, ◌<◌, ◌≡◌, List, length, get_or}
+use Rattle.std.specs.Prelude.{ℕ, ◌+◌, ◌≤◌, ◌<◌, ◌≡◌, List, length, get_or, Result, Ok, Err}
 use Rattle.definition.specs.Basic.{Bytes, byte_at}
 use Rattle.definition.specs.Number.{refusal, bad_image}
 use Rattle.definition.specs.Opcode.{Instr, width}
 use Rattle.definition.specs.Bytecode.{Code, Const, Image}
 use Rattle.definition.specs.Decode.{Decoded, decoded, malformed}
 use Rattle.definition.specs.Listing.{word, operand_fields, code_lines, constant_fields, constant_lines, listing}
+use Rattle.definition.specs.declared.reason.Refusal.{Refusal}
+use Rattle.bytecode.specs.declared.Malformed.{Malformed}
+use Rattle.bytecode.specs.Checked.{wrong}
 use Rattle.listing.specs.declared.measure.Measured.{Measured}
-use Rattle.listing.specs.declared.measure.Measured.TheVariants.{Good, Wrong}
 use Rattle.listing.specs.declared.measure.MeasuredPool.{MeasuredPool}
-use Rattle.listing.specs.declared.measure.MeasuredPool.TheVariants.{Constants, Wrong as WrongPool}
 use Rattle.listing.specs.declared.measure.MeasuredImage.{MeasuredImage}
-use Rattle.listing.specs.declared.measure.MeasuredImage.TheVariants.{Sound, Refused}
 
 -- a list is the table of the words' lengths
 pub record AreLengths (l : List ℕ) : Type 0 where
@@ -34,34 +34,31 @@ pub record Piece (b : Bytes) (at end : ℕ) : Type 0 where
   pub few : end ≤ at + 65536
 
 -- code and a constant, with the length of a text of what was read
-abbrev pub measured : {A : Type 0} → (A → Bytes) → Decoded A → Measured
-measured text (decoded x n) = Good (length (text x)) n
-measured text (malformed p) = Wrong p
+abbrev pub measured : {A : Type 0} → (A → Bytes) → Decoded A → Result Measured Malformed
+measured text (decoded x n) = Ok (record { text = length (text x); end = n })
+measured text (malformed p) = wrong p
 
-abbrev pub code_measured : Decoded Code → Measured
+abbrev pub code_measured : Decoded Code → Result Measured Malformed
 code_measured = measured code_lines
 
-abbrev pub constant_measured : Decoded Const → Measured
+abbrev pub constant_measured : Decoded Const → Result Measured Malformed
 constant_measured = measured constant_fields
 
 -- constants
-abbrev pub pool_measured : Decoded (List Const) → MeasuredPool
-pool_measured (decoded cs n) = Constants (length cs) (length (constant_lines cs)) n
-pool_measured (malformed p) = WrongPool p
+abbrev pub pool_measured : Decoded (List Const) → Result MeasuredPool Malformed
+pool_measured (decoded cs n) = Ok (record { count = length cs; text = length (constant_lines cs); end = n })
+pool_measured (malformed p) = wrong p
 
 -- an image: number 17 where something is wrong
-abbrev pub refused_at : ℕ → MeasuredImage
-refused_at p = Refused (refusal bad_image p)
-
-abbrev pub image_measured : Decoded Image → MeasuredImage
-image_measured (decoded m n) = Sound (length m.pool) (length (listing m))
-image_measured (malformed p) = refused_at p
+abbrev pub image_measured : Decoded Image → Result MeasuredImage Refusal
+image_measured (decoded m n) = Ok (record { constants = length m.pool; size = length (listing m) })
+image_measured (malformed p) = Err (refusal bad_image p)
 
 -- how long the text is that was counted
-abbrev pub text_of : Measured → ℕ
-text_of (Good t n) = t
-text_of (Wrong p) = 0
+abbrev pub text_of : Result Measured Malformed → ℕ
+text_of (Ok m) = m.text
+text_of (Err e) = 0
 
-abbrev pub pool_text_of : MeasuredPool → ℕ
-pool_text_of (Constants k t n) = t
-pool_text_of (WrongPool p) = 0
+abbrev pub pool_text_of : Result MeasuredPool Malformed → ℕ
+pool_text_of (Ok m) = m.text
+pool_text_of (Err e) = 0

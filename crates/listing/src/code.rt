@@ -9,7 +9,7 @@ ghost use Rattle.listing.specs.Reads.{CodeAt, HasCode};
 use crate::text::{put, put_bytes, put_field, put_newline, put_padded};
 use field::wide;
 use opcode::table::WORDS;
-use opcode::{Decoded, Instruction, decode_at, operand_length, word_start};
+use opcode::{Instruction, decode_at, operand_length, word_start};
 
 // Puts the word of an instruction byte.
 fn put_word(output: &mut [u8], at: usize, op: u8) -> usize
@@ -66,10 +66,10 @@ pub fn list_code(output: &mut [u8], at: usize, image: &[u8], start: usize, end: 
     let mut position = start;
     while position < end {
         match decode_at(image, position, end) {
-            Decoded::Refused(_) => return next,
-            Decoded::Instr(i, after) => {
-                next = put_line(output, next, position - start, i);
-                position = after;
+            Err(_) => return next,
+            Ok(found) => {
+                next = put_line(output, next, position - start, found.instruction);
+                position = found.after;
             }
         }
     }

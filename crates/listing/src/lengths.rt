@@ -24,15 +24,13 @@ pub fn decimal_length(n: usize) -> usize
     ensures small { result ≤ 20 }
 {
     let mut rest = n;
-    let mut count = 1;
-    while count < 20 {
+    for count in 1..20 {
         if rest < 10 {
             return count;
         }
         rest = rest / 10;
-        count += 1;
     }
-    count
+    20
 }
 
 // The length of a number in decimal with at least four digits.

@@ -15,9 +15,9 @@ ghost use Rattle.listing.specs.Put.{text_limit, Puts};
 ghost use Rattle.listing.specs.Reads.{ImageAt, HasImage};
 
 use code::list_code;
-use definition::{Answer, Refusal, number};
+use definition::{Reason, Refusal};
 use field::length_at;
-use measure::{MeasuredImage, measure_image};
+use measure::measure_image;
 use pool::list_pool;
 use text::{put_bytes, put_field, put_newline};
 
@@ -37,21 +37,21 @@ fn put_listing(output: &mut [u8], image: &[u8], constants: usize) -> usize
 
 // Checks an image and lists it: the length of its listing, which stands at the start of the output then; or 17 where the image is wrong; or 15
 // where the listing is longer than the output. One reading checks and counts, before the first byte is written; a second one writes.
-pub fn list_image(image: &[u8], output: &mut [u8]) -> Answer
+pub fn list_image(image: &[u8], output: &mut [u8]) -> Result<usize, Refusal>
     ensures answers { result ≡ list_answer (read_image image.now) (length output.old) }
     ensures writes { output.new ≡ list_into (read_image image.now) output.old }
 {
     match measure_image(image) {
-        MeasuredImage::Refused(r) => Answer::Refused(r),
-        MeasuredImage::Sound(constants, size) => {
-            if output.len() < size {
-                return Answer::Refused(Refusal {
-                    number: number::OUTPUT_SHORT,
+        Err(r) => Err(r),
+        Ok(sound) => {
+            if output.len() < sound.size {
+                return Err(Refusal {
+                    reason: Reason::OutputShort,
                     place: 0,
                 });
             }
-            put_listing(output, image, constants);
-            Answer::Length(size)
+            put_listing(output, image, sound.constants);
+            Ok(sound.size)
         }
     }
 }

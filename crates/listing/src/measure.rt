@@ -5,39 +5,40 @@ ghost use Rattle.definition.specs.Field.{head};
 ghost use Rattle.definition.specs.Decode.{read_code, read_function, read_content, read_const, read_pool, read_image};
 ghost use Rattle.bytecode.specs.Checked.{head_of, is_constant, constants, main_code};
 ghost use Rattle.listing.specs.Put.{per_byte};
-ghost use Rattle.listing.specs.Measured.{Piece, code_measured, constant_measured, pool_measured, image_measured, text_of, pool_text_of, refused_at};
+ghost use Rattle.listing.specs.Measured.{Piece, code_measured, constant_measured, pool_measured, image_measured, text_of, pool_text_of};
 
 use crate::lengths::{
     WORD_LENGTHS, decimal_length, function_length, integer_length, line_length, string_length,
 };
-use bytecode::{FieldHead, Form, constant_head, head_at, main_head, pool_head};
-use definition::{Refusal, limit, number, tag};
+use bytecode::{Form, Head, Malformed, head_where};
+use definition::{Refusal, limit, tag};
 use field::{wide, word};
 use opcode::size_at;
 
-// What reading code or a constant finds: the length of its text and the offset after it, or the offset of what is wrong.
+// The length of the text of code or a constant that was read, and the offset after it.
 #[derive(Clone, Copy)]
-pub enum Measured {
-    Good(usize, usize),
-    Wrong(usize),
+pub struct Measured {
+    pub text: usize,
+    pub end: usize,
 }
 
-// What reading constants finds: how many there are, the length of their lines and the offset after them, or the offset of what is wrong.
+// How many constants were read, the length of their lines, and the offset after them.
 #[derive(Clone, Copy)]
-pub enum MeasuredPool {
-    Constants(usize, usize, usize),
-    Wrong(usize),
+pub struct MeasuredPool {
+    pub count: usize,
+    pub text: usize,
+    pub end: usize,
 }
 
-// What reading an image answers: how many constants a sound one has and the length of its listing, or its refusal.
+// How many constants a sound image has, and the length of its listing.
 #[derive(Clone, Copy)]
-pub enum MeasuredImage {
-    Sound(usize, usize),
-    Refused(Refusal),
+pub struct MeasuredImage {
+    pub constants: usize,
+    pub size: usize,
 }
 
 // Reads code from `start` up to `end`.
-fn measure_code(image: &[u8], start: usize, end: usize) -> Measured
+fn measure_code(image: &[u8], start: usize, end: usize) -> Result<Measured, Malformed>
     requires { Piece image.now start end }
     ensures is { (len : ℕ) → end ≤ start + len → result ≡ code_measured (read_code (byte_at image.now) len start end) }
     ensures small { text_of result ≤ per_byte * (end - start) }
@@ -46,67 +47,71 @@ fn measure_code(image: &[u8], start: usize, end: usize) -> Measured
     let mut at = start;
     let mut text = 0;
     while at < end {
-        let size = size_at(image, at, end);
-        if size == 0 {
-            return Measured::Wrong(at);
+        match size_at(image, at, end) {
+            Some(size) => {
+                text += line_length(&lengths, image, at - start, at, size);
+                at += size;
+            }
+            None => return Err(Malformed { place: at }),
         }
-        text += line_length(&lengths, image, at - start, at, size);
-        at += size;
     }
-    Measured::Good(text, at)
+    Ok(Measured {
+        text: text,
+        end: at,
+    })
 }
 
 // Reads a function constant's content, of at least three bytes.
-fn measure_function(image: &[u8], from: usize, len: usize) -> Measured
+fn measure_function(image: &[u8], from: usize, len: usize) -> Result<Measured, Malformed>
     requires { Piece image.now from (from + len) × (3 ≤ len) }
     ensures is { result ≡ constant_measured (read_function (byte_at image.now) from len) }
     ensures small { text_of result + 20 ≤ per_byte * (1 + len) }
 {
     let locals = word(image[from], image[from + 1]);
     let parameters = wide(image[from + 2]);
-    match measure_code(image, from + 3, from + len) {
-        Measured::Wrong(place) => Measured::Wrong(place),
-        Measured::Good(text, next) => {
-            Measured::Good(function_length(locals, parameters, len - 3) + text, next)
-        }
-    }
+    let code = measure_code(image, from + 3, from + len)?;
+    Ok(Measured {
+        text: function_length(locals, parameters, len - 3) + code.text,
+        end: code.end,
+    })
 }
 
 // Reads a constant's content, whose head is good.
-fn measure_content(image: &[u8], from: usize, tag: u8, len: usize) -> Measured
-    requires { Piece image.now from (from + len) × (is_constant Form.Plain (head_of tag len) ≡ true) }
-    ensures is { result ≡ constant_measured (read_content (byte_at image.now) (head_of tag len) from) }
-    ensures small { text_of result + 20 ≤ per_byte * (1 + len) }
+fn measure_content(image: &[u8], from: usize, head: Head) -> Result<Measured, Malformed>
+    requires { Piece image.now from (from + head.len) × (is_constant Form.Plain (head_of head) ≡ true) }
+    ensures is { result ≡ constant_measured (read_content (byte_at image.now) (head_of head) from) }
+    ensures small { text_of result + 20 ≤ per_byte * (1 + head.len) }
 {
-    if tag == tag::INTEGER_CONST {
-        return Measured::Good(integer_length(image, from), from + len);
+    let end = from + head.len;
+    if head.tag == tag::INTEGER_CONST {
+        return Ok(Measured {
+            text: integer_length(image, from),
+            end: end,
+        });
     }
-    if tag == tag::STRING_CONST {
-        return Measured::Good(string_length(len), from + len);
+    if head.tag == tag::STRING_CONST {
+        return Ok(Measured {
+            text: string_length(head.len),
+            end: end,
+        });
     }
-    measure_function(image, from, len)
+    measure_function(image, from, head.len)
 }
 
 // Reads the constant at `at`.
-fn measure_constant(image: &[u8], at: usize, end: usize) -> Measured
+fn measure_constant(image: &[u8], at: usize, end: usize) -> Result<Measured, Malformed>
     requires { Piece image.now at end }
     ensures is { result ≡ constant_measured (read_const (byte_at image.now) at end) }
     ensures small { text_of result + 20 ≤ per_byte * (1 + (head (byte_at image.now) at).len) }
 {
-    match head_at(image, at, end) {
-        FieldHead::Cut => Measured::Wrong(at),
-        FieldHead::Whole(tag, len) => {
-            let form = Form::Plain;
-            if !constant_head(form, tag, len) {
-                return Measured::Wrong(at);
-            }
-            measure_content(image, at + 3, tag, len)
-        }
-    }
+    let form = Form::Plain;
+    let head = head_where(image, at, end, |head| head.is_constant(form))?;
+    measure_content(image, at + 3, head)
 }
 
 // Reads constants, at most 4,096, from `start` up to `end`.
-fn measure_constants(image: &[u8], start: usize, end: usize) -> MeasuredPool
+// Kept: a loop beside `bytecode`'s `check_items`, since the sum of the lengths needs a bound that a closure is not told of.
+fn measure_constants(image: &[u8], start: usize, end: usize) -> Result<MeasuredPool, Malformed>
     requires { Piece image.now start end }
     ensures is { result ≡ pool_measured (constants (byte_at image.now) start end) }
     ensures small { pool_text_of result ≤ per_byte * (end - start) }
@@ -116,79 +121,52 @@ fn measure_constants(image: &[u8], start: usize, end: usize) -> MeasuredPool
     let mut text = 0;
     while at < end {
         if count == limit::CONSTANTS_LIMIT {
-            return MeasuredPool::Wrong(at);
+            return Err(Malformed { place: at });
         }
-        match measure_constant(image, at, end) {
-            Measured::Wrong(place) => return MeasuredPool::Wrong(place),
-            Measured::Good(fields, next) => {
-                text = text + decimal_length(count) + fields;
-                at = next;
-                count += 1;
-            }
-        }
+        let constant = measure_constant(image, at, end)?;
+        text = text + decimal_length(count) + constant.text;
+        at = constant.end;
+        count += 1;
     }
-    MeasuredPool::Constants(count, text, at)
+    Ok(MeasuredPool {
+        count: count,
+        text: text,
+        end: at,
+    })
 }
 
 // Reads the pool at `at`.
-fn measure_pool(image: &[u8], at: usize) -> MeasuredPool
+fn measure_pool(image: &[u8], at: usize) -> Result<MeasuredPool, Malformed>
     requires { at ≤ length image.now }
     ensures is { result ≡ pool_measured (read_pool (byte_at image.now) at (length image.now)) }
     ensures small { pool_text_of result ≤ per_byte * 65536 }
 {
-    match head_at(image, at, image.len()) {
-        FieldHead::Cut => MeasuredPool::Wrong(at),
-        FieldHead::Whole(tag, len) => {
-            if !pool_head(tag, len) {
-                return MeasuredPool::Wrong(at);
-            }
-            measure_constants(image, at + 3, at + 3 + len)
-        }
-    }
+    let head = head_where(image, at, image.len(), |head| head.is_pool())?;
+    measure_constants(image, at + 3, at + 3 + head.len)
 }
 
 // Reads the main code.
-fn measure_main(image: &[u8]) -> Measured
+fn measure_main(image: &[u8]) -> Result<Measured, Malformed>
     ensures is { result ≡ code_measured (main_code (byte_at image.now) Form.Plain (length image.now)) }
     ensures small { text_of result ≤ per_byte * 65536 }
 {
-    match head_at(image, 0, image.len()) {
-        FieldHead::Cut => Measured::Wrong(0),
-        FieldHead::Whole(tag, len) => {
-            let form = Form::Plain;
-            if !main_head(form, tag, len) {
-                return Measured::Wrong(0);
-            }
-            measure_code(image, 3, 3 + len)
-        }
-    }
-}
-
-// The refusal of an image at a place.
-fn bad_image(place: usize) -> MeasuredImage
-    ensures { result ≡ refused_at place }
-{
-    MeasuredImage::Refused(Refusal {
-        number: number::BAD_IMAGE,
-        place: place,
-    })
+    let form = Form::Plain;
+    let head = head_where(image, 0, image.len(), |head| head.is_main(form))?;
+    measure_code(image, 3, 3 + head.len)
 }
 
 // Reads an image: it is sound, with so many constants and a listing of such a length, or 17 at its first wrong field or instruction.
-pub fn measure_image(image: &[u8]) -> MeasuredImage
+pub fn measure_image(image: &[u8]) -> Result<MeasuredImage, Refusal>
     ensures { result ≡ image_measured (read_image image.now) }
 {
-    match measure_main(image) {
-        Measured::Wrong(place) => bad_image(place),
-        Measured::Good(lines, at) => match measure_pool(image, at) {
-            MeasuredPool::Wrong(place) => bad_image(place),
-            MeasuredPool::Constants(count, text, next) => {
-                if next != image.len() {
-                    return bad_image(next);
-                }
-                let heads = 12 + decimal_length(at - 3) + decimal_length(count);
-                MeasuredImage::Sound(count, heads + lines + text)
-            }
-        },
+    let main = measure_main(image)?;
+    let pool = measure_pool(image, main.end)?;
+    if pool.end != image.len() {
+        return Err(Refusal::from(Malformed { place: pool.end }));
     }
+    let heads = 12 + decimal_length(main.end - 3) + decimal_length(pool.count);
+    Ok(MeasuredImage {
+        constants: pool.count,
+        size: heads + main.text + pool.text,
+    })
 }

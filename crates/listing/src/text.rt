@@ -6,8 +6,6 @@ ghost use Rattle.definition.specs.Text.{digit as digitOf, digits, decimal, padde
 ghost use Rattle.definition.specs.Listing.{newline, also, hex_field};
 ghost use Rattle.listing.specs.Put.{Room, Puts};
 
-use field::word;
-
 // Puts a byte.
 pub fn put(output: &mut [u8], at: usize, b: u8) -> usize
     requires { Room 1 at }
@@ -26,10 +24,8 @@ pub fn put_bytes(output: &mut [u8], at: usize, text: &[u8]) -> usize
     ensures { Puts (length text.now) output.old output.new at result text.now }
 {
     let mut next = at;
-    let mut k = 0;
-    while k < text.len() {
-        next = put(output, next, text[k]);
-        k += 1;
+    for b in text {
+        next = put(output, next, *b);
     }
     next
 }
@@ -51,6 +47,7 @@ fn digit(d: usize) -> u8
 }
 
 // Puts a number's last digits, at most so many.
+// Kept: by hand, since what does not fit the output is counted all the same, and there is no heap to write into first.
 fn put_digits(output: &mut [u8], at: usize, n: usize, most: usize) -> usize
     requires { Room most at }
     ensures { Puts most output.old output.new at result (digits most n) }
@@ -108,21 +105,21 @@ pub fn put_field(output: &mut [u8], at: usize, n: usize) -> usize
     put_decimal(output, next, n)
 }
 
-// A number of four bytes.
-fn four_bytes(image: &[u8], at: usize) -> usize
-    requires { at + 4 ≤ length image.now }
-    ensures is { result ≡ number 0 (bytes (byte_at image.now) at 4) }
-    ensures small { result < 4294967296 }
-{
-    word(image[at], image[at + 1]) * 65536 + word(image[at + 2], image[at + 3])
-}
-
-// A number of eight bytes.
+// A number of eight bytes, high byte first.
 pub fn eight_bytes(image: &[u8], at: usize) -> usize
     requires { at + 8 ≤ length image.now }
     ensures { result ≡ number 0 (bytes (byte_at image.now) at 8) }
 {
-    four_bytes(image, at) * 4294967296 + four_bytes(image, at + 4)
+    usize::from_be_bytes([
+        image[at],
+        image[at + 1],
+        image[at + 2],
+        image[at + 3],
+        image[at + 4],
+        image[at + 5],
+        image[at + 6],
+        image[at + 7],
+    ])
 }
 
 // Puts eight bytes in two's complement as a number in decimal.
@@ -139,6 +136,7 @@ pub fn put_signed(output: &mut [u8], at: usize, image: &[u8], from: usize) -> us
 }
 
 // A lower-case hexadecimal digit.
+// Kept: arithmetic, since the text is bytes, and `char::from_digit` gives a character to convert.
 fn hex_digit(d: u8) -> u8
     requires { d < 16 }
     ensures { result ≡ hex_digit d }
@@ -164,10 +162,8 @@ fn put_hex(output: &mut [u8], at: usize, image: &[u8], from: usize, end: usize) 
     ensures { Puts (2 * (end - from)) output.old output.new at result (hex (bytes (byte_at image.now) from (end - from))) }
 {
     let mut next = at;
-    let mut k = from;
-    while k < end {
+    for k in from..end {
         next = put_hex_byte(output, next, image[k]);
-        k += 1;
     }
     next
 }

@@ -5,7 +5,7 @@ use Rattle.definition.specs.Basic.{Bytes}
 use Rattle.definition.specs.Number.{refusal, output_short}
 use Rattle.definition.specs.Output.{output_answer, output_after}
 use Rattle.definition.specs.Tag.{tag_program}
-use Rattle.definition.specs.declared.Answer.TheVariants.{Length, Refused}
+use Rattle.std.specs.Prelude.{Ok, Err}
 use Rattle.opcode.proofs.Encoding.{placing, refusing}
 use Rattle.session.proofs.Stores.{sets_over}
 use Rattle.load.specs.Node.{Node, written, size}
@@ -60,11 +60,11 @@ tree_taken seed {r} {b} w =
 
 -- the output where the tree does not fit, and where it does
 pub tree_refused : (seed : ℕ) (out : Bytes) {r : Grown} {b tree : Bytes} → Wrote (program seed) r b tree → length out < r.len
-    → (Refused (refusal output_short 0) ≡ output_answer (tree_of seed) (length out)) × (out ≡ output_after (tree_of seed) out)
+    → (Err (refusal output_short 0) ≡ output_answer (tree_of seed) (length out)) × (out ≡ output_after (tree_of seed) out)
 tree_refused seed out {r = r} w h = refusing (tree_of seed) out r.len (tree_length seed w) h
 
 pub tree_written : (seed : ℕ) (out : Bytes) {r : Grown} {b tree after : Bytes} → Wrote (program seed) r b tree → r.len ≤ length out → after ≡ sets out 0 (take r.len tree)
-    → (Length r.len ≡ output_answer (tree_of seed) (length out)) × (after ≡ output_after (tree_of seed) out)
+    → (Ok r.len ≡ output_answer (tree_of seed) (length out)) × (after ≡ output_after (tree_of seed) out)
 tree_written seed out {r = r} w h p =
     let e = tree_length seed w in
     let d = placing (tree_of seed) out r.len e h in

@@ -12,7 +12,7 @@ ghost use Rattle.load.specs.Load.{rows, simple, identifier, expression_of, prefi
 ghost use Rattle.load.specs.Load.{an_expression, a_statement, a_block, a_branch, a_yielding};
 ghost use Rattle.load.specs.Writing.{Wrote, WroteAll};
 
-use definition::{Answer, Refusal, number, tag};
+use definition::{Reason, Refusal, tag};
 use draw::{choice, step};
 use leaf::close;
 
@@ -480,7 +480,7 @@ fn program(out: &mut [u8], seed: u32) -> Grown
 }
 
 // Writes the tree of a seed to the output; or refuses, 15, where it is too short, and leaves it as it was.
-pub fn make_tree(seed: u32, output: &mut [u8]) -> Answer
+pub fn make_tree(seed: u32, output: &mut [u8]) -> Result<usize, Refusal>
     ensures answers { result ≡ output_answer (tree_of seed) (length output.old) }
     ensures writes { output.new ≡ output_after (tree_of seed) output.old }
 {
@@ -488,11 +488,11 @@ pub fn make_tree(seed: u32, output: &mut [u8]) -> Answer
     let grown = program(&mut tree, seed);
     let n = grown.len;
     if output.len() < n {
-        return Answer::Refused(Refusal {
-            number: number::OUTPUT_SHORT,
+        return Err(Refusal {
+            reason: Reason::OutputShort,
             place: 0,
         });
     }
     session::write::copy(output, 0, &tree[..n]);
-    Answer::Length(n)
+    Ok(n)
 }

@@ -2,46 +2,42 @@
 // tree, and the number of the refusal, 0 where the tree is accepted.
 #![tactic(auto)]
 
-use definition::Answer;
-use definition::limit::{CODE_SIZE, SESSION_SIZE, TABLE_SIZE};
+use definition::limit::SESSION_SIZE;
 use load::TREE_MOST;
+use report::compile_fresh;
 use std::io;
 
 // The number of seeds.
 const SEEDS: u32 = 1000;
 
-// Compiles a tree in a fresh session: the number of the refusal, 0 where the tree is accepted.
-fn outcome(tree: &[u8]) -> usize {
-    let mut session = [0u8; SESSION_SIZE];
-    compiler::make_session(&mut session);
+// The number of the refusal of a tree, 0 where it is accepted.
+fn outcome(tree: &[u8]) -> u64 {
     let mut output = [0u8; SESSION_SIZE];
-    let mut code = [0u8; CODE_SIZE];
-    let mut table = [0u32; TABLE_SIZE];
-    match compiler::compile(&mut session, tree, &mut output, &mut code, &mut table) {
-        Answer::Length(_) => 0,
-        Answer::Refused(r) => r.number,
+    match compile_fresh(tree, &mut output) {
+        Ok(_) => 0,
+        Err(r) => r.reason.number(),
     }
 }
 
 // Writes a line of three numbers.
-fn print_line(rt: &impl Print, seed: u32, length: usize, number: usize) -> io::Result<()> {
+fn print_line(rt: &impl Print, seed: u32, length: usize, number: u64) -> io::Result<()> {
     println!(rt; "{seed} {length} {number}")
 }
 
 // Writes the line of a tree, the first bytes of what is given.
 fn print_tree_line(rt: &impl Print, seed: u32, tree: &[u8], length: usize) -> io::Result<()> {
-    if length <= tree.len() {
-        print_line(rt, seed, length, outcome(&tree[..length]))?;
+    match tree.get(..length) {
+        Some(tree) => print_line(rt, seed, length, outcome(tree)),
+        None => Ok(()),
     }
-    Ok(())
 }
 
 // Writes the line of a seed. A tree always fits.
 fn print_seed_line(rt: &impl Print, seed: u32) -> io::Result<()> {
     let mut tree = [0u8; TREE_MOST];
     match load::make_tree(seed, &mut tree) {
-        Answer::Length(n) => print_tree_line(rt, seed, &tree, n),
-        Answer::Refused(_) => Ok(()),
+        Ok(n) => print_tree_line(rt, seed, &tree, n),
+        Err(_) => Ok(()),
     }
 }
 

@@ -7,6 +7,7 @@ use mathlib.Core.Path.{◌≡◌, refl, sym, ap, subst, ◌∙◌}
 use native.Mathlib.Nat.{not-suc-le-zero}
 use lib.ListN.{length, set, drop, length-append, length-drop, length-reverse, length-set}
 use lib.Dec.{ltb}
+use Rattle.std.proofs.lemmas.List.{set_comm}
 use lib.Seq.{sets, length-sets, drop-drop}
 use Rattle.definition.specs.Basic.{Bytes, pick, byte_at}
 use Rattle.definition.specs.Valid.{AreBytes}
@@ -130,14 +131,24 @@ turn_small {l = l} {k = k} t e = subst Small (sym e) (record_small l k t.bytes)
 pub turn_long : {xs₀ : List ℕ} {l : Bytes} {n : ℕ} {xs : List ℕ} {k : ℕ} → Turn xs₀ l n xs k → length xs ≡ length xs₀
 turn_long t = t.long
 
--- one more record to fill, whose place is its number
-pub filled_more : (l : Bytes) (m : ℕ) (r : Record) (rs : List Record) → r ≡ record_at l m → filled_records l m (set rs m r) ≡ filled_records l (suc m) rs
+-- one more record to fill: the last one may be written last
+filled_set : (l : Bytes) (k : ℕ) (rs : List Record) (j : ℕ) (r : Record) → k ≤ j → filled_records l k (set rs j r) ≡ set (filled_records l k rs) j r
 unfolding filled_records
-filled_more l m r rs e = ap (λ y. filled_records l m (set rs m y)) e
+filled_set l zero rs j r h = refl
+filled_set l (suc k) rs j r h = ap (filled_records l k) (set_comm rs j k r (record_at l k) (λ e. omega (arith, e))) ∙ filled_set l k (set rs k (record_at l k)) j r (omega arith)
+
+pub filled_more : (l : Bytes) (k : ℕ) (r : Record) (rs us : List Record) → us ≡ filled_records l k rs → r ≡ record_at l k → set us k r ≡ filled_records l (k + 1) rs
+unfolding filled_records
+filled_more l k r rs us f e =
+    let next : suc k ≡ k + 1 = omega arith in
+    (λ i. set (f i) k (e i)) ∙ sym (filled_set l k rs k (record_at l k) (omega arith)) ∙ ap (λ m. filled_records l m rs) next
 
 pub filled_none : (l : Bytes) (rs : List Record) → rs ≡ filled_records l 0 rs
 unfolding filled_records
 filled_none l rs = refl
+
+pub filled_all : (l : Bytes) (rs : List Record) {k n : ℕ} {us : List Record} → us ≡ filled_records l k rs → k ≡ n → us ≡ filled_records l n rs
+filled_all l rs f e = f ∙ ap (λ m. filled_records l m rs) e
 
 -- what is behind a place that was set
 drop-set_here : (n : ℕ) (rs : List Record) (r : Record) → n < length rs → drop n (set rs n r) ≡ r ∷ drop (suc n) rs

@@ -2,18 +2,9 @@
 use Rattle.std.specs.Prelude.{ℕ, zero, suc, ◌*◌, ◌<◌, List, [], ◌∷◌, ◌++◌, set}
 use Rattle.std.proofs.lemmas.List.Edits.{sets}
 use Rattle.definition.specs.Basic.{Bytes}
-use Rattle.records.specs.declared.Kind.{Kind}
-use Rattle.records.specs.declared.Kind.TheVariants.{Global, Local, Builtin, Free, Function}
+use Rattle.records.specs.Kinds.{kind_number}
 use Rattle.records.specs.declared.Record.{Record}
 use Rattle.trace.specs.Log.{record_at}
-
--- a kind as a number, in document 02's order
-abbrev pub kind_number : Kind → ℕ
-kind_number Global = 0
-kind_number Local = 1
-kind_number Builtin = 2
-kind_number Free = 3
-kind_number Function = 4
 
 -- a record's four numbers
 abbrev pub row_of : Record → List ℕ

@@ -4,25 +4,12 @@
 ghost use Rattle.std.specs.Prelude.{◌≡◌, ◌+◌, ◌*◌, ◌≤◌, length};
 ghost use Rattle.std.proofs.lemmas.List.Edits.{sets};
 ghost use Rattle.compiler.specs.Stage.{lent_of};
-ghost use Rattle.names.specs.Rows.{kind_number, row_of, filled, filled_records, Small};
+ghost use Rattle.names.specs.Rows.{row_of, filled, filled_records, Small};
 ghost use Rattle.names.specs.Promise.{Names, Records};
 
-use records::{Kind, Record};
+use records::Record;
 use trace::log::record_at;
 use trace::{CallTrace, clear_log, compile_log};
-
-// The number of a kind, in document 02's order.
-fn kind_number(kind: Kind) -> u32
-    ensures { result ≡ kind_number kind }
-{
-    match kind {
-        Kind::Global => 0,
-        Kind::Local => 1,
-        Kind::Builtin => 2,
-        Kind::Free => 3,
-        Kind::Function => 4,
-    }
-}
 
 // Writes a record over four numbers.
 fn put_row(rows: &mut [u32], i: usize, r: Record)
@@ -30,9 +17,8 @@ fn put_row(rows: &mut [u32], i: usize, r: Record)
     requires small { Small r }
     ensures { rows.new ≡ sets rows.old i (row_of r) }
 {
-    let kind = r.kind;
     rows[i] = r.offset as u32;
-    rows[i + 1] = kind_number(kind);
+    rows[i + 1] = u32::from(r.kind);
     rows[i + 2] = r.index as u32;
     rows[i + 3] = r.crossed as u32;
 }
@@ -43,25 +29,19 @@ fn fill_rows(rows: &mut [u32], log: &[u8], n: usize)
     requires n_in_bounds_2 { 4 * n ≤ length log.now }
     ensures { rows.new ≡ filled log.now n rows.old }
 {
-    let mut k = 0;
-    while k < n {
-        let r = record_at(log, k);
-        put_row(rows, 4 * k, r);
-        k += 1;
+    for k in 0..n {
+        put_row(rows, 4 * k, record_at(log, k));
     }
 }
 
-// Writes the first n records of a log over the caller's records, the last first.
+// Writes the first n records of a log over the caller's records.
 pub fn fill_records(records: &mut [Record], log: &[u8], n: usize)
     requires n_in_bounds { n ≤ length records.old }
     requires n_in_bounds_2 { 4 * n ≤ length log.now }
     ensures { records.new ≡ filled_records log.now n records.old }
 {
-    if n != 0 {
-        let k = n - 1;
-        let r = record_at(log, k);
-        records[k] = r;
-        fill_records(records, log, k);
+    for k in 0..n {
+        records[k] = record_at(log, k);
     }
 }
 

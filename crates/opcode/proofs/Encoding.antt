@@ -1,25 +1,24 @@
 -- The bytes of an instruction, stored one after the other, and what is answered of it.
-use Prim.Native.Nat.{ℕ, zero, suc, ◌+◌, ◌≤◌, ◌<◌, ◌/◌, ◌%◌}
+use Prim.Native.Nat.{ℕ, zero, suc, ◌+◌, ◌≤◌, ◌<◌}
 use mathlib.Core.Path.{◌≡◌, ◌∙◌, ap, sym, refl}
 use mathlib.Core.Bool.{true, false}
-use mathlib.Core.List.{[], ◌∷◌, ◌++◌}
+use mathlib.Core.List.{◌∷◌, ◌++◌}
 use native.Mathlib.Omega.{arith}
 use native.Mathlib.Nat.{zero-add}
 use native.Mathlib.Numerals.{one-add}
-use lib.Dec.{leb, ltb}
+use lib.Dec.{leb}
 use lib.ListN.{length, drop}
 use lib.Seq.{sets, sets-eq}
-use borrow.Author.Tests.{le-leb, lt-leb, le-ltb, lt-ltb}
-use Rattle.definition.specs.Basic.{Bytes, both}
+use borrow.Author.Tests.{le-leb, lt-leb}
+use Rattle.definition.specs.Basic.{Bytes}
 use Rattle.definition.specs.Opcode.{Instr, operands, bytes_of, width, op_last}
-use Rattle.definition.specs.Valid.{operand_bound, captures_bound}
 use Rattle.definition.specs.Number.{refusal, output_short, bad_instruction}
-use Rattle.definition.specs.declared.Answer.{Answer}
-use Rattle.definition.specs.declared.Answer.TheVariants.{Length, Refused}
+use Rattle.definition.specs.Answer.{Answer}
+use Rattle.std.specs.Prelude.{Ok, Err}
 use Rattle.opcode.specs.Table.{entry, no_instruction}
 use Rattle.definition.specs.Output.{over, output_answer, output_after}
 use Rattle.opcode.specs.Encoding.{Ready, valid, encode_answer, encode_into}
-use Rattle.opcode.proofs.Widths.{width_small, known, unknown}
+use Rattle.opcode.proofs.Widths.{width_small, unknown}
 use Rattle.opcode.proofs.Decoding.{both_left}
 
 -- as many operand bytes as the width says
@@ -49,21 +48,14 @@ pub puts : {i : Instr} {w : ℕ} {out : Bytes} → Ready i w out → (v : ℕ) �
     → sets out 0 (i.op ∷ operands v i.a i.b) ≡ over (bytes_of i) out
 puts {i} {w} {out} r v e = rw (← e) (put_done i w r.is r.small out r.room)
 
--- captures are a byte already
-pub puts_captures : {i : Instr} {w : ℕ} {out : Bytes} → Ready i w out → w ≡ 3 → i.b < 256
-    → sets out 0 (i.op ∷ i.a / 256 % 256 ∷ i.a % 256 ∷ i.b ∷ []) ≡ over (bytes_of i) out
-puts_captures {i} {w} {out} r e h =
-    let m : i.b % 256 ≡ i.b = omega arith in
-    ap (λ (b : ℕ). sets out 0 (i.op ∷ i.a / 256 % 256 ∷ i.a % 256 ∷ b ∷ [])) (sym m) ∙ puts r 3 e
-
 -- bytes of a known length: what is answered and what is written where there is room, and where there is not
 module _ (b out : Bytes) (n : ℕ) (e : length b ≡ n) where
-  pub placing : n ≤ length out → (Length n ≡ output_answer b (length out)) × (over b out ≡ output_after b out)
+  pub placing : n ≤ length out → (Ok n ≡ output_answer b (length out)) × (over b out ≡ output_after b out)
   placing h =
       let t : leb (length b) (length out) ≡ true = le-leb (length b) (length out) (rw e h) in
       (rw (t, e), rw t)
 
-  pub refusing : length out < n → (Refused (refusal output_short 0) ≡ output_answer b (length out)) × (out ≡ output_after b out)
+  pub refusing : length out < n → (Err (refusal output_short 0) ≡ output_answer b (length out)) × (out ≡ output_after b out)
   refusing h =
       let t : leb (length b) (length out) ≡ false = lt-leb (length b) (length out) (rw e h) in
       (rw t, rw t)
@@ -74,7 +66,7 @@ through : (i : Instr) (out r : Bytes) (x : Answer) → valid i ≡ true → (x �
 through i out r x v p = (p.0 ∙ rw v, p.1 ∙ rw v)
 
 pub encodes_not : (i : Instr) (out : Bytes) → valid i ≡ false
-    → (Refused (refusal bad_instruction 0) ≡ encode_answer i (length out)) × (out ≡ encode_into i out)
+    → (Err (refusal bad_instruction 0) ≡ encode_answer i (length out)) × (out ≡ encode_into i out)
 encodes_not i out v = (rw v, rw v)
 
 module _ (i : Instr) (w : ℕ) (out : Bytes) (v : valid i ≡ true) (e : w ≡ entry i.op) where
@@ -87,41 +79,13 @@ module _ (i : Instr) (w : ℕ) (out : Bytes) (v : valid i ≡ true) (e : w ≡ e
   pub ready : w < length out → Ready i w out
   ready h = record { is = width_is; small = small; room = omega arith }
 
-  pub encodes : w < length out → (Length (1 + w) ≡ encode_answer i (length out)) × (over (bytes_of i) out ≡ encode_into i out)
+  pub encodes : w < length out → (Ok (1 + w) ≡ encode_answer i (length out)) × (over (bytes_of i) out ≡ encode_into i out)
   encodes h = through i out _ _ v (placing (bytes_of i) out (1 + w) (length-bytes i w width_is small) (omega arith))
 
-  pub encodes_short : length out ≤ w → (Refused (refusal output_short 0) ≡ encode_answer i (length out)) × (out ≡ encode_into i out)
+  pub encodes_short : length out ≤ w → (Err (refusal output_short 0) ≡ encode_answer i (length out)) × (out ≡ encode_into i out)
   encodes_short h = through i out _ _ v (refusing (bytes_of i) out (1 + w) (length-bytes i w width_is small) (omega arith))
 
 -- whether an instruction is valid, by the table's entry
 module _ (i : Instr) (w : ℕ) (e : w ≡ entry i.op) where
   pub not_known : w ≡ no_instruction → false ≡ valid i
   not_known n = rw (unknown i.op e n)
-
-  module _ (n : w ≡ no_instruction → ⊥) where
-    by_width : valid i ≡ both (ltb i.a (operand_bound w)) (ltb i.b (captures_bound w))
-    by_width = let k = known i.op e n in rw (k.known, k.is)
-
-    pub operand_too_large : {x : ℕ} → x ≡ operand_bound w → x ≤ i.a → false ≡ valid i
-    operand_too_large {x} p h = rw (by_width, ← p, le-ltb i.a x h)
-
-    pub by_captures : {x y z : ℕ} → x ≡ operand_bound w → i.a < x → y ≡ captures_bound w → z ≡ i.b → ltb z y ≡ valid i
-    by_captures {x} p h q r = rw (by_width, ← p, lt-ltb i.a x h, q, r)
-
--- the bounds of a width
-pub two_bytes : (w : ℕ) → (w ≡ 0 → ⊥) → (w ≡ 1 → ⊥) → 65536 ≡ operand_bound w
-two_bytes zero a b = absurd (a refl)
-two_bytes (suc zero) a b = absurd (b refl)
-two_bytes (suc (suc n)) a b = refl
-
-pub no_captures : (w : ℕ) → w < 3 → 1 ≡ captures_bound w
-no_captures zero h = refl
-no_captures (suc zero) h = refl
-no_captures (suc (suc zero)) h = refl
-no_captures (suc (suc (suc n))) h = absurd (omega arith)
-
-pub some_captures : (w : ℕ) → 3 ≤ w → 256 ≡ captures_bound w
-some_captures zero h = absurd (omega arith)
-some_captures (suc zero) h = absurd (omega arith)
-some_captures (suc (suc zero)) h = absurd (omega arith)
-some_captures (suc (suc (suc n))) h = refl

@@ -3,6 +3,5 @@ pub mod Widths
 pub mod Decoding
 pub mod Encoding
 pub mod Valid
-pub mod Copy
 pub mod Words
 pub mod RoundTrip

@@ -1,5 +1,5 @@
 -- The table's rule at every entry, and what it says of the definition's `width` and `whole`.
-use Prim.Native.Nat.{ℕ, ◌+◌, ◌-◌, ◌*◌, ◌/◌, ◌%◌, ◌^◌, ◌≤◌, ◌<◌}
+use Prim.Native.Nat.{ℕ, ◌+◌, ◌*◌, ◌/◌, ◌%◌, ◌^◌, ◌≤◌, ◌<◌}
 use mathlib.Core.Path.{◌≡◌, ◌∙◌, ap, sym, refl}
 use mathlib.Core.List.{List}
 use mathlib.Core.Bool.{Bool, true, false}
@@ -7,7 +7,8 @@ use native.Mathlib.Omega.{arith}
 use lib.Bits.{bit_or}
 use lib.Dec.{leb, leb→le}
 use lib.ListN.{length, get_or, get_or-eq_default}
-use borrow.Author.Tests.{lt-leb, le-leb, leb-false}
+use borrow.Author.Tests.{lt-leb, leb-false}
+use Rattle.std.specs.Prelude.{None}
 use Rattle.definition.specs.Basic.{pick, both}
 use Rattle.definition.specs.Opcode.{op_last, widths, width}
 use Rattle.opcode.specs.Table.{entry, no_instruction}
@@ -68,21 +69,5 @@ module _ (byte : ℕ → ℕ) (at end : ℕ) where
       go true = refl
       go false = refl
 
-  pub size_end : end ≤ at → 0 ≡ size_at byte at end
+  pub size_end : end ≤ at → None ≡ size_at byte at end
   size_end h = rw (none_left h)
-
-  pub size_unknown : {n : ℕ} → n ≡ byte at → op_last < n → 0 ≡ size_at byte at end
-  size_unknown i h = rw (lt-leb (byte at) op_last (omega arith))
-
-  module _ {n w : ℕ} (i : n ≡ byte at) (h : n ≤ op_last) (e : w ≡ entry (byte at)) where
-    is_known : Known (byte at) w
-    is_known =
-        let k = le-leb (byte at) op_last (omega arith) in
-        let j : width (byte at) ≡ w = sym (rw k at e) in
-        record { known = k; is = j; small = rw (← j) (width_small (byte at)) }
-
-    pub size_cut : {m : ℕ} → m ≡ w → end - at ≤ m → 0 ≡ size_at byte at end
-    size_cut j l = rw (is_known.known, is_known.is, lt-leb (at + 1 + w) end (omega arith))
-
-    pub size-whole : {m : ℕ} → m ≡ w → m < end - at → 1 + m ≡ size_at byte at end
-    size-whole j l = rw (is_known.known, is_known.is, le-leb (at + 1 + w) end (omega arith), j)

@@ -13,7 +13,7 @@ use mathlib.Core.Bool.{true}
 use Rattle.definition.specs.Basic.{Bytes}
 use Rattle.definition.specs.Number.{refusal, output_short, bad_instruction}
 use Rattle.definition.specs.Opcode.{op_last}
-use Rattle.definition.specs.declared.Answer.TheVariants.{Length, Refused}
+use Rattle.std.specs.Prelude.{Ok, Err}
 use Rattle.opcode.specs.Table.{entry, no_instruction}
 use Rattle.definition.specs.Output.{over}
 use Rattle.definition.specs.Text.{ascii}
@@ -78,15 +78,15 @@ pub found : {op w o start next : ℕ} → w ≡ entry op → (w ≡ no_instructi
 found e n = word_at (below e n)
 
 module _ {op start next : ℕ} (out : Bytes) (h : Word op start next) where
-  pub word_short : length out < next - start → (Refused (refusal output_short 0) ≡ word_answer op (length out)) × (out ≡ word_into op out)
+  pub word_short : length out < next - start → (Err (refusal output_short 0) ≡ word_answer op (length out)) × (out ≡ word_into op out)
   word_short s = let p = refusing (word op) out (next - start) h.size s in (p.0 ∙ rw h.known, p.1 ∙ rw h.known)
 
   pub word-written : {r : Bytes} → next - start ≤ length out → r ≡ over (take (next - start) (drop start (joined words))) out
-      → (Length (next - start) ≡ word_answer op (length out)) × (r ≡ word_into op out)
+      → (Ok (next - start) ≡ word_answer op (length out)) × (r ≡ word_into op out)
   word-written s e =
       let p = placing (word op) out (next - start) h.size s in
       (p.0 ∙ rw h.known, e ∙ ap (λ (b : Bytes). over b out) h.is ∙ p.1 ∙ rw h.known)
 
 pub word_unknown : (op : ℕ) {w : ℕ} (out : Bytes) → w ≡ entry op → w ≡ no_instruction
-    → (Refused (refusal bad_instruction 0) ≡ word_answer op (length out)) × (out ≡ word_into op out)
+    → (Err (refusal bad_instruction 0) ≡ word_answer op (length out)) × (out ≡ word_into op out)
 word_unknown op out e n = let k = unknown op e n in (rw k, rw k)

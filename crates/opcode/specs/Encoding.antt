@@ -1,12 +1,11 @@
 -- What encoding answers and writes.
-use Rattle.std.specs.Prelude.{ℕ, ◌+◌, ◌≤◌, Bool, ◌≡◌, leb, ltb, length}
+use Rattle.std.specs.Prelude.{ℕ, ◌+◌, ◌≤◌, Bool, ◌≡◌, leb, ltb, length, Err}
 use Rattle.definition.specs.Basic.{Bytes, pick, both}
 use Rattle.definition.specs.Number.{refusal, bad_instruction}
 use Rattle.definition.specs.Opcode.{Instr, width, bytes_of, op_last}
 use Rattle.definition.specs.Valid.{operand_bound, captures_bound}
 use Rattle.definition.specs.Output.{output_answer, output_after}
-use Rattle.definition.specs.declared.Answer.{Answer}
-use Rattle.definition.specs.declared.Answer.TheVariants.{Refused}
+use Rattle.definition.specs.Answer.{Answer}
 
 -- whether its bytes can hold an instruction
 abbrev pub valid : Instr → Bool
@@ -14,7 +13,7 @@ valid i = both (leb i.op op_last) (both (ltb i.a (operand_bound (width i.op))) (
 
 -- encoding an instruction: 16 where it is not valid
 abbrev pub encode_answer : Instr → ℕ → Answer
-encode_answer i room = pick (valid i) (output_answer (bytes_of i) room) (Refused (refusal bad_instruction 0))
+encode_answer i room = pick (valid i) (output_answer (bytes_of i) room) (Err (refusal bad_instruction 0))
 
 abbrev pub encode_into : Instr → Bytes → Bytes
 encode_into i out = pick (valid i) (output_after (bytes_of i) out) out

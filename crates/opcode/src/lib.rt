@@ -16,8 +16,8 @@ ghost use Rattle.opcode.specs.Decoding.{size_at, instruction, instr_of, read_bef
 ghost use Rattle.opcode.specs.Words.{joined, start_of, word_answer, word_into};
 ghost use Rattle.opcode.specs.Encoding.{valid, encode_answer, encode_into, Ready};
 
-use definition::{Answer, Refusal, number};
-use field::{wide, word};
+use definition::{Reason, Refusal};
+use field::wide;
 use table::{INSTRUCTIONS, NO_INSTRUCTION, PACKED_WIDTHS, STARTS, UNKNOWN_WIDTH, WIDTHS, WORDS};
 
 // An instruction: its byte, its operand, and the captures of a Closure.
@@ -28,11 +28,11 @@ pub struct Instruction {
     pub captures: u8,
 }
 
-// What decoding answers: the instruction and the offset after it, or its refusal.
+// An instruction that was read, and the offset after it.
 #[derive(Clone, Copy)]
-pub enum Decoded {
-    Instr(Instruction, usize),
-    Refused(Refusal),
+pub struct Decoded {
+    pub instruction: Instruction,
+    pub after: usize,
 }
 
 // The entry of a first byte in the table. A constant array is copied to the stack where it is read, so `width` stands in where speed matters.
@@ -43,6 +43,7 @@ fn table_entry(op: u8) -> u8
 }
 
 // The operand length of an instruction with this first byte, or `NO_INSTRUCTION`: the table's entry, computed without memory or a branch.
+// Kept: a number for "none", since the check of stored code reads it as a number of bits, without a test (`bytecode::decodes`).
 // `past` is 1 for a byte that begins no instruction, else 0.
 pub fn width(op: u8) -> u8
     ensures { result ≡ entry op }
@@ -63,38 +64,24 @@ pub fn operand_length(op: u8) -> usize
     wide(w)
 }
 
-// The length of the instruction at `at`, if it stands whole before `end`; else 0. A byte that begins no instruction is tested for by itself, so that
-// the next offset of a loop waits for the two bits alone.
-pub fn size_at(code: &[u8], at: usize, end: usize) -> usize
+// The length of the instruction at `at`, if it stands whole before `end`. A byte that begins no instruction is tested for by itself, so that the
+// next offset of a loop waits for the two bits alone.
+pub fn size_at(code: &[u8], at: usize, end: usize) -> Option<usize>
     requires { end ≤ length code.now }
     ensures { result ≡ size_at (byte_at code.now) at end }
 {
     if end <= at {
-        return 0;
+        return None;
     }
     let op = code[at];
     if INSTRUCTIONS <= wide(op) {
-        return 0;
+        return None;
     }
     let n = wide(width(op));
     if end - at <= n {
-        return 0;
+        return None;
     }
-    1 + n
-}
-
-// A byte as an operand.
-fn short(x: u8) -> u16
-    ensures { result ≡ x }
-{
-    x as u16
-}
-
-// Two bytes as an operand.
-fn operand(high: u8, low: u8) -> u16
-    ensures { result ≡ high * 256 + low }
-{
-    word(high, low) as u16
+    Some(1 + n)
 }
 
 // The instruction of `size` bytes at `at`.
@@ -113,11 +100,11 @@ fn instruction_at(code: &[u8], at: usize, size: usize) -> Instruction
     if size == 2 {
         return Instruction {
             op: op,
-            operand: short(code[at + 1]),
+            operand: u16::from(code[at + 1]),
             captures: 0,
         };
     }
-    let a = operand(code[at + 1], code[at + 2]);
+    let a = u16::from_be_bytes([code[at + 1], code[at + 2]]);
     if size == 3 {
         return Instruction {
             op: op,
@@ -133,27 +120,29 @@ fn instruction_at(code: &[u8], at: usize, size: usize) -> Instruction
 }
 
 // The instruction at `at`, if it stands whole before `end`, which is within the slice; else number 16 there.
-fn decode_before(code: &[u8], at: usize, end: usize) -> Decoded
+fn decode_before(code: &[u8], at: usize, end: usize) -> Result<Decoded, Refusal>
     requires { end ≤ length code.now }
     ensures { result ≡ decode_answer (read_instr (byte_at code.now) at end) }
 {
-    let size = size_at(code, at, end);
-    if size == 0 {
-        return Decoded::Refused(Refusal {
-            number: number::BAD_INSTRUCTION,
+    match size_at(code, at, end) {
+        Some(size) => Ok(Decoded {
+            instruction: instruction_at(code, at, size),
+            after: at + size,
+        }),
+        None => Err(Refusal {
+            reason: Reason::BadInstruction,
             place: at,
-        });
+        }),
     }
-    Decoded::Instr(instruction_at(code, at, size), at + size)
 }
 
 // The instruction at `at`, if it stands whole before `end`; else, and for an `end` past the slice, number 16 there.
-pub fn decode_at(code: &[u8], at: usize, end: usize) -> Decoded
+pub fn decode_at(code: &[u8], at: usize, end: usize) -> Result<Decoded, Refusal>
     ensures { result ≡ decode_answer (read_before code.now at end) }
 {
     if code.len() < end {
-        return Decoded::Refused(Refusal {
-            number: number::BAD_INSTRUCTION,
+        return Err(Refusal {
+            reason: Reason::BadInstruction,
             place: at,
         });
     }
@@ -161,7 +150,7 @@ pub fn decode_at(code: &[u8], at: usize, end: usize) -> Decoded
 }
 
 // The first instruction of a slice; an empty slice is refused, 16 at 0.
-pub fn decode(code: &[u8]) -> Decoded
+pub fn decode(code: &[u8]) -> Result<Decoded, Refusal>
     ensures { result ≡ decode_answer (read_instr (byte_at code.now) 0 (length code.now)) }
 {
     decode_before(code, 0, code.len())
@@ -209,17 +198,17 @@ fn put(out: &mut [u8], i: Instruction, w: usize)
     requires { Ready (instr_of i) w out.old }
     ensures { out.new ≡ over (bytes_of (instr_of i)) out.old }
 {
-    let a = i.operand;
+    let [high, low] = i.operand.to_be_bytes();
     out[0] = i.op;
     if w == 0 {
         return;
     }
     if w == 1 {
-        out[1] = (a % 256) as u8;
+        out[1] = low;
         return;
     }
-    out[1] = (a / 256 % 256) as u8;
-    out[2] = (a % 256) as u8;
+    out[1] = high;
+    out[2] = low;
     if w == 2 {
         return;
     }
@@ -227,25 +216,25 @@ fn put(out: &mut [u8], i: Instruction, w: usize)
 }
 
 // Encode an instruction at the start of `out`: its length, or 16 at 0 if it is not valid, or 15 at 0 if it is longer than `out`.
-pub fn encode(out: &mut [u8], i: Instruction) -> Answer
+pub fn encode(out: &mut [u8], i: Instruction) -> Result<usize, Refusal>
     ensures answers { result ≡ encode_answer (instr_of i) (length out.old) }
     ensures writes { out.new ≡ encode_into (instr_of i) out.old }
 {
     if !is_valid(i) {
-        return Answer::Refused(Refusal {
-            number: number::BAD_INSTRUCTION,
+        return Err(Refusal {
+            reason: Reason::BadInstruction,
             place: 0,
         });
     }
     let w = wide(width(i.op));
     if out.len() <= w {
-        return Answer::Refused(Refusal {
-            number: number::OUTPUT_SHORT,
+        return Err(Refusal {
+            reason: Reason::OutputShort,
             place: 0,
         });
     }
     put(out, i, w);
-    Answer::Length(1 + w)
+    Ok(1 + w)
 }
 
 // Where the word of an instruction byte starts in `WORDS`.
@@ -261,22 +250,19 @@ fn put_word(out: &mut [u8], start: usize, size: usize)
     requires { (size ≤ length out.old) × (start + size ≤ 193) }
     ensures { out.new ≡ over (take size (drop start (joined words))) out.old }
 {
-    let mut k = 0;
-    while k < size {
-        out[k] = WORDS[start + k];
-        k += 1;
-    }
+    let words = WORDS;
+    out[..size].copy_from_slice(&words[start..start + size]);
 }
 
 // Write the word of an instruction byte at the start of `out`: its length, or 16 at 0 if the byte begins no instruction, or 15 at 0 if
 // the word is longer than `out`.
-pub fn write_word(out: &mut [u8], op: u8) -> Answer
+pub fn write_word(out: &mut [u8], op: u8) -> Result<usize, Refusal>
     ensures answers { result ≡ word_answer op (length out.old) }
     ensures writes { out.new ≡ word_into op out.old }
 {
     if width(op) == NO_INSTRUCTION {
-        return Answer::Refused(Refusal {
-            number: number::BAD_INSTRUCTION,
+        return Err(Refusal {
+            reason: Reason::BadInstruction,
             place: 0,
         });
     }
@@ -284,11 +270,11 @@ pub fn write_word(out: &mut [u8], op: u8) -> Answer
     let start = word_start(o);
     let size = word_start(o + 1) - start;
     if out.len() < size {
-        return Answer::Refused(Refusal {
-            number: number::OUTPUT_SHORT,
+        return Err(Refusal {
+            reason: Reason::OutputShort,
             place: 0,
         });
     }
     put_word(out, start, size);
-    Answer::Length(size)
+    Ok(size)
 }

@@ -1,6 +1,7 @@
 // The constant tables.
 
 // What the table of operand lengths says of a byte that begins no instruction.
+// Kept: a number for "none", since the table has an entry of one byte for each of 256.
 pub const NO_INSTRUCTION: u8 = 255;
 
 // The operand length of every first byte.

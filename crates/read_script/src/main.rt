@@ -2,9 +2,6 @@
 // and column, and standard output stays empty.
 #![tactic(auto)]
 
-ghost use Rattle.std.specs.Prelude.{◌≤◌, length};
-
-use definition::Answer;
 use definition::limit::TREE_LIMIT;
 use report::{print_in_text, read_full, write_first};
 use std::io;
@@ -13,15 +10,13 @@ use std::io;
 const TEXT_MOST: usize = 8193;
 
 // Reads a text.
-fn run(rt: &(impl Print + Eprint), text: &[u8]) -> io::Result<()>
-    requires { length text.now ≤ 8193 }
-{
+fn run(rt: &(impl Print + Eprint), text: &[u8]) -> io::Result<()> {
     let mut output = [0u8; TREE_LIMIT];
     match text::read_text(text, &mut output) {
-        Answer::Length(n) => write_first(rt, &output, n),
-        Answer::Refused(r) => {
+        Ok(n) => write_first(rt, &output, n),
+        Err(r) => {
             rt.eprint("read_script")?;
-            print_in_text(rt, r.number, text, r.place)
+            print_in_text(rt, text, r)
         }
     }
 }

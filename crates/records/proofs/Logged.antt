@@ -10,7 +10,7 @@ use borrow.Author.Tests.{leb-true, leb-false}
 use Rattle.definition.specs.Basic.{Bytes, pick}
 use Rattle.definition.specs.Limit.{session_size, image_limit, tree_limit}
 use Rattle.definition.specs.Number
-use Rattle.definition.specs.Number.{refusal, call_numbers}
+use Rattle.definition.specs.Number.{refusal, call_numbers, number_of}
 use Rattle.definition.specs.Syntax.{Stmts}
 use Rattle.definition.specs.Bytecode.{Image, image_bytes}
 use Rattle.definition.specs.Walk.{Res, walk_stmts}
@@ -24,9 +24,9 @@ use Rattle.definition.specs.Call.{Lent, Called, refused_call, request, answered,
 use Rattle.records.specs.Records.{noted, Logged, logged, beside, load_noted, logging, mentions, identifiers_in, identifiers, Traced, untraced, traced, finish_records, translate_records, compile_records}
 use Rattle.records.specs.Call.{Recorded, unrecorded, over_records, recorded, in_session_records, call_records, records_numbers}
 use Rattle.definition.specs.Valid.{AreBytes}
-use Rattle.definition.specs.declared.Refusal.{Refusal}
-use Rattle.definition.specs.declared.Answer.{Answer}
-use Rattle.definition.specs.declared.Answer.TheVariants.{Length, Refused}
+use Rattle.definition.specs.declared.reason.Refusal.{Refusal}
+use Rattle.definition.specs.Answer.{Answer}
+use Rattle.std.specs.Prelude.{Ok, Err}
 use Rattle.records.specs.declared.Record.{Record}
 use Rattle.definition.proofs.Numbers.{among}
 use Rattle.definition.proofs.Places.{Within, nowhere, call_within_tree, call_within_limit}
@@ -141,8 +141,8 @@ compile_agrees room z c = go (enough c)
 -- On lent memory: the same refusal, the records as they were; or all that the plain call gives and leaves, with a record for each Identifier at the
 -- front; or number 18, session, output and records as they were, and the work areas zero
 pub data CallAgrees (tree : Bytes) (l : Lent) (rs : List Record) : Recorded → Called → Type 0 where
-  refused : {c : Called} (r : Refusal) → c.answer ≡ Refused r → CallAgrees tree l rs (unrecorded rs c) c
-  accepted : {c : Called} {n : ℕ} (new : List Record) → c.answer ≡ Length n → length new ≤ length rs → offsets new ≡ identifiers tree
+  refused : {c : Called} (r : Refusal) → c.answer ≡ Err r → CallAgrees tree l rs (unrecorded rs c) c
+  accepted : {c : Called} {n : ℕ} (new : List Record) → c.answer ≡ Ok n → length new ≤ length rs → offsets new ≡ identifiers tree
       → CallAgrees tree l rs (record { called = c; count = length new; records = over_records new rs }) c
   few : {c : Called} → length rs < length (identifiers tree) → CallAgrees tree l rs (unrecorded rs (refused_call (refusal Number.few_records 0) l)) c
 
@@ -160,15 +160,15 @@ call_agrees tree l rs = go (enough (request l tree)) (opened (read_session (take
     opened (malformed p) = CallAgrees.refused _ refl
 
     go : (b : Bool) {x : Recorded} {y : Called} → CallAgrees tree l rs x y
-        → CallAgrees tree l rs (pick b x (unrecorded rs (record { answer = Refused (refusal Number.short_buffer 0); lent = l }))) (pick b y (record { answer = Refused (refusal Number.short_buffer 0); lent = l }))
+        → CallAgrees tree l rs (pick b x (unrecorded rs (record { answer = Err (refusal Number.short_buffer 0); lent = l }))) (pick b y (record { answer = Err (refusal Number.short_buffer 0); lent = l }))
     go true h = h
     go false h = CallAgrees.refused _ refl
 
 -- Where the call with records accepts, its answer, image, session and work areas are the plain call's
-pub accepted_plain : (tree : Bytes) (l : Lent) (rs : List Record) (n : ℕ) → (call_records tree l rs).called.answer ≡ Length n → (call_records tree l rs).called ≡ call tree l
+pub accepted_plain : (tree : Bytes) (l : Lent) (rs : List Record) (n : ℕ) → (call_records tree l rs).called.answer ≡ Ok n → (call_records tree l rs).called ≡ call tree l
 accepted_plain tree l rs n e = go (call_agrees tree l rs) e
   where
-    go : {x : Recorded} {y : Called} → CallAgrees tree l rs x y → x.called.answer ≡ Length n → x.called ≡ y
+    go : {x : Recorded} {y : Called} → CallAgrees tree l rs x y → x.called.answer ≡ Ok n → x.called ≡ y
     go (CallAgrees.refused r _) e = refl
     go (CallAgrees.accepted _ _ _ _) e = refl
     go (CallAgrees.few _) e = let z : ◌≡◌ {A = ℕ} 0 1 = cc in absurd (omega arith)
@@ -183,10 +183,10 @@ enough-plain tree l rs h = go (call_agrees tree l rs)
     go (CallAgrees.few k) = absurd (omega arith)
 
 -- the count of an accepted call is the number of the tree's Identifiers
-pub accepted_count : (tree : Bytes) (l : Lent) (rs : List Record) (n : ℕ) → (call_records tree l rs).called.answer ≡ Length n → (call_records tree l rs).count ≡ length (identifiers tree)
+pub accepted_count : (tree : Bytes) (l : Lent) (rs : List Record) (n : ℕ) → (call_records tree l rs).called.answer ≡ Ok n → (call_records tree l rs).count ≡ length (identifiers tree)
 accepted_count tree l rs n e = go (call_agrees tree l rs) e
   where
-    go : {x : Recorded} {y : Called} → CallAgrees tree l rs x y → x.called.answer ≡ Length n → x.count ≡ length (identifiers tree)
+    go : {x : Recorded} {y : Called} → CallAgrees tree l rs x y → x.called.answer ≡ Ok n → x.count ≡ length (identifiers tree)
     go (CallAgrees.refused {c} r a) e = let z : ◌≡◌ {A = ℕ} 0 1 = cc in absurd (omega arith)
     go (CallAgrees.accepted new _ _ o) e = sym (length-map new (λ (r : Record). r.offset)) ∙ ap length o
     go (CallAgrees.few _) e = let z : ◌≡◌ {A = ℕ} 0 1 = cc in absurd (omega arith)
@@ -194,7 +194,7 @@ accepted_count tree l rs n e = go (call_agrees tree l rs) e
 -- a plain call's numbers are among those with records
 wider : {lengths places : ℕ} {a : Answer} → Within lengths call_numbers places a → Within lengths records_numbers places a
 wider (Within.wrote h) = Within.wrote h
-wider (Within.refused {r = r} b) = Within.refused {r = r} (record { number = among call_numbers records_numbers tt r.number b.number; place = b.place })
+wider (Within.refused {r = r} b) = Within.refused {r = r} (record { number = among call_numbers records_numbers tt (number_of r.reason) b.number; place = b.place })
 
 -- an answer within the plain call's bounds
 answer_within : {places : ℕ} (tree : Bytes) (l : Lent) (rs : List Record) → Within image_limit call_numbers places (call tree l).answer → Within image_limit records_numbers places (call_records tree l rs).called.answer

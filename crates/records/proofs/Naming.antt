@@ -20,7 +20,7 @@ use Rattle.definition.specs.Session.{Session, word_list}
 use Rattle.definition.specs.Compile.{Outcome, Request, start, image_of, session_of, turned_down, enough}
 use Rattle.records.specs.Records.{record_of, noted, Logged, logged, beside, load_noted, logging, mentions, Traced, untraced, traced, finish_records, translate_records, compile_records}
 use Rattle.records.specs.Naming.{Names, names, names_of, looked_up, look_up, placed_name, define_name, enter_name, closed, naming, records_at, records_of, records_in}
-use Rattle.definition.specs.declared.Refusal.{Refusal}
+use Rattle.definition.specs.declared.reason.Refusal.{Refusal}
 use Rattle.records.specs.declared.Record.{Record}
 use Rattle.records.proofs.Track.{Tracked, Jumped, Tracking, track_stmts}
 

@@ -14,7 +14,7 @@ use Rattle.definition.specs.Syntax.{Stmt, Stmts, Else, Expr, Exprs, count}
 use Rattle.definition.specs.Opcode.{Instr, instr, plain, op_pop, op_jump_not_truthy, op_jump, op_null, op_array, op_hash, op_index, op_call, op_return_value}
 use Rattle.definition.specs.Walk.{Res, bind, Machine, prefixes, infixes, less_than, operate, walk_stmt, walk_stmts, walk_else, walk_expr, walk_exprs}
 use Rattle.records.specs.Records.{mentions_stmt, mentions, mentions_else, mentions_expr, mentions_exprs}
-use Rattle.definition.specs.declared.Refusal.{Refusal}
+use Rattle.definition.specs.declared.reason.Refusal.{Refusal}
 
 -- both go on with one value, in states that P relates; or both stop with one refusal; or, where that is allowed, the first stops alone
 pub data Tracked {S U A : Type 0} (alone : Bool) (P : S → U → Type 0) : Res S A → Res U A → Type 0 where

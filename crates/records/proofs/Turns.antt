@@ -9,7 +9,7 @@ use lib.Seq.{take-append_seam}
 use Rattle.definition.specs.Basic.{Bytes}
 use Rattle.definition.specs.Limit.{session_size}
 use Rattle.definition.specs.Number
-use Rattle.definition.specs.Number.{refusal}
+use Rattle.definition.specs.Number.{refusal, number_of}
 use Rattle.definition.specs.Shape.{shape}
 use Rattle.definition.specs.Tree.{read_tree}
 use Rattle.definition.specs.Session.{Words, word_list, field_count, Session, begun, session_fields}
@@ -19,8 +19,8 @@ use Rattle.definition.specs.Call.{Called, request}
 use Rattle.definition.specs.Valid.{All, ValidSession}
 use Rattle.definition.specs.Series.{Call, Start, lent, Alike as AlikeCalls, shaped, ReadsBack, session_after}
 use Rattle.definition.specs.Trusted.{TrustedCall, TrustedStep}
-use Rattle.definition.specs.declared.Refusal.{Refusal}
-use Rattle.definition.specs.declared.Answer.TheVariants.{Refused}
+use Rattle.definition.specs.declared.reason.Refusal.{Refusal}
+use Rattle.std.specs.Prelude.{Err}
 use Rattle.records.specs.Records.{identifiers, Traced, untraced, translate_records, compile_records}
 use Rattle.records.specs.Call.{Recorded, unrecorded, recorded, in_session_records, call_records, Turn, turn, turns, AlikeTurn, AllAlikeTurns, shaped_turn, shaped_turns_from, shaped_turns, SameTurn, IndistinguishableTurns}
 use Rattle.records.specs.declared.Record.{Record}
@@ -62,7 +62,7 @@ module _ (s : Bytes) (z : Session) (h : Holds s z) (c : Call) (rs : List Record)
   Does x p = TurnIs x s (length c.session) p
 
   -- a refusal
-  stays : (r : Refusal) {x : Called} → x.answer ≡ Refused r → x.lent.session ≡ (lent s c).session → Does (unrecorded rs x) (untraced (turned_down z r))
+  stays : (r : Refusal) {x : Called} → x.answer ≡ Err r → x.lent.session ≡ (lent s c).session → Does (unrecorded rs x) (untraced (turned_down z r))
   stays r a e = record { call = kept s z h c a e; count = refl; records = refl }
 
   after : session_size ≤ length (lent s c).session → {t : Traced} {x : Step} → Agrees (length rs) z (identifiers c.tree) t x → ValidSession x.session → Does (recorded (lent s c) rs t) t
@@ -79,7 +79,7 @@ module _ (s : Bytes) (z : Session) (h : Holds s z) (c : Call) (rs : List Record)
   records_call_does =
       chosen (λ x. Does x next) (enough q)
       (λ e. subst (λ d. Does (in_session_records (lent s c) rs c.tree d) next) (sym (lent_reads s z h c e)) (after (lent_room s z h c e) (compile_agrees (length rs) z q) (compile-valid z h.valid q).session))
-      (λ e. subst (Does (unrecorded rs (record { answer = Refused (refusal Number.short_buffer 0); lent = lent s c }))) (sym (when_short e)) (stays _ refl refl))
+      (λ e. subst (Does (unrecorded rs (record { answer = Err (refusal Number.short_buffer 0); lent = lent s c }))) (sym (when_short e)) (stays _ refl refl))
 
 turn_does : (s : Bytes) (z : Session) → Holds s z → (t : Turn) → TurnIs (turn s t) s (length (call_of t).session) (traced_turn s z t)
 turn_does s z h (Turn.plain c) = record { call = call_does s z h c; count = refl; records = refl }
@@ -103,9 +103,9 @@ turn_step s z (Turn.with_records c rs) = step_of (compile_agrees (length rs) z (
 -- the numbers of a turn
 data TurnNumber (n : ℕ) : Type 0 where
   plain : CompileNumber n → TurnNumber n
-  few : n ≡ Number.few_records → TurnNumber n
+  few : n ≡ number_of Number.few_records → TurnNumber n
 
-not_session : {n : ℕ} → TurnNumber n → n ≡ Number.no_session → ⊥
+not_session : {n : ℕ} → TurnNumber n → n ≡ number_of Number.no_session → ⊥
 not_session (TurnNumber.plain h) e = not_two h e
 not_session (TurnNumber.few f) e = omega arith
 

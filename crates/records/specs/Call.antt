@@ -1,16 +1,15 @@
 -- A whole call with records on lent memory; series in which each call is a plain one or one with records.
-use Rattle.std.specs.Prelude.{ℕ, List, [], ◌∷◌, ◌++◌, ◌≡◌, length, take, drop}
+use Rattle.std.specs.Prelude.{ℕ, List, [], ◌∷◌, ◌++◌, ◌≡◌, length, take, drop, Err}
 use Rattle.definition.specs.Basic.{Bytes, pick}
 use Rattle.definition.specs.Limit.{session_size}
 use Rattle.definition.specs.Number
-use Rattle.definition.specs.Number.{refusal, call_numbers, few_records}
+use Rattle.definition.specs.Number.{refusal, call_numbers, few_records, number_of}
 use Rattle.definition.specs.Session.{Words, Session, begun}
 use Rattle.definition.specs.Decode.{Decoded, decoded, malformed, read_session}
 use Rattle.definition.specs.Compile.{enough, compile}
 use Rattle.definition.specs.Call.{Lent, Called, refused_call, request, answered, call}
 use Rattle.definition.specs.Series.{Call, session_after, lent, Alike, shaped, Same}
 use Rattle.records.specs.Records.{Traced, untraced, compile_records}
-use Rattle.definition.specs.declared.Answer.TheVariants.{Refused}
 use Rattle.records.specs.declared.Record.{Record}
 
 -- a call with records: what the plain call has, the count written, and the records afterwards
@@ -38,11 +37,11 @@ in_session_records l rs tree (malformed p) = unrecorded rs (refused_call (refusa
 unfoldable pub call_records : Bytes → Lent → List Record → Recorded
 call_records tree l rs =
     let c = in_session_records l rs tree (read_session (take session_size l.session)) in
-    pick (enough (request l tree)) c (unrecorded rs (record { answer = Refused (refusal Number.short_buffer 0); lent = l }))
+    pick (enough (request l tree)) c (unrecorded rs (record { answer = Err (refusal Number.short_buffer 0); lent = l }))
 
 -- the numbers of a call with records
 abbrev pub records_numbers : List ℕ
-records_numbers = few_records ∷ call_numbers
+records_numbers = number_of few_records ∷ call_numbers
 
 -- Series
 

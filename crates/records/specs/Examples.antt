@@ -1,5 +1,5 @@
 -- Calls with records in a fresh session, by computation.
-use Rattle.std.specs.Prelude.{ℕ, List, [], ◌∷◌, ◌++◌, map, ◌≡◌, refl, replicate}
+use Rattle.std.specs.Prelude.{ℕ, List, [], ◌∷◌, ◌++◌, map, ◌≡◌, refl, replicate, Ok}
 use Rattle.definition.specs.Basic.{Bytes}
 use Rattle.definition.specs.Limit.{session_size, code_size, table_size}
 use Rattle.definition.specs.Tree.{read_tree, read_program, read_stmt}
@@ -13,7 +13,6 @@ use Rattle.definition.specs.Call.{Lent, made}
 use Rattle.records.specs.Records.{load_noted, Traced, compile_records}
 use Rattle.records.specs.Call.{Recorded, call_records}
 use Rattle.definition.specs.Values.{Given, refused, image, given, six_words}
-use Rattle.definition.specs.declared.Answer.TheVariants.{Length}
 use Rattle.records.specs.declared.Kind.{Kind}
 use Rattle.records.specs.declared.Kind.TheVariants.{Global, Local, Builtin, Free, Function}
 use Rattle.records.specs.declared.Record.{Record}
@@ -81,7 +80,7 @@ whole = call_records (0x10 ∷ 0x00 ∷ 0x09 ∷ 0x11 ∷ 0x00 ∷ 0x06 ∷ 0x20
 
 pub whole-call : whole ≡ record {
   called = record {
-    answer = Length 9;
+    answer = Ok 9;
     lent = record {
       session = six_words ++ 0x40 ∷ 0x00 ∷ 0x00 ∷ 0x51 ∷ 0x00 ∷ 0x00 ∷ replicate 65485 0;
       output = 0x50 ∷ 0x00 ∷ 0x03 ∷ 0x1A ∷ 0x00 ∷ 0x02 ∷ 0x51 ∷ 0x00 ∷ 0x00 ∷ 7 ∷ [];

@@ -2,15 +2,25 @@
 #![tactic(auto)]
 
 ghost use Rattle.std.specs.Prelude.{◌≡◌, ◌<◌, length, set};
+ghost use Rattle.records.specs.Kinds.{kind_number};
 
-// What a name stands for, in document 02's order.
+// What a name stands for, in document 02's order, with its number.
 #[derive(Clone, Copy)]
 pub enum Kind {
-    Global,
-    Local,
-    Builtin,
-    Free,
-    Function,
+    Global = 0,
+    Local = 1,
+    Builtin = 2,
+    Free = 3,
+    Function = 4,
+}
+
+// The number of a kind.
+impl From<Kind> for u32 {
+    ghost from_gives = { λ kind number. number ≡ kind_number kind };
+
+    fn from(kind: Kind) -> u32 {
+        kind as u32
+    }
 }
 
 // How an Identifier was resolved: its tree offset, kind and index (0 for a function), and the functions crossed.

@@ -11,6 +11,7 @@ use Rattle.definition.specs.Limit.{globals_limit, locals_limit, free_limit}
 use Rattle.definition.specs.Opcode.{Instr}
 use Rattle.definition.specs.SymbolTable.{Symbol, Table, Resolved, Defined, find_global, find_builtin, find, outermost, capture, cross, or_outer, resolve, place}
 use Rattle.refinement.specs.Relation.{Extends}
+use Rattle.definition.specs.declared.reason.Reason.{Reason}
 
 -- the tables after a lookup
 pub data Looked (k : ℕ) : Resolved → Type 0 where
@@ -57,7 +58,7 @@ resolve_depth bs gs n (t ∷ ts) = outer_looked n t ts (find n t.entries) (resol
 -- the globals and the tables after a definition
 pub data Placed (k : ℕ) (gs : List Bytes) : Defined → Type 0 where
   defined : (i : Instr) {gs' : List Bytes} {ts : List Table} → Extends gs gs' → length ts ≡ k → Placed k gs (Defined.defined i gs' ts)
-  no_room : (m : ℕ) → Placed k gs (Defined.no_room m)
+  no_room : (m : Reason) → Placed k gs (Defined.no_room m)
 
 -- one of two definitions
 placed-pick : {k : ℕ} {gs : List Bytes} {x y : Defined} (b : Bool) → Placed k gs x → Placed k gs y → Placed k gs (pick b x y)

@@ -4,11 +4,11 @@ use native.Mathlib.Omega.{arith}
 use mathlib.Core.Path.{◌≡◌, sym, subst, ◌∙◌}
 use lib.Dec.{T}
 use Rattle.definition.specs.Basic.{Bytes}
-use Rattle.definition.specs.Number.{walk_number}
+use Rattle.definition.specs.Number.{walk_number, number_of}
 use Rattle.definition.specs.Session.{Session}
 use Rattle.definition.specs.Walk.{Res, on, stop}
 use Rattle.definition.specs.Compiler.{State}
-use Rattle.definition.specs.declared.Refusal.{Refusal}
+use Rattle.definition.specs.declared.reason.Refusal.{Refusal}
 use Rattle.scope.specs.View.{View}
 use Rattle.refinement.specs.Relation.{Stopped, Compiled, WalkEnds}
 
@@ -22,7 +22,7 @@ pub record Through {S U : Type 0} (P : S → U → Type 0) (x : Res S (Unit {0})
 pub record Halts {S U : Type 0} (P : S → U → Type 0) (x : Res S (Unit {0})) (r : Refusal) (u : U) : Type 0 where
   pub state : S
   pub same : x ≡ stop r state
-  pub number : T (walk_number r.number)
+  pub number : T (walk_number (number_of r.reason))
   pub facts : P state u
 
 -- no walk does both
@@ -45,7 +45,7 @@ module _ {z : Session} {e : Bytes} {n : ℕ} {x : Res State (Unit {0})} {y : Res
   memory_halts (WalkEnds.stopped r s v p q t c) {r = r'} {v = u} k =
       let l : r ≡ r' = cc in
       let m : v ≡ u = cc in
-      record { state = s; same = p ∙ (λ i. stop (l i) s); number = subst (λ r. T (walk_number r.number)) l t; facts = subst (Stopped z e n) m c }
+      record { state = s; same = p ∙ (λ i. stop (l i) s); number = subst (λ r. T (walk_number (number_of r.reason))) l t; facts = subst (Stopped z e n) m c }
 
   -- from the definition's walk to that on memory
   pub definition_through : WalkEnds z e n x y → {s : State} → x ≡ on tt s → Through (λ v s. Compiled z e n s v) y s
@@ -59,4 +59,4 @@ module _ {z : Session} {e : Bytes} {n : ℕ} {x : Res State (Unit {0})} {y : Res
   definition_halts (WalkEnds.through s v p q c) k = absurd (never (sym p ∙ k))
   definition_halts (WalkEnds.stopped r s v p q t c) {r = r'} k =
       let l : r ≡ r' = cc in
-      record { state = v; same = q ∙ (λ i. stop (l i) v); number = subst (λ r. T (walk_number r.number)) l t; facts = c }
+      record { state = v; same = q ∙ (λ i. stop (l i) v); number = subst (λ r. T (walk_number (number_of r.reason))) l t; facts = c }

@@ -4,11 +4,11 @@ use Rattle.std.specs.Prelude.{ℕ, suc, ◌+◌, ◌≤◌, List, [], ◌∷◌,
 use Rattle.std.proofs.lemmas.List.Edits.{sets}
 use Rattle.definition.specs.Basic.{Bytes}
 use Rattle.definition.specs.Limit.{code_size, session_size, pool_limit}
-use Rattle.definition.specs.Number.{walk_number}
+use Rattle.definition.specs.Number.{walk_number, number_of}
 use Rattle.definition.specs.Bytecode.{Code, Const, encode, size_of, pool_bytes, pool_size}
 use Rattle.definition.specs.Session.{Session, word_list, front_fields, session_fields}
 use Rattle.definition.specs.Walk.{Res, on, stop}
-use Rattle.definition.specs.declared.Refusal.{Refusal}
+use Rattle.definition.specs.declared.reason.Refusal.{Refusal}
 use Rattle.definition.specs.Compiler.{State, without_last}
 use Rattle.definition.specs.Valid.{All}
 use Rattle.definition.proofs.Jumps.{jump_at}
@@ -125,4 +125,4 @@ pub record Compiled (z : Session) (e : Bytes) (n : ℕ) (s : State) (v : View) :
 -- how the walk of the definition and the walk on memory end: both go through, or both stop with one refusal of the walk
 pub data WalkEnds (z : Session) (e : Bytes) (n : ℕ) (x : Res State (Unit {0})) (y : Res View (Unit {0})) : Type 0 where
   through : (s : State) (v : View) → x ≡ on tt s → y ≡ on tt v → Compiled z e n s v → WalkEnds z e n x y
-  stopped : (r : Refusal) (s : State) (v : View) → x ≡ stop r s → y ≡ stop r v → T (walk_number r.number) → Stopped z e n v → WalkEnds z e n x y
+  stopped : (r : Refusal) (s : State) (v : View) → x ≡ stop r s → y ≡ stop r v → T (walk_number (number_of r.reason)) → Stopped z e n v → WalkEnds z e n x y

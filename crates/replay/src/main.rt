@@ -3,21 +3,66 @@
 
 ghost use Rattle.std.specs.Prelude.{◌<◌, IfOk};
 
-use definition::Answer;
+use definition::Refusal;
 use definition::limit::{CODE_SIZE, SESSION_SIZE, TABLE_SIZE};
 use field::{wide, word};
-use report::{print_failure, read_full};
-use std::io::{BufReader, Read};
+use report::{Counts, as_recorded, open_cases, read_full};
+use std::io;
+use std::io::Read;
 use std::rt::Files;
-use std::{fs, io};
 
-// What a record came to: a call that agrees or differs, something between two calls, or the end.
+// What a record holds.
 #[derive(Clone, Copy)]
 enum Record {
+    // A fresh session.
+    Fresh = 1,
+    // A session of its own.
+    Own = 2,
+    // A call.
+    Call = 3,
+    // The session as it must be.
+    Session = 4,
+    // A session made in a part of the buffer.
+    Made = 5,
+    // A call in parts of the buffers.
+    CallInParts = 6,
+    // A session made with words.
+    MadeWithWords = 7,
+}
+
+// A number that is no record's.
+#[derive(Clone, Copy)]
+struct NoRecord;
+
+impl TryFrom<usize> for Record {
+    type Error = NoRecord;
+
+    fn try_from(number: usize) -> Result<Self, NoRecord> {
+        match number {
+            1 => Ok(Record::Fresh),
+            2 => Ok(Record::Own),
+            3 => Ok(Record::Call),
+            4 => Ok(Record::Session),
+            5 => Ok(Record::Made),
+            6 => Ok(Record::CallInParts),
+            7 => Ok(Record::MadeWithWords),
+            _ => Err(NoRecord),
+        }
+    }
+}
+
+// What a record came to: a call that agrees or differs, or something between two calls.
+#[derive(Clone, Copy)]
+enum Came {
     Agrees,
     Differs,
     Between,
-    End,
+}
+
+impl From<bool> for Came {
+    fn from(same: bool) -> Came {
+        if same { Came::Agrees } else { Came::Differs }
+    }
 }
 
 // The lengths of the session's buffer and of the work areas that are lent.
@@ -55,8 +100,8 @@ fn read_long<R: Read>(reader: &mut R) -> io::Result<usize> {
 
 // So many bytes of the records.
 fn read_part<R: Read>(reader: &mut R, buffer: &mut [u8], length: usize) -> io::Result<()> {
-    if length <= buffer.len() {
-        read_full(reader, &mut buffer[..length])?;
+    if let Some(part) = buffer.get_mut(..length) {
+        read_full(reader, part)?;
     }
     Ok(())
 }
@@ -68,22 +113,7 @@ fn same_buffers(a: &[u8; SESSION_SIZE], b: &[u8; SESSION_SIZE]) -> bool {
 
 // Whether all numbers are a value.
 fn all_numbers(numbers: &[u32; TABLE_SIZE], value: u32) -> bool {
-    let mut i = 0;
-    while i < TABLE_SIZE {
-        if numbers[i] != value {
-            return false;
-        }
-        i += 1;
-    }
-    true
-}
-
-// Whether an answer is the recorded one: the number 0 stands for an image of so many bytes.
-fn as_recorded(answer: Answer, number: usize, value: usize) -> bool {
-    match answer {
-        Answer::Length(n) => (number == 0) & (n == value),
-        Answer::Refused(r) => (r.number == number) & (r.place == value),
-    }
+    numbers.iter().all(|n| *n == value)
 }
 
 // Whether all bytes of the code area are a value.
@@ -99,7 +129,7 @@ fn compile_in(
     code: &mut [u8],
     table: &mut [u32],
     sizes: Sizes,
-) -> Answer {
+) -> Result<usize, Refusal> {
     let s = sizes.session;
     let c = sizes.code;
     let t = sizes.table;
@@ -116,7 +146,7 @@ fn compile_in(
             }
         }
     }
-    Answer::Length(0)
+    Ok(0)
 }
 
 // Compiles the first bytes of a buffer into an output of so many bytes.
@@ -129,7 +159,7 @@ fn compile(
     code: &mut [u8],
     table: &mut [u32],
     sizes: Sizes,
-) -> Answer {
+) -> Result<usize, Refusal> {
     if length <= tree.len() {
         if lend <= output.len() {
             return compile_in(
@@ -142,7 +172,7 @@ fn compile(
             );
         }
     }
-    Answer::Length(0)
+    Ok(0)
 }
 
 // A call: the output's length in three bytes, the tree, the outcome, the image of an accepted tree. Number 1 leaves the work areas as
@@ -210,11 +240,11 @@ fn read_sizes<R: Read>(reader: &mut R) -> io::Result<Sizes> {
 }
 
 // Makes a session in a part of so many bytes.
-fn make_in(session: &mut [u8], size: usize) -> Answer {
+fn make_in(session: &mut [u8], size: usize) -> Result<usize, Refusal> {
     if size <= session.len() {
         return compiler::make_session(&mut session[..size]);
     }
-    Answer::Length(0)
+    Ok(0)
 }
 
 // Making a session: the length of its buffer, the outcome.
@@ -226,13 +256,18 @@ fn run_make<R: Read>(reader: &mut R, session: &mut [u8; SESSION_SIZE]) -> io::Re
 }
 
 // Makes a session with words, the first bytes of a buffer, in a part of so many bytes.
-fn make_words_in(session: &mut [u8], size: usize, names: &[u8], length: usize) -> Answer {
+fn make_words_in(
+    session: &mut [u8],
+    size: usize,
+    names: &[u8],
+    length: usize,
+) -> Result<usize, Refusal> {
     if size <= session.len() {
         if length <= names.len() {
             return compiler::make_session_words(&mut session[..size], &names[..length]);
         }
     }
-    Answer::Length(0)
+    Ok(0)
 }
 
 // Making a session with words: the length of its buffer, the name fields, the outcome.
@@ -263,76 +298,57 @@ fn start_session<R: Read>(reader: &mut R, session: &mut [u8; SESSION_SIZE]) -> i
     Ok(())
 }
 
-// The next record: 1 a fresh session, 2 a session of its own, 3 a call, 4 the session as it must be, 5 a session made in a part of the
-// buffer, 6 a call in parts of the buffers, 7 a session made with words.
-fn run_record<R: Read>(reader: &mut R, session: &mut [u8; SESSION_SIZE]) -> io::Result<Record> {
-    match read_byte(reader)? {
-        1 => {
-            compiler::make_session(session);
-            Ok(Record::Between)
+// Runs a record.
+fn run_record<R: Read>(
+    reader: &mut R,
+    session: &mut [u8; SESSION_SIZE],
+    record: Record,
+) -> io::Result<Came> {
+    match record {
+        Record::Fresh => {
+            let _ = compiler::make_session(session);
+            Ok(Came::Between)
         }
-        2 => {
+        Record::Own => {
             start_session(reader, session)?;
-            Ok(Record::Between)
+            Ok(Came::Between)
         }
-        3 => Ok(recorded(run_call(reader, session, full_sizes())?)),
-        4 => Ok(recorded(check_session(reader, session)?)),
-        5 => Ok(recorded(run_make(reader, session)?)),
-        6 => {
+        Record::Call => Ok(Came::from(run_call(reader, session, full_sizes())?)),
+        Record::Session => Ok(Came::from(check_session(reader, session)?)),
+        Record::Made => Ok(Came::from(run_make(reader, session)?)),
+        Record::CallInParts => {
             let sizes = read_sizes(reader)?;
-            Ok(recorded(run_call(reader, session, sizes)?))
+            Ok(Came::from(run_call(reader, session, sizes)?))
         }
-        7 => Ok(recorded(run_make_words(reader, session)?)),
-        _ => Ok(Record::End),
+        Record::MadeWithWords => Ok(Came::from(run_make_words(reader, session)?)),
     }
 }
 
-// What a comparison came to.
-fn recorded(same: bool) -> Record {
-    if same {
-        Record::Agrees
-    } else {
-        Record::Differs
-    }
-}
-
-// Runs the records of a file, and prints how many agree and how many differ.
-fn run_records<R: Read>(rt: &impl Print, reader: &mut R) -> io::Result<()> {
+// Runs the records of a file up to the first number that is no record's: how many agree and how many differ.
+fn run_records<R: Read>(reader: &mut R, most: u64) -> io::Result<Counts> {
     let mut session = [0u8; SESSION_SIZE];
-    let mut agree: u64 = 0;
-    let mut differ: u64 = 0;
-    let mut turns: u64 = 0;
-    while turns < 100000 {
-        match run_record(reader, &mut session)? {
-            Record::Agrees => {
-                agree += 1;
-                turns += 1;
-            }
-            Record::Differs => {
-                differ += 1;
-                turns += 1;
-            }
-            Record::Between => {
-                turns += 1;
-            }
-            Record::End => {
-                break;
-            }
+    let mut counts = Counts::default();
+    for _ in 0..most {
+        let Ok(record) = Record::try_from(read_byte(reader)?) else {
+            break;
+        };
+        match run_record(reader, &mut session, record)? {
+            Came::Agrees => counts.agree += 1,
+            Came::Differs => counts.differ += 1,
+            Came::Between => {}
         }
     }
-    println!(rt; "{agree} agree, {differ} differ")
+    Ok(counts)
 }
 
-// The records of the file that a topic names.
+// The records of the file that a topic names: a line of their counts.
 fn run_topic<R: Files + Print + Eprint + Alloc>(rt: &R, topic: &str) -> io::Result<()> {
     print!(rt; "{topic}: ")?;
-    match fs::open(rt, topic) {
-        Ok(file) => {
-            let mut reader = BufReader::new(rt.alloc(), file)?;
-            run_records(rt, &mut reader)
-        }
-        Err(e) => print_failure(rt, topic, &e),
-    }
+    let Some(mut reader) = open_cases(rt, topic)? else {
+        return Ok(());
+    };
+    let counts = run_records(&mut reader, 100000)?;
+    println!(rt; "{counts}")
 }
 
 fn main(rt: HostRuntime) -> io::Result<()> {

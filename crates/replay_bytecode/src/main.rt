@@ -8,10 +8,8 @@
 
 ghost use Rattle.std.specs.Prelude.{◌≤◌, ◌<◌};
 
-use bytecode::Layout;
-use definition::{Answer, number};
-use frames::{FrameCount, FramePlace};
-use opcode::{Decoded, Instruction};
+use definition::{Reason, Refusal};
+use opcode::Instruction;
 use report::print_failure;
 use std::io::Read;
 use std::{fs, io};
@@ -50,11 +48,10 @@ fn write_number(rt: &impl Print, n: usize) -> io::Result<()> {
 }
 
 // Write a refusal's line.
-fn write_refusal(rt: &impl Print, number: usize, place: usize) -> io::Result<()> {
-    rt.print("refused")?;
-    write_number(rt, number)?;
-    write_number(rt, place)?;
-    rt.println("")
+fn write_refusal(rt: &impl Print, refusal: Refusal) -> io::Result<()> {
+    let number = refusal.reason.number();
+    let place = refusal.place;
+    println!(rt; "refused {number} {place}")
 }
 
 // Write a decoded instruction's line: its byte, its operands and its length.
@@ -72,19 +69,19 @@ fn write_instruction(rt: &impl Print, i: Instruction, size: usize) -> io::Result
 }
 
 // Write what the check of an image answered: into an empty output no listing fits, so that 15 says that the image is sound.
-fn write_check(rt: &impl Print, number: usize, place: usize) -> io::Result<()> {
-    if number == number::OUTPUT_SHORT {
-        return rt.println("ok");
+fn write_check(rt: &impl Print, refusal: Refusal) -> io::Result<()> {
+    match refusal.reason {
+        Reason::OutputShort => rt.println("ok"),
+        _ => write_refusal(rt, refusal),
     }
-    write_refusal(rt, number, place)
 }
 
 // Answer a question on the image check: the call that checks and lists, with an empty output.
 fn answer_image(rt: &impl Print, image: &[u8]) -> io::Result<()> {
     let mut none: [u8; 1] = [0];
     match listing::list_image(image, &mut none[..0]) {
-        Answer::Length(n) => write_number(rt, n),
-        Answer::Refused(r) => write_check(rt, r.number, r.place),
+        Ok(n) => write_number(rt, n),
+        Err(r) => write_check(rt, r),
     }
 }
 
@@ -100,8 +97,8 @@ fn write_listing(rt: &impl Print, output: &[u8], length: usize) -> io::Result<()
 // List an image into an output.
 fn list_into(rt: &impl Print, image: &[u8], output: &mut [u8]) -> io::Result<()> {
     match listing::list_image(image, output) {
-        Answer::Length(n) => write_listing(rt, output, n),
-        Answer::Refused(r) => write_refusal(rt, r.number, r.place),
+        Ok(n) => write_listing(rt, output, n),
+        Err(r) => write_refusal(rt, r),
     }
 }
 
@@ -121,16 +118,22 @@ fn answer_list(rt: &impl Print, bytes: &[u8]) -> io::Result<()> {
 // Answer a question on decoding.
 fn answer_decode(rt: &impl Print, code: &[u8]) -> io::Result<()> {
     match opcode::decode(code) {
-        Decoded::Instr(i, size) => write_instruction(rt, i, size),
-        Decoded::Refused(r) => write_refusal(rt, r.number, r.place),
+        Ok(found) => write_instruction(rt, found.instruction, found.after),
+        Err(r) => write_refusal(rt, r),
     }
 }
 
 // Answer a question on a session's layout.
 fn answer_session(rt: &impl Print, session: &[u8]) -> io::Result<()> {
     match bytecode::read_layout(session) {
-        Layout::Sound(_) => rt.println("ok"),
-        Layout::Broken => write_refusal(rt, number::NO_SESSION, 0),
+        Some(_) => rt.println("ok"),
+        None => write_refusal(
+            rt,
+            Refusal {
+                reason: Reason::NoSession,
+                place: 0,
+            },
+        ),
     }
 }
 
@@ -154,26 +157,25 @@ fn answer_count(rt: &impl Print, bytes: &[u8]) -> io::Result<()> {
     }
     let size = number_of(bytes[0], bytes[1], bytes[2], bytes[3]);
     match frames::count_frames(&bytes[4..], size) {
-        FrameCount::Counted(whole, rest) => write_two(rt, whole, rest),
-        FrameCount::Refused(r) => write_refusal(rt, r.number, r.place),
+        Ok(count) => write_two(rt, count.whole, count.rest),
+        Err(r) => write_refusal(rt, r),
     }
 }
 
 // Write where a frame lies and how long the part is that was given; or the refusal, and whether a part was given all the same.
 fn show_part(rt: &impl Print, image: &[u8], size: usize, index: usize) -> io::Result<()> {
     let part = frames::frame(image, size, index);
-    let refusal = frames::frame_refusal(image, size, index);
     let len = part.len();
-    if refusal.number != 0 {
-        write_refusal(rt, refusal.number, refusal.place)?;
+    if let Some(refusal) = frames::frame_refusal(image, size, index) {
+        write_refusal(rt, refusal)?;
         if len != 0 {
             rt.println("a part was given")?;
         }
         return Ok(());
     }
     match frames::find_frame(image, size, index) {
-        FramePlace::At(start, _) => write_two(rt, start, len),
-        FramePlace::Refused(_) => rt.println("no frame was found"),
+        Ok(place) => write_two(rt, place.start, len),
+        Err(_) => rt.println("no frame was found"),
     }
 }
 
@@ -224,7 +226,7 @@ fn write_bytes(rt: &impl Print, output: &[u8], length: usize) -> io::Result<()> 
 }
 
 // Translate an image into an output.
-fn turn_into(image: &[u8], output: &mut [u8], to_chin: bool) -> Answer {
+fn turn_into(image: &[u8], output: &mut [u8], to_chin: bool) -> Result<usize, Refusal> {
     if to_chin {
         return chin::to_chin(image, output);
     }
@@ -234,8 +236,8 @@ fn turn_into(image: &[u8], output: &mut [u8], to_chin: bool) -> Answer {
 // Write what a translation answers.
 fn write_turned(rt: &impl Print, image: &[u8], output: &mut [u8], to_chin: bool) -> io::Result<()> {
     match turn_into(image, output, to_chin) {
-        Answer::Length(n) => write_bytes(rt, output, n),
-        Answer::Refused(r) => write_refusal(rt, r.number, r.place),
+        Ok(n) => write_bytes(rt, output, n),
+        Err(r) => write_refusal(rt, r),
     }
 }
 

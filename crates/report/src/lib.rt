@@ -1,10 +1,15 @@
-// What the programs share: reading input into a buffer, words for the numbers of refusals, and the line and column of a place in a text.
+// What the programs share: reading input into a buffer, compiling in a fresh session, the sentences of refusals, and cases as they were recorded.
 #![tactic(auto)]
+
+mod fresh;
+mod recorded;
 
 ghost use Rattle.std.specs.Prelude.{◌≡◌, ◌+◌, ◌<◌, ◌≤◌, length, take, IfOk};
 ghost use Rattle.std.specs.Io.KnownBytes.{Consumes, IsAtEnd};
 
-use definition::number;
+use definition::{Reason, Refusal};
+pub use fresh::compile_fresh;
+pub use recorded::{Counts, as_recorded, open_cases};
 use std::io;
 use std::io::Read;
 
@@ -16,6 +21,7 @@ pub fn read_full<R: Read>(reader: &mut R, buffer: &mut [u8]) -> io::Result<usize
     ensures end { IfOk result (λ n. n < length buffer.new → IsAtEnd (R.remaining reader.new)) }
 {
     let mut done = 0;
+    // Kept: how much a turn reads is the reader's, so a `for` would need turns of its own, and a fill of the measure beside them.
     while done < buffer.len() {
         let n = reader.read(&mut buffer[done..])?;
         if n == 0 {
@@ -41,50 +47,45 @@ pub fn print_failure<R: Eprint + Alloc>(rt: &R, name: &str, error: &io::Error) -
     eprintln!(rt; "{name}: {words}")
 }
 
-// Writes what a number of the walk stands for.
-fn print_walk_word(rt: &impl Eprint, number: usize) -> io::Result<()> {
-    match number {
-        number::UNDEFINED => rt.eprint("undefined name"),
-        number::OPERATOR => rt.eprint("operator that is none here"),
-        number::MACRO => rt.eprint("macro"),
-        number::TOO_MANY => rt.eprint("too many parameters or arguments"),
-        number::LOCALS => rt.eprint("too many locals"),
-        number::CAPTURES => rt.eprint("too many captures"),
-        number::GLOBALS => rt.eprint("too many globals"),
-        number::POOL => rt.eprint("pool full"),
-        number::CODE => rt.eprint("code full"),
-        number::NESTING => rt.eprint("functions nested too deep"),
-        _ => rt.eprint("branch without a value"),
-    }
-}
-
-// Writes what a number of a compile call stands for.
-pub fn print_word(rt: &impl Eprint, number: usize) -> io::Result<()> {
-    match number {
-        number::SHORT_BUFFER => rt.eprint("short buffer"),
-        number::NO_SESSION => rt.eprint("no session"),
-        number::BAD_TREE => rt.eprint("bad tree"),
-        number::TOO_DEEP => rt.eprint("tree too deep"),
-        number::OUTPUT_SHORT => rt.eprint("output short"),
-        _ => print_walk_word(rt, number),
-    }
-}
-
-// Writes what a number of reading a text stands for, where the output has room for the longest tree.
-fn print_text_word(rt: &impl Eprint, number: usize) -> io::Result<()> {
-    match number {
-        20 => rt.eprint("no script"),
-        21 => rt.eprint("integer too large"),
-        number::TOO_DEEP => rt.eprint("tree too deep"),
-        _ => rt.eprint("tree too long"),
-    }
+// Writes a refusal and its offset, behind the program's name.
+fn print_at_offset(rt: &impl Eprint, refusal: Refusal, whole: &str) -> io::Result<()> {
+    let Refusal { reason, place } = refusal;
+    let number = reason.number();
+    eprintln!(rt; ": refused with number {number}, {reason}, at offset {place} of the {whole}.")
 }
 
 // Writes a refusal and its offset in a tree, behind the program's name.
-pub fn print_in_tree(rt: &impl Eprint, number: usize, place: usize) -> io::Result<()> {
-    eprint!(rt; ": refused with number {number}, ")?;
-    print_word(rt, number)?;
-    eprintln!(rt; ", at offset {place} of the tree.")
+pub fn print_in_tree(rt: &impl Eprint, refusal: Refusal) -> io::Result<()> {
+    print_at_offset(rt, refusal, "tree")
+}
+
+// Writes a refusal and its offset in an image, behind the program's name.
+pub fn print_in_image(rt: &impl Eprint, refusal: Refusal) -> io::Result<()> {
+    print_at_offset(rt, refusal, "image")
+}
+
+// What the place of a refusal counts, where heights are checked.
+fn place_word(reason: Reason) -> &'static str {
+    match reason {
+        Reason::BadHeights => "in chunk",
+        Reason::OutputShort => "at",
+        _ => "at offset",
+    }
+}
+
+// Writes a refusal of an image or of its heights, behind the program's name.
+pub fn print_in_heights(rt: &impl Eprint, refusal: Refusal) -> io::Result<()> {
+    let Refusal { reason, place } = refusal;
+    let number = reason.number();
+    let word = place_word(reason);
+    eprintln!(rt; ": refused with number {number}, {reason}, {word} {place}.")
+}
+
+// Writes a refusal's number and place alone.
+pub fn print_refusal(rt: &impl Print, refusal: Refusal) -> io::Result<()> {
+    let number = refusal.reason.number();
+    let place = refusal.place;
+    println!(rt; "refused {number} {place}")
 }
 
 // A line and a column, both from 1.
@@ -94,56 +95,33 @@ pub struct Position {
     pub column: usize,
 }
 
-// The position behind a byte.
-fn passed(at: Position, b: u8) -> Position
-    requires { (at.line ≤ 8193) × (at.column ≤ 8193) }
-    ensures line { result.line ≤ at.line + 1 }
-    ensures column { result.column ≤ at.column + 1 }
-{
-    if b == b'\n' {
-        return Position {
-            line: at.line + 1,
-            column: 1,
-        };
-    }
+// Where an offset of a text stands; one behind its end stands as the end does.
+fn position_of(text: &[u8], place: usize) -> Position {
+    let before = text.get(..place).unwrap_or(text);
+    let newlines = before.iter().filter(|b| **b == b'\n').count();
+    let behind = before.iter().rev().take_while(|b| **b != b'\n').count();
     Position {
-        line: at.line,
-        column: at.column + 1,
+        line: newlines + 1,
+        column: behind + 1,
     }
 }
 
-// Where an offset of a text stands.
-fn position_of(text: &[u8], place: usize) -> Position
-    requires { length text.now ≤ 8193 }
-{
-    let mut at = Position { line: 1, column: 1 };
-    let mut i = 0;
-    while i < text.len() {
-        if i == place {
-            return at;
-        }
-        at = passed(at, text[i]);
-        i += 1;
+// Writes a refusal and its line and column in a text, behind the program's name. Where the output has room for the longest tree, 15 is a longer one.
+pub fn print_in_text(rt: &impl Eprint, text: &[u8], refusal: Refusal) -> io::Result<()> {
+    let Position { line, column } = position_of(text, refusal.place);
+    let number = refusal.reason.number();
+    let reason = refusal.reason;
+    match reason {
+        Reason::OutputShort => eprint!(rt; ": refused with number {number}, tree too long")?,
+        _ => eprint!(rt; ": refused with number {number}, {reason}")?,
     }
-    at
-}
-
-// Writes a refusal and its line and column in a text, behind the program's name.
-pub fn print_in_text(rt: &impl Eprint, number: usize, text: &[u8], place: usize) -> io::Result<()>
-    requires { length text.now ≤ 8193 }
-{
-    let at = position_of(text, place);
-    let line = at.line;
-    let column = at.column;
-    eprint!(rt; ": refused with number {number}, ")?;
-    print_text_word(rt, number)?;
     eprintln!(rt; ", at line {line}, column {column}.")
 }
 
-// Writes the first bytes of an output to standard output.
+// Writes the first bytes of an output to standard output; nothing where it has fewer.
 pub fn write_first(rt: &impl Print, output: &[u8], length: usize) -> io::Result<()> {
-    if length <= output.len() {
-        rt.write_all(&output[..length])?;
+    match output.get(..length) {
+        Some(first) => rt.write_all(first),
+        None => Ok(()),
     }
-    Ok(())
 }

@@ -1,3 +1,4 @@
+pub mod Walked
 pub mod View
 pub mod Machine
 pub mod Emission

@@ -1,13 +1,14 @@
 -- What the lent memory stands for during the walk: a view of it, with symbol tables as the definition has them, and code and constants as bytes.
-use Rattle.std.specs.Prelude.{ℕ, ◌+◌, ◌≤◌, ◌≡◌, List, length}
+use Rattle.std.specs.Prelude.{ℕ, ◌+◌, ◌≤◌, ◌≡◌, List, length, Ok, Err}
 use Rattle.definition.specs.Basic.{Bytes}
 use Rattle.definition.specs.Limit.{code_size}
 use Rattle.definition.specs.SymbolTable.{Table}
 use Rattle.definition.specs.Walk.{Res, on, stop, refuse, bind, Go}
 use Rattle.scope.specs.declared.State.{State}
-use Rattle.scope.specs.declared.Walked.{Walked}
-use Rattle.scope.specs.declared.Walked.TheVariants.{On, Stop}
+use Rattle.scope.specs.Walked.{Walked}
+use Rattle.scope.specs.Walked.{stopped}
 use Rattle.scope.specs.declared.Jumped.{Jumped}
+use Rattle.definition.specs.declared.reason.Reason.{Reason}
 
 -- the global names, the latest first, and the tables of the open functions, the innermost first
 pub record Symbols : Type 0 where
@@ -25,13 +26,13 @@ view c e y s = record { code = c; session = e; symbols = y; state = s }
 
 -- the walk so far, on memory that stands for this
 abbrev pub ended : Bytes → Bytes → Symbols → Walked → Res View (Unit {0})
-ended c e y (On s) = on tt (view c e y s)
-ended c e y (Stop r s) = stop r (view c e y s)
+ended c e y (Ok s) = on tt (view c e y s)
+ended c e y (Err z) = stop z.refusal (view c e y z.state)
 
 -- a jump that was emitted, with its position
 abbrev pub ended_at : Bytes → Bytes → Symbols → Walked → ℕ → Res View ℕ
-ended_at c e y (On s) at = on at (view c e y s)
-ended_at c e y (Stop r s) at = stop r (view c e y s)
+ended_at c e y (Ok s) at = on at (view c e y s)
+ended_at c e y (Err z) at = stop z.refusal (view c e y z.state)
 
 -- a step after what there is
 abbrev pub then : Res View (Unit {0}) → Go View → Res View (Unit {0})
@@ -44,8 +45,8 @@ pub record Fits (s : State) : Type 0 where
   pub prev : s.chunk.prev ≤ s.chunk.last
 
 abbrev pub Sound : Walked → Type 0
-Sound (On s) = Fits s
-Sound (Stop r s) = Unit {0}
+Sound (Ok s) = Fits s
+Sound (Err z) = Unit {0}
 
 -- what each step needs of the code area
 pub record Ready (c : Bytes) (w : Walked) : Type 0 where
@@ -63,8 +64,8 @@ abbrev pub outline : State → Outline
 outline s = record { level = s.level; constants = s.constants; names_end = s.names_end; pool_end = s.pool_end }
 
 abbrev pub outline_of : Walked → Outline
-outline_of (On s) = outline s
-outline_of (Stop r s) = outline s
+outline_of (Ok s) = outline s
+outline_of (Err z) = outline z.state
 
 -- a step on the code area alone: the machine's step, whatever session and symbols are
 pub record Done (c c' : Bytes) (w r : Walked) (k : Go View) : Type 0 where
@@ -79,7 +80,7 @@ pub record Jumps (c c' : Bytes) (w : Walked) (r : Jumped) (k : View → Res View
   pub same : outline_of r.walked ≡ outline_of w
 
 -- a refusal, whatever the memory stands for
-pub record Refuses (w r : Walked) (number place : ℕ) : Type 0 where
-  pub step : (c e : Bytes) (y : Symbols) → ended c e y r ≡ then (ended c e y w) (refuse number place)
+pub record Refuses (w r : Walked) (reason : Reason) (place : ℕ) : Type 0 where
+  pub step : (c e : Bytes) (y : Symbols) → ended c e y r ≡ then (ended c e y w) (refuse reason place)
   pub sound : Sound r
   pub same : outline_of r ≡ outline_of w

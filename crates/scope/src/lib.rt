@@ -14,7 +14,7 @@ mod emission;
 mod instruction;
 mod operators;
 
-use definition::number;
+use definition::{Reason, Refusal};
 use opcode::opcodes;
 use opcode::table::NO_INSTRUCTION;
 
@@ -41,12 +41,15 @@ pub struct State {
     pub pool_end: u32,
 }
 
-// The walk so far: it goes on in a state, or has stopped at a refusal, in the state where it stopped.
+// Where a walk has stopped: the refusal, and the state then.
 #[derive(Clone, Copy)]
-pub enum Walked {
-    On(State),
-    Stop(definition::Refusal, State),
+pub struct Stopped {
+    pub refusal: Refusal,
+    pub state: State,
 }
+
+// The walk so far: the state in which it goes on, or where it has stopped.
+pub type Walked = Result<State, Stopped>;
 
 // A jump that was emitted, and its position in its chunk.
 #[derive(Clone, Copy)]
@@ -59,13 +62,7 @@ pub struct Jumped {
 fn with_chunk(s: State, c: Chunk) -> State
     ensures { result ≡ Machine.with_chunk c s }
 {
-    State {
-        chunk: c,
-        level: s.level,
-        constants: s.constants,
-        names_end: s.names_end,
-        pool_end: s.pool_end,
-    }
+    State { chunk: c, ..s }
 }
 
 // The chunk without its last instruction.
@@ -100,31 +97,20 @@ fn position(w: Walked) -> usize
     ensures { result ≡ length_of w }
 {
     match w {
-        Walked::On(s) => {
-            let c = s.chunk;
-            c.len as usize
-        }
-        Walked::Stop(r, s) => {
-            let c = s.chunk;
-            c.len as usize
-        }
+        Ok(s) => s.chunk.len as usize,
+        Err(z) => z.state.chunk.len as usize,
     }
 }
 
 // The walk stops here, if it has not stopped before.
-pub fn refuse(w: Walked, number: usize, place: usize) -> Walked
-    ensures { Refuses w result number place }
+pub fn refuse(w: Walked, reason: Reason, place: usize) -> Walked
+    ensures { Refuses w result reason place }
 {
-    match w {
-        Walked::On(s) => Walked::Stop(
-            definition::Refusal {
-                number: number,
-                place: place,
-            },
-            s,
-        ),
-        Walked::Stop(r, s) => w,
-    }
+    let state = w?;
+    Err(Stopped {
+        refusal: Refusal { reason, place },
+        state,
+    })
 }
 
 // Emits an instruction, with the `n` operand bytes that its first byte has.
@@ -141,25 +127,18 @@ fn emit_instruction(
     requires n_value { n ≡ width op }
     ensures { Done code.old code.new w result (Machine.emit place (instr op a b)) }
 {
-    match w {
-        Walked::On(s) => {
-            let c = s.chunk;
-            let i = instruction::Instruction {
-                op: op,
-                operands: n,
-                a: a,
-                b: b,
-            };
-            let e = emission::emit_lent(code, c, i);
-            let room = e.room;
-            if room {
-                let next = e.chunk;
-                return Walked::On(with_chunk(s, next));
-            }
-            refuse(w, number::CODE, place)
-        }
-        Walked::Stop(r, s) => w,
+    let s = w?;
+    let i = instruction::Instruction {
+        op,
+        operands: n,
+        a,
+        b,
+    };
+    let e = emission::emit_lent(code, s.chunk, i);
+    if e.room {
+        return Ok(with_chunk(s, e.chunk));
     }
+    refuse(Ok(s), Reason::Code, place)
 }
 
 // Emits an instruction without operands.
@@ -225,15 +204,9 @@ pub fn patch(code: &mut [u8], w: Walked, at: usize) -> Walked
     requires { Ready code.old w }
     ensures { Done code.old code.new w result (λ v. on tt (Machine.patch at v)) }
 {
-    match w {
-        Walked::On(s) => {
-            let c = s.chunk;
-            let e = emission::patch_lent(code, c, at);
-            let next = e.chunk;
-            Walked::On(with_chunk(s, next))
-        }
-        Walked::Stop(r, s) => w,
-    }
+    let s = w?;
+    let e = emission::patch_lent(code, s.chunk, at);
+    Ok(with_chunk(s, e.chunk))
 }
 
 // Emits a Jump, and patches the jump from before behind it.
@@ -255,19 +228,15 @@ pub fn drop_pop(code: &mut [u8], w: Walked, place: usize) -> Walked
     requires { Ready code.old w }
     ensures { Done code.old code.new w result (Machine.dropped place) }
 {
-    match w {
-        Walked::On(s) => {
-            let c = s.chunk;
-            if last_is(code, c, opcodes::POP) {
-                return Walked::On(without_last(s));
-            }
-            if last_is(code, c, opcodes::RETURN_VALUE) {
-                return w;
-            }
-            refuse(w, number::NO_VALUE, place)
-        }
-        Walked::Stop(r, s) => w,
+    let s = w?;
+    let c = s.chunk;
+    if last_is(code, c, opcodes::POP) {
+        return Ok(without_last(s));
     }
+    if last_is(code, c, opcodes::RETURN_VALUE) {
+        return Ok(s);
+    }
+    refuse(Ok(s), Reason::NoValue, place)
 }
 
 // Ends a function's chunk: its last Pop becomes ReturnValue; where ReturnValue isn't last, Return follows.
@@ -275,21 +244,17 @@ pub fn returned(code: &mut [u8], w: Walked, place: usize) -> Walked
     requires { Ready code.old w }
     ensures { Done code.old code.new w result (Machine.returned place) }
 {
-    match w {
-        Walked::On(s) => {
-            let c = s.chunk;
-            if last_is(code, c, opcodes::POP) {
-                let at = (c.start + c.last) as usize;
-                code[at] = opcodes::RETURN_VALUE;
-                return w;
-            }
-            if last_is(code, c, opcodes::RETURN_VALUE) {
-                return w;
-            }
-            emit(code, w, place, opcodes::RETURN)
-        }
-        Walked::Stop(r, s) => w,
+    let s = w?;
+    let c = s.chunk;
+    if last_is(code, c, opcodes::POP) {
+        let at = (c.start + c.last) as usize;
+        code[at] = opcodes::RETURN_VALUE;
+        return Ok(s);
     }
+    if last_is(code, c, opcodes::RETURN_VALUE) {
+        return Ok(s);
+    }
+    emit(code, Ok(s), place, opcodes::RETURN)
 }
 
 // Emits a boolean's instruction.
@@ -307,7 +272,7 @@ fn operator(code: &mut [u8], w: Walked, place: usize, op: u8) -> Walked
     ensures { Done code.old code.new w result (operate Machine.machine place (opcode_of op)) }
 {
     if op == NO_INSTRUCTION {
-        return refuse(w, number::OPERATOR, place);
+        return refuse(w, Reason::Operator, place);
     }
     emit(code, w, place, op)
 }

@@ -17,7 +17,7 @@ use Rattle.definition.specs.Decode.{Decoded, decoded, malformed, read_session}
 use Rattle.definition.specs.Compile.{Outcome, enough, compile}
 use Rattle.definition.specs.Call.{Lent, Called, Made, cleared, request, answered, in_session, call, not_made, begins, made}
 use Rattle.definition.specs.Series.{Call, session_after, session_made, lent, AllAlike, shapes, Indistinguishable}
-use Rattle.definition.specs.declared.Answer.{Answer}
+use Rattle.definition.specs.Answer.{Answer}
 use Rattle.definition.proofs.Basic.{chosen, pick_true, both_left, both_right}
 use Rattle.definition.proofs.Sessions.{session_length}
 use Rattle.definition.proofs.Steps.{begun-valid, compile-fits}

@@ -1,6 +1,7 @@
 -- A row of trees: its calls are a series, and the loop over it.
-use Prim.Native.Nat.{ℕ, ◌+◌, ◌-◌, ◌≤◌, ◌<◌}
+use Prim.Native.Nat.{ℕ, ◌+◌, ◌-◌, ◌≤◌, ◌<◌, min}
 use native.Mathlib.Omega.{arith}
+use native.Mathlib.Nat.{min-eq_left, min-eq_right}
 use native.Mathlib.Numerals.{add-one}
 use mathlib.Core.Bool.{Bool, true, false}
 use mathlib.Core.List.{List, [], ◌∷◌, ◌++◌}
@@ -9,12 +10,12 @@ use lib.Dec.{leb}
 use lib.ListN.{length, take, drop, get_or, take-append-drop, length-drop, drop_of_length-le}
 use lib.Seq.{take_all, length-take-le, drop-drop, drop-cons}
 use borrow.Author.Tests.{leb-true, leb-false}
-use Rattle.definition.specs.Basic.{Bytes, pick}
+use Rattle.definition.specs.Basic.{Bytes}
 use Rattle.definition.specs.Limit.{session_size}
 use Rattle.definition.specs.Call.{Lent, Called, call}
 use Rattle.definition.specs.Output.{over}
 use Rattle.definition.specs.Series.{Call, session_before, session_after, session_made, lent}
-use Rattle.definition.specs.declared.Answer.{Answer}
+use Rattle.definition.specs.Answer.{Answer}
 use Rattle.definition.proofs.Basic.{chosen, pick_true}
 use Rattle.compiler.specs.Promise.{Compiles, Makes, Ran}
 use Rattle.compiler.specs.Stage.{lent_of}
@@ -60,7 +61,7 @@ pub record RowLoop (trees : Bytes) (lengths : List ℕ) (x₀ x : Called) (at k 
 pub row-begins : (trees : Bytes) (lengths : List ℕ) (x : Called) → RowLoop trees lengths x x 0 0
 row-begins trees lengths x = record { within = omega arith; decides = refl; session = refl; output = refl; code = refl; table = refl }
 
-module _ (trees : Bytes) (at n size : ℕ) (h : at ≤ length trees) (e : size ≡ pick (leb n (length trees - at)) n (length trees - at)) where
+module _ (trees : Bytes) (at n size : ℕ) (h : at ≤ length trees) (e : size ≡ min n (length trees - at)) where
   -- the part that is lent is the tree, and what is behind it is left
   pub record Cut : Type 0 where
     pub tree : take size (drop at trees) ≡ take n (drop at trees)
@@ -68,14 +69,16 @@ module _ (trees : Bytes) (at n size : ℕ) (h : at ≤ length trees) (e : size �
     pub fits : at + size ≤ length trees
 
   pub cut : Cut
-  cut = go (leb n (length trees - at)) refl e
+  cut = go (leb n (length trees - at)) refl
     where
-      go : (b : Bool) → leb n (length trees - at) ≡ b → size ≡ pick b n (length trees - at) → Cut
-      go true t s =
+      go : (b : Bool) → leb n (length trees - at) ≡ b → Cut
+      go true t =
           let r = leb-true n (length trees - at) t in
+          let s = e ∙ min-eq_left r in
           record { tree = ap (λ k. take k (drop at trees)) s; left = ap (λ k. drop (at + k) trees) s ∙ sym (drop-drop n at trees); fits = omega arith }
-      go false t s =
+      go false t =
           let r = leb-false n (length trees - at) t in
+          let s : size ≡ length trees - at = e ∙ min-eq_right (omega arith) in
           let l = length-drop at trees in
           let long : length (drop at trees) ≤ n = omega arith in
           let all : length (drop at trees) ≤ size = omega arith in
@@ -87,7 +90,7 @@ module _ (trees : Bytes) (at n size : ℕ) (h : at ≤ length trees) (e : size �
 
 module _ (trees : Bytes) (lengths : List ℕ) {x₀ x : Called} {at k : ℕ} (i : RowLoop trees lengths x₀ x at k) (more : k < length lengths) where
   -- a turn
-  pub row-turns : {size : ℕ} {r : Answer} {l' : Lent} → size ≡ pick (leb (get_or lengths k 0) (length trees - at)) (get_or lengths k 0) (length trees - at)
+  pub row-turns : {size : ℕ} {r : Answer} {l' : Lent} → size ≡ min (get_or lengths k 0) (length trees - at)
       → Compiles (take (at + size - at) (drop at trees)) x.lent r l'
       → length l'.session ≡ length x.lent.session → length l'.output ≡ length x.lent.output → length l'.code ≡ length x.lent.code → length l'.table ≡ length x.lent.table
       → RowLoop trees lengths x₀ (record { answer = r; lent = l' }) (at + size) (k + 1)

@@ -3,7 +3,7 @@ use Rattle.std.specs.Prelude.{ℕ, List, [], ◌∷◌, ◌≡◌, length, take,
 use Rattle.definition.specs.Basic.{Bytes}
 use Rattle.definition.specs.Call.{Lent, Called, call, made}
 use Rattle.definition.specs.Series.{Call, session_made}
-use Rattle.definition.specs.declared.Answer.{Answer}
+use Rattle.definition.specs.Answer.{Answer}
 use Rattle.compiler.specs.Promise.{Ran}
 
 -- the trees of a row, by their lengths; one that passes the row's end is what is left

@@ -1,22 +1,15 @@
 -- Heads and fields, as they are stored.
-use Prim.Native.Nat.{ℕ, suc, ◌+◌, ◌/◌, ◌%◌, ◌≤◌}
+use Prim.Native.Nat.{ℕ, ◌+◌, ◌≤◌}
 use native.Mathlib.Omega.{arith}
 use mathlib.Core.List.{◌++◌, append_assoc}
 use mathlib.Core.Path.{◌≡◌, refl, sym, ap, ◌∙◌}
-use lib.ListN.{length, set, take, drop, length-append}
+use lib.ListN.{length, take, drop, length-append}
 use lib.Seq.{sets, take_at, drop_at}
 use Rattle.definition.specs.Basic.{Bytes}
 use Rattle.definition.specs.Output.{over}
 use Rattle.definition.specs.Field.{field}
 use Rattle.session.specs.Write.{heading}
 use Rattle.session.proofs.Stores.{sets_append, sets_over}
-
--- a head, byte by byte
-pub head-stored : (l : Bytes) (i t n : ℕ) → set (set (set l i t) (i + 1) (n / 256 % 256)) (i + 2) (n % 256) ≡ sets l i (heading t n)
-head-stored l i t n =
-    let one : i + 1 ≡ suc i = omega arith in
-    let two : i + 2 ≡ suc (suc i) = omega arith in
-    λ j. set (set (set l i t) (one j) (n / 256 % 256)) (two j) (n % 256)
 
 -- a head, then the content
 pub field_stored : (l : Bytes) {m r : Bytes} (i t : ℕ) (c : Bytes) → m ≡ sets l i (heading t (length c)) → r ≡ sets m (i + 3) c → r ≡ sets l i (field t c)

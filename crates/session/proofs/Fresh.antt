@@ -15,13 +15,13 @@ use Rattle.definition.specs.Number.{refusal}
 use Rattle.definition.specs.Tag.{tag_words, tag_names, tag_pool}
 use Rattle.definition.specs.Field.{field}
 use Rattle.definition.specs.Session.{listed, begun, fresh, names_bytes, session_fields, session_bytes}
-use Rattle.definition.specs.declared.Answer.TheVariants.{Length, Refused}
+use Rattle.std.specs.Prelude.{Ok, Err}
 use Rattle.definition.proofs.Basic.{pick_true, pick_false}
 use Rattle.session.specs.Write.{heading}
 use Rattle.session.proofs.Stores.{sets_append, sets_front, sets_over}
 
 -- a short buffer is refused and left as it was
-pub made_short : (s : Bytes) → length s < session_size → made s ≡ record { answer = Refused (refusal Number.short_buffer 0); session = s }
+pub made_short : (s : Bytes) → length s < session_size → made s ≡ record { answer = Err (refusal Number.short_buffer 0); session = s }
 unfolding made
 made_short s h = pick_false _ _ (lt-leb session_size (length s) h)
 
@@ -39,7 +39,7 @@ zeros_under s fields h l =
 
 -- zeros over 65,536 bytes, and the two heads
 pub made-fresh : (s : Bytes) {z h r : Bytes} → session_size ≤ length s → z ≡ sets s 0 (replicate session_size 0) → h ≡ sets z 0 (heading tag_names 0) → r ≡ sets h 3 (heading tag_pool 0)
-    → made s ≡ record { answer = Length session_size; session = r }
+    → made s ≡ record { answer = Ok session_size; session = r }
 unfolding made
 made-fresh s {z} {h} {r} e p q t =
     let done : r ≡ over (session_bytes fresh) s =
@@ -48,7 +48,7 @@ made-fresh s {z} {h} {r} e p q t =
     ∙ sets_append z 0 (heading tag_names 0) (heading tag_pool 0) refl
     ∙ ap (λ m. sets m 0 (session_fields fresh)) p
     ∙ zeros_under s (session_fields fresh) (omega arith) e in
-    pick_true _ _ (le-leb session_size (length s) e) ∙ (λ i. record { answer = Length session_size; session = sym done i })
+    pick_true _ _ (le-leb session_size (length s) e) ∙ (λ i. record { answer = Ok session_size; session = sym done i })
 
 -- zeros, the words' field, and the two heads
 pub begun_session : (s words : Bytes) {z f h r : Bytes} {n : ℕ} → session_size ≤ length s → length words ≤ 840 → n ≡ 3 + length words → z ≡ sets s 0 (replicate session_size 0)

@@ -12,23 +12,23 @@ ghost use Rattle.definition.specs.Session.{Words, words_field};
 ghost use Rattle.session.specs.Write.{finished, written_back};
 
 use definition::limit::SESSION_SIZE;
-use definition::{Answer, Refusal, number, tag};
+use definition::{Reason, Refusal, tag};
 use words::raise;
 
 // Writes a fresh session of two fields to the first 65,536 bytes, and leaves the others; a shorter buffer is refused, and nothing in it touched.
-pub fn write_fresh(session: &mut [u8]) -> Answer
+pub fn write_fresh(session: &mut [u8]) -> Result<usize, Refusal>
     ensures { made session.old ≡ record { answer = result; session = session.new } }
 {
     if session.len() < SESSION_SIZE {
-        return Answer::Refused(Refusal {
-            number: number::SHORT_BUFFER,
+        return Err(Refusal {
+            reason: Reason::ShortBuffer,
             place: 0,
         });
     }
     zero::restore(session, 0, SESSION_SIZE);
     write::put_head(session, 0, tag::NAMES, 0);
     write::put_head(session, 3, tag::POOL, 0);
-    Answer::Length(SESSION_SIZE)
+    Ok(SESSION_SIZE)
 }
 
 // Writes the head of the names, which begin at an offset and end at another, and the pool behind them.

@@ -1,6 +1,5 @@
 // The first field of a session: its words.
-ghost use Rattle.std.specs.Prelude.{◌≡◌, List, reverse, ◌+◌, ◌≤◌, length, take};
-ghost use Rattle.std.proofs.lemmas.List.Edits.{sets};
+ghost use Rattle.std.specs.Prelude.{◌≡◌, List, reverse, ◌+◌, ◌≤◌, length};
 ghost use Rattle.definition.specs.Basic.{Bytes};
 ghost use Rattle.definition.specs.Limit.{session_size};
 ghost use Rattle.definition.specs.Output.{over};
@@ -12,18 +11,6 @@ use crate::zero::restore;
 use definition::limit::SESSION_SIZE;
 use definition::tag;
 
-// Moves the bytes before an offset up, the last one first.
-fn move_up(session: &mut [u8], end: usize, by: usize)
-    requires { by + end ≤ length session.old }
-    ensures { session.new ≡ sets session.old by (take end session.old) }
-{
-    let mut i = end;
-    while 0 < i {
-        i -= 1;
-        session[by + i] = session[i];
-    }
-}
-
 // Puts the field of document 01's six words in front of the bytes before an offset.
 pub fn raise(session: &mut [u8], end: usize)
     requires { end + 45 ≤ length session.old }
@@ -31,7 +18,7 @@ pub fn raise(session: &mut [u8], end: usize)
 {
     let six =
         b"\x42\x00\x2a\x30\x00\x03len\x30\x00\x04puts\x30\x00\x05first\x30\x00\x04last\x30\x00\x04rest\x30\x00\x04push";
-    move_up(session, end, 45);
+    session.copy_within(..end, 45);
     write::copy(session, 0, six);
 }
 

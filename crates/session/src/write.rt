@@ -18,11 +18,8 @@ pub fn put_head(out: &mut [u8], at: usize, tag: u8, len: usize)
     requires { at + 3 ≤ length out.old }
     ensures { out.new ≡ sets out.old at (heading tag len) }
 {
-    let high = (len / 256 % 256) as u8;
-    let low = (len % 256) as u8;
-    out[at] = tag;
-    out[at + 1] = high;
-    out[at + 2] = low;
+    let [high, low] = ((len % 65536) as u16).to_be_bytes();
+    out[at..at + 3].copy_from_slice(&[tag, high, low]);
 }
 
 // Writes a field.

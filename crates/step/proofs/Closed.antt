@@ -14,12 +14,13 @@ use Rattle.definition.specs.Number
 use Rattle.definition.specs.Tag.{tag_function_const}
 use Rattle.definition.specs.Opcode.{instr, op_closure}
 use Rattle.definition.specs.Walk.{Res, bind, refuse, Go}
-use Rattle.definition.specs.declared.Refusal.{Refusal}
+use Rattle.definition.specs.declared.reason.Refusal.{Refusal}
 use Rattle.symbol_table.specs.Layout.{part, originals_of, table_of, tables_of, GoodTable, Good, symbol_of, originals_at}
 use Rattle.symbol_table.proofs.Back.{length_back}
 use Rattle.scope.specs.declared.State.{State}
-use Rattle.scope.specs.declared.Walked.{Walked}
-use Rattle.scope.specs.declared.Walked.TheVariants.{On, Stop}
+use Rattle.scope.specs.Walked.{Walked}
+use Rattle.std.specs.Prelude.{Ok, Err}
+use Rattle.scope.specs.Walked.{stopped}
 use Rattle.scope.specs.View.{View, view, then, Fits, Sound, Ready, Done, Refuses}
 use Rattle.scope.specs.Machine.{here, emit, returned, add_constant, outside, function_content, loads_size, loads, close_over, leave}
 use Rattle.step.specs.declared.Added.{Added}
@@ -27,6 +28,7 @@ use Rattle.step.specs.Memory.{Rest, rest, names_of, symbols_of, settled, result,
 use Rattle.step.specs.Contract.{Adds, FineFor, LeavesBeside, outside_of, Closable, Closes}
 use Rattle.step.proofs.Loads.{captured}
 use Rattle.step.proofs.Memory.{follow, chain, stop_deeper, on_deeper, deeper_keeps, done_step, done_fine, done_keeps, done_done, fine_roomy, refuses_is}
+use Rattle.scope.specs.declared.Stopped.{Stopped}
 
 -- The innermost table, as closing reads it
 module _ (tree : Bytes) (t : List ℕ) (o s : State) (l : s.level ≡ o.level + 1) where
@@ -51,20 +53,20 @@ module _ (o : State) where
   outside-step : (tree c : Bytes) (m : Rest) (w : Walked) (k : ℕ) (g : ℕ → Go View)
       → settled (then (memory tree c m (outside_of o w)) (g k))
       ≡ settled (bind (result tree c m w k) (λ k v. g k (view v.code v.session (record { globals = v.symbols.globals; tables = tables_of tree o.level m.table }) (outside o v.state))))
-  outside-step tree c m (On s) k g = refl
-  outside-step tree c m (Stop x s) k g = refl
+  outside-step tree c m (Ok s) k g = refl
+  outside-step tree c m (Err z) k g = refl
 
   pub outside_ready : {c : Bytes} (w : Walked) → Fits o → Ready c w → Ready c (outside_of o w)
-  outside_ready (On s) f h = record { area = h.area; sound = record { room = f.room; last = f.last; prev = f.prev } }
-  outside_ready (Stop x s) f h = record { area = h.area; sound = tt }
+  outside_ready (Ok s) f h = record { area = h.area; sound = record { room = f.room; last = f.last; prev = f.prev } }
+  outside_ready (Err z) f h = record { area = h.area; sound = tt }
 
   module _ (s : State) (l : s.level ≡ o.level + 1) (n : s.names_end ≡ o.names_end) where
-    outside_keeps : (w : Walked) → Keeps (On s) w → Keeps (On o) (outside_of o w)
-    outside_keeps (On u) k = let j = k.origin u refl in let e : j.from ≡ s = cc in on_deeper (omega arith) (j.names ∙ ap (λ x. x.names_end) e ∙ n)
-    outside_keeps (Stop x u) k = stop_deeper
+    outside_keeps : (w : Walked) → Keeps (Ok s) w → Keeps (Ok o) (outside_of o w)
+    outside_keeps (Ok u) k = let j = k.origin u refl in let e : j.from ≡ s = cc in on_deeper (omega arith) (j.names ∙ ap (λ x. x.names_end) e ∙ n)
+    outside_keeps (Err z) k = stop_deeper
 
-    outside_fine : (tree : Bytes) (m : Rest) (w : Walked) → Keeps (On s) w → Fine tree m w → Fine tree m (outside_of o w)
-    outside_fine tree m (On u) k f =
+    outside_fine : (tree : Bytes) (m : Rest) (w : Walked) → Keeps (Ok s) w → Fine tree m w → Fine tree m (outside_of o w)
+    outside_fine tree m (Ok u) k f =
         let j = k.origin u refl in
         let e : j.from ≡ s = cc in
         let h : u.level ≡ o.level + 1 = omega (arith, j.level, ap (λ x. x.level) e) in
@@ -75,7 +77,7 @@ module _ (o : State) where
           area = f.area;
           pool = record { area = f.pool.area; room = f.pool.room; start = f.pool.start; end = f.pool.end };
         }
-    outside_fine tree m (Stop x u) k f = tt
+    outside_fine tree m (Err z) k f = tt
 
 -- Closing
 module _ (p params : ℕ) (c e : Bytes) (t : List ℕ) (o s : State) (l : s.level ≡ o.level + 1) where
@@ -97,7 +99,7 @@ module _ (p params : ℕ) (c e : Bytes) (t : List ℕ) (o s : State) (l : s.leve
         ap (close_over p params o (view c e (symbols_of tree (rest e t) s) s)) (inner_tables tree t o s l)
         ∙ (λ u. closed tree (leb (here o + s.chunk.len + sym h u) code_size) (length_back symbol_of (part o.level t) originals_at (get_or (part o.level t) 2 0) u))
 
-    pub close_full : {r : Walked} → code_size ≤ length c → code_size < here o + s.chunk.len + z → Refuses (On s) r Number.code p → Closes p params c c e e t o s r
+    pub close_full : {r : Walked} → code_size ≤ length c → code_size < here o + s.chunk.len + z → Refuses (Ok s) r Number.code p → Closes p params c c e e t o s r
     close_full a f d =
         rw (refuses_is d)
         (record {
@@ -108,13 +110,13 @@ module _ (p params : ℕ) (c e : Bytes) (t : List ℕ) (o s : State) (l : s.leve
         })
 
     pub close_on : {c₂ e₁ : Bytes} {a : Added} {r : Walked} → s.names_end ≡ o.names_end → here o + s.chunk.len + z ≤ code_size
-        → Adds (add_constant p tag_function_const (function_content (get_or (part o.level t) 1 0) params (take s.chunk.len (drop s.chunk.start c)))) e e₁ (On s) a
+        → Adds (add_constant p tag_function_const (function_content (get_or (part o.level t) 1 0) params (take s.chunk.len (drop s.chunk.start c)))) e e₁ (Ok s) a
         → Done c c₂ (outside_of o a.walked) r (after (get_or (part o.level t) 2 0) a.index)
         → Closes p params c c₂ e e₁ t o s r
     close_on {c₂} {e₁} {a} {r} n f x d =
         record {
           step = λ tree.
-              follow (memory tree c (rest e t) (On s)) (λ _. add_constant p tag_function_const (function_content (get_or (part o.level t) 1 0) params (take s.chunk.len (drop s.chunk.start c))))
+              follow (memory tree c (rest e t) (Ok s)) (λ _. add_constant p tag_function_const (function_content (get_or (part o.level t) 1 0) params (take s.chunk.len (drop s.chunk.start c))))
               (λ k v. after (get_or (part o.level t) 2 0) k (view v.code v.session (record { globals = v.symbols.globals; tables = tables_of tree o.level t }) (outside o v.state))) (x.step tree c t)
               (done_step tree (rest e₁ t) (outside_of o a.walked) r d ∙ outside-step o tree c (rest e₁ t) a.walked a.index (after (get_or (part o.level t) 2 0)))
               ∙ ap settled (sym (close_numbers tree ∙ ap (λ b. closed tree b (get_or (part o.level t) 2 0)) (le-leb (here o + s.chunk.len + z) code_size f)));
@@ -132,21 +134,21 @@ module _ {c e : Bytes} {t : List ℕ} {o s : State} (h : Closable c e t o s) whe
   pub few_captures : {n : ℕ} → n ≡ get_or (part o.level t) 2 0 → n ≤ free_limit
   few_captures k = omega (arith, h.sized.free)
 
-  pub closes_ready : {k : View → Res View ℕ} {e₁ : Bytes} {a : Added} → Adds k e e₁ (On s) a → Ready c (outside_of o a.walked)
+  pub closes_ready : {k : View → Res View ℕ} {e₁ : Bytes} {a : Added} → Adds k e e₁ (Ok s) a → Ready c (outside_of o a.walked)
   closes_ready {a = a} x = outside_ready o a.walked h.outer (x.ready c (record { area = h.area; sound = h.inner }))
 
 module _ (p params : ℕ) {c e : Bytes} {t : List ℕ} {o s : State} (h : Closable c e t o s) {n z : ℕ} (k : n ≡ get_or (part o.level t) 2 0) (q : z ≡ loads_size (originals_of (part o.level t) n)) where
-  pub closes_full : {r : Walked} → code_size < here o + s.chunk.len + z → Refuses (On s) r Number.code p → Closes p params c c e e t o s r
+  pub closes_full : {r : Walked} → code_size < here o + s.chunk.len + z → Refuses (Ok s) r Number.code p → Closes p params c c e e t o s r
   closes_full f d = close_full p params c e t o s h.level (rw k at q) h.area f d
 
   pub closes_on : {d : ℕ} {c₂ e₁ : Bytes} {a : Added} {r : Walked} → d ≡ get_or (part o.level t) 1 0
-      → Adds (add_constant p tag_function_const (function_content d params (take s.chunk.len (drop s.chunk.start c)))) e e₁ (On s) a → here o + s.chunk.len + z ≤ code_size
+      → Adds (add_constant p tag_function_const (function_content d params (take s.chunk.len (drop s.chunk.start c)))) e e₁ (Ok s) a → here o + s.chunk.len + z ≤ code_size
       → Done c c₂ (outside_of o a.walked) r (λ v. then (loads p (originals_of (part o.level t) n) v) (emit p (instr op_closure a.index n))) → Closes p params c c₂ e e₁ t o s r
   closes_on m x f j = close_on p params c e t o s h.level (rw k at q) h.names f (rw m at x) (rw k at j)
 
 -- Leaving
 module _ (p : ℕ) {c c₁ e : Bytes} {t : List ℕ} {o w v : Walked} (d : Done c c₁ w v (returned p)) where
-  pub leave_closable : {q s : State} → Sound o → Deeper 1 o w → FineFor (rest e t) w → o ≡ On q → v ≡ On s → Closable c₁ e t q s
+  pub leave_closable : {q s : State} → Sound o → Deeper 1 o w → FineFor (rest e t) w → o ≡ Ok q → v ≡ Ok s → Closable c₁ e t q s
   leave_closable {q} {s} a k g i j =
       let x = (deeper_keeps k (done_keeps g.tree (rest e t) w v d)).origin s j in
       let y : x.from ≡ q = cc in
@@ -164,7 +166,7 @@ module _ (p : ℕ) {c c₁ e : Bytes} {t : List ℕ} {o w v : Walked} (d : Done 
       }
 
   module _ (n : ℕ) where
-    pub leave-on : {c₂ e' : Bytes} {q s : State} {r : Walked} → o ≡ On q → v ≡ On s → Closes p n c₁ c₂ e e' t q s r → LeavesBeside p n c c₂ e e' t o w r
+    pub leave-on : {c₂ e' : Bytes} {q s : State} {r : Walked} → o ≡ Ok q → v ≡ Ok s → Closes p n c₁ c₂ e e' t q s r → LeavesBeside p n c c₂ e e' t o w r
     unfolding leave
     leave-on {q = q} {s = s} i j x =
         record {
@@ -182,10 +184,11 @@ module _ (p : ℕ) {c c₁ e : Bytes} {t : List ℕ} {o w v : Walked} (d : Done 
         }
 
     -- a function that was stopped inside
-    pub leave_stop : {q : State} {y : Refusal} {s : State} → o ≡ On q → v ≡ Stop y s → LeavesBeside p n c c₁ e e t o w (Stop y s)
+    pub leave_stop : {q : State} {z : Stopped} → o ≡ Ok q → v ≡ Err z → LeavesBeside p n c c₁ e e t o w v
     unfolding leave
-    leave_stop {y = y} {s = s} i j =
-        record {
+    leave_stop i j =
+        rw j
+        (record {
           leaves = λ tree f.
               record {
                 step = λ u k. chain (memory tree c (rest e t) w) (returned p) (λ v. close_over p n u.state v v.symbols.tables) (ap (memory tree c₁ (rest e t)) (sym j) ∙ done_step tree (rest e t) w v d) refl;
@@ -194,11 +197,11 @@ module _ (p : ℕ) {c c₁ e : Bytes} {t : List ℕ} {o w v : Walked} (d : Done 
                 fine = tt;
                 keeps = stop_deeper;
               };
-        }
+        })
 
     -- or outside: nothing is closed
-    pub leave_none : {y : Refusal} {s : State} → o ≡ Stop y s → Deeper 1 o w → LeavesBeside p n c c₁ e e t o w v
-    leave_none {y} {s} i k =
+    pub leave_none : {z : Stopped} → o ≡ Err z → Deeper 1 o w → LeavesBeside p n c c₁ e e t o w v
+    leave_none i k =
         record {
           leaves = λ tree f.
               record {
@@ -210,9 +213,9 @@ module _ (p : ℕ) {c c₁ e : Bytes} {t : List ℕ} {o w v : Walked} (d : Done 
               };
         }
       where
-        never : {u : State} → o ≡ On u → ⊥
+        never : {u : State} → o ≡ Ok u → ⊥
         never j = let z : ◌≡◌ {A = ℕ} 0 1 = cc in omega arith
 
         stays : (tree : Bytes) (w : Walked) → Deeper 1 o w → settled (then (memory tree c (rest e t) w) (returned p)) ≡ memory tree c (rest e t) w
-        stays tree (On u) k = absurd (never (k.origin u refl).is)
-        stays tree (Stop x u) k = refl
+        stays tree (Ok u) k = absurd (never (k.origin u refl).is)
+        stays tree (Err z) k = refl

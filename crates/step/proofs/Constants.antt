@@ -14,11 +14,12 @@ use Rattle.definition.specs.Number
 use Rattle.definition.specs.Field.{field}
 use Rattle.definition.specs.Opcode.{instr, op_constant}
 use Rattle.definition.specs.Walk.{Res, on, refuse}
-use Rattle.definition.specs.declared.Refusal.{Refusal}
+use Rattle.definition.specs.declared.reason.Refusal.{Refusal}
 use Rattle.field.specs.Layout.{content}
 use Rattle.scope.specs.declared.State.{State}
-use Rattle.scope.specs.declared.Walked.{Walked}
-use Rattle.scope.specs.declared.Walked.TheVariants.{On, Stop}
+use Rattle.scope.specs.Walked.{Walked}
+use Rattle.std.specs.Prelude.{Ok, Err}
+use Rattle.scope.specs.Walked.{stopped}
 use Rattle.scope.specs.View.{View, view, Refuses, Done}
 use Rattle.scope.specs.Machine.{with_constant, add_constant, emit, literal}
 use Rattle.session.proofs.Stores.{take_sets}
@@ -26,6 +27,7 @@ use Rattle.step.specs.declared.Added.{Added}
 use Rattle.step.specs.Memory.{rest, symbols_of, memory, Roomy, FineState, Fine}
 use Rattle.step.specs.Contract.{Steps, StepsBeside, has_room, Adds}
 use Rattle.step.proofs.Memory.{follow, with_value, stop_deeper, on_deeper, keeps_refl, deeper_keeps, done_steps, refuses_is}
+use Rattle.scope.specs.declared.Stopped.{Stopped}
 
 -- two tests of one order
 leb_iff : (a b c d : ℕ) → (a ≤ b → c ≤ d) → (c ≤ d → a ≤ b) → leb a b ≡ leb c d
@@ -63,7 +65,7 @@ module _ (n : ℕ) (s : State) where
       go false e r = (leb-false constants_limit s.constants e, leb-true (s.pool_end + (3 + n)) (s.names_end + 3 + pool_limit) r)
 
 -- What the code needs on the way
-module _ {e : Bytes} {w : Walked} {s : State} (q : w ≡ On s) (m : Roomy e w) where
+module _ {e : Bytes} {w : Walked} {s : State} (q : w ≡ Ok s) (m : Roomy e w) where
   pub roomy_start : s.names_end + 3 ≤ s.pool_end
   roomy_start = (m.pool s q).start
 
@@ -109,8 +111,8 @@ module _ (p tag : ℕ) (b e : Bytes) where
         pool = record { area = simp length-sets f.pool.area; room = f.pool.room; start = omega (arith, f.pool.start); end = h };
       }
 
-  module _ {w : Walked} {s : State} (q : w ≡ On s) where
-    pub adds_on : (n : ℕ) {t : Bool} {e' : Bytes} {a : Added} → Roomy e w → n ≡ length b → t ≡ has_room n s → t ≡ true → e' ≡ sets e s.pool_end (field tag b) → a ≡ record { walked = On (with_constant n s); index = s.constants }
+  module _ {w : Walked} {s : State} (q : w ≡ Ok s) where
+    pub adds_on : (n : ℕ) {t : Bool} {e' : Bytes} {a : Added} → Roomy e w → n ≡ length b → t ≡ has_room n s → t ≡ true → e' ≡ sets e s.pool_end (field tag b) → a ≡ record { walked = Ok (with_constant n s); index = s.constants }
         → Adds (add_constant p tag b) e e' w a
     adds_on n m l o y st i =
         let y' : has_room (length b) s ≡ true = rw (sym l) (sym o ∙ y) in
@@ -124,7 +126,7 @@ module _ (p tag : ℕ) (b e : Bytes) where
           keeps = on_deeper (omega arith) refl;
         })
 
-    pub adds_full : (n : ℕ) {i : ℕ} {t : Bool} {r : Walked} → n ≡ length b → t ≡ has_room n s → t ≡ false → Refuses (On s) r Number.pool p → Adds (add_constant p tag b) e e w (record { walked = r; index = i })
+    pub adds_full : (n : ℕ) {i : ℕ} {t : Bool} {r : Walked} → n ≡ length b → t ≡ has_room n s → t ≡ false → Refuses (Ok s) r Number.pool p → Adds (add_constant p tag b) e e w (record { walked = r; index = i })
     adds_full n l o y d =
         let y' : has_room (length b) s ≡ false = rw (sym l) (sym o ∙ y) in
         rw (q, refuses_is d)
@@ -136,7 +138,7 @@ module _ (p tag : ℕ) (b e : Bytes) where
         })
 
 -- a walk that has stopped stays as it is
-pub adds_stop : {k : View → Res View ℕ} {e : Bytes} {w : Walked} {x : Refusal} {s : State} {i : ℕ} → w ≡ Stop x s → Adds k e e w (record { walked = Stop x s; index = i })
+pub adds_stop : {k : View → Res View ℕ} {e : Bytes} {w : Walked} {z : Stopped} {i : ℕ} → w ≡ Err z → Adds k e e w (record { walked = w; index = i })
 adds_stop q = rw q (record { step = λ tree c t. refl; ready = λ c h. h; fine = λ tree t f. f; keeps = keeps_refl _ })
 
 -- Constant after its constant

@@ -19,8 +19,9 @@ use Rattle.definition.specs.Walk.{Res, on, stop, bind, refuse}
 use Rattle.definition.proofs.Basic.{both_left}
 use Rattle.definition.proofs.Instructions.{size-bytes}
 use Rattle.scope.specs.declared.State.{State}
-use Rattle.scope.specs.declared.Walked.{Walked}
-use Rattle.scope.specs.declared.Walked.TheVariants.{On, Stop}
+use Rattle.scope.specs.Walked.{Walked}
+use Rattle.std.specs.Prelude.{Ok, Err}
+use Rattle.scope.specs.Walked.{stopped}
 use Rattle.scope.specs.View.{View, view, outline}
 use Rattle.scope.specs.Machine.{here, put, emit, last_is, returned, with_constant, add_constant, outside, chunk_bytes, function_content, loads_size, loads, close_over, leave}
 use Rattle.step.specs.Memory.{Rest, rest, state_of, symbols_of, no_symbols, settled, memory}
@@ -252,16 +253,16 @@ leave_framed p params o v = go (returned p v) (returned_completes p v) (is_compl
 
 module _ (tree c : Bytes) (m : Rest) where
   shows_code : (w : Walked) → (view_in (memory tree c m w)).code ≡ c
-  shows_code (On s) = refl
-  shows_code (Stop x s) = refl
+  shows_code (Ok s) = refl
+  shows_code (Err z) = refl
 
   shows_session : (w : Walked) → (view_in (memory tree c m w)).session ≡ m.session
-  shows_session (On s) = refl
-  shows_session (Stop x s) = refl
+  shows_session (Ok s) = refl
+  shows_session (Err z) = refl
 
   shows_state : (w : Walked) → (view_in (memory tree c m w)).state ≡ state_of w
-  shows_state (On s) = refl
-  shows_state (Stop x s) = refl
+  shows_state (Ok s) = refl
+  shows_state (Err z) = refl
 
 -- nobody changes a byte by settling
 module _ {A : Type 0} where
@@ -287,7 +288,7 @@ same_alone tree c c' e e' t o w r h =
 
 -- the promise says which bytes there are: no others have changed
 leaves_alone : {p n : ℕ} {c c' e e' : Bytes} {t : List ℕ} (o w r : Walked) → FineFor (rest e t) w → LeavesBeside p n c c' e e' t o w r → LeavesAlone c c' e e' o w r
-leaves_alone {p} {n} {c} {c'} {e} {e'} {t} (On q) (On s) r f h =
+leaves_alone {p} {n} {c} {c'} {e} {e'} {t} (Ok q) (Ok s) r f h =
     let a = f.tree in
     let o = view c e no_symbols q in
     let v = view c e (symbols_of a (rest e t) s) s in
@@ -298,11 +299,11 @@ leaves_alone {p} {n} {c} {c'} {e} {e'} {t} (On q) (On s) r f h =
     let j : (view_in x).session ≡ e' = sym (settled_session x) ∙ sym (ap (λ x. (view_in x).session) z) ∙ shows_session a c' (rest e' t) r in
     let i : (view_in x).state ≡ state_of r = sym (settled_state x) ∙ sym (ap (λ x. (view_in x).state) z) ∙ shows_state a c' (rest e' t) r in
     record {
-      code = subst (λ y. Unchanged (code_ranges c (On q) (On s) (state_of r)) c y) k (subst (λ u. Unchanged (code_ranges c (On q) (On s) u) c (view_in x).code) i g.code);
-      session = subst (λ y. Unchanged (session_ranges (On s) (state_of r)) e y) j (subst (λ u. Unchanged (session_ranges (On s) u) e (view_in x).session) i g.session);
+      code = subst (λ y. Unchanged (code_ranges c (Ok q) (Ok s) (state_of r)) c y) k (subst (λ u. Unchanged (code_ranges c (Ok q) (Ok s) u) c (view_in x).code) i g.code);
+      session = subst (λ y. Unchanged (session_ranges (Ok s) (state_of r)) e y) j (subst (λ u. Unchanged (session_ranges (Ok s) u) e (view_in x).session) i g.session);
     }
-leaves_alone {c = c} {c'} {e} {e'} {t} (On q) (Stop x s) r f h = same_alone f.tree c c' e e' t (On q) (Stop x s) r ((h.leaves f.tree f.fine).step (view c e no_symbols q) refl)
-leaves_alone {c = c} {c'} {e} {e'} {t} (Stop y q) w r f h = same_alone f.tree c c' e e' t (Stop y q) w r ((h.leaves f.tree f.fine).stopped y q refl)
+leaves_alone {c = c} {c'} {e} {e'} {t} (Ok q) (Err z) r f h = same_alone f.tree c c' e e' t (Ok q) (Err z) r ((h.leaves f.tree f.fine).step (view c e no_symbols q) refl)
+leaves_alone {c = c} {c'} {e} {e'} {t} (Err z) w r f h = same_alone f.tree c c' e e' t (Err z) w r ((h.leaves f.tree f.fine).stopped z.refusal z.state refl)
 
 -- both promises
 pub and_alone : {p n : ℕ} {c c' e e' : Bytes} {t : List ℕ} {o w r : Walked} → FineFor (rest e t) w → LeavesBeside p n c c' e e' t o w r → LeavesBeside p n c c' e e' t o w r × LeavesAlone c c' e e' o w r

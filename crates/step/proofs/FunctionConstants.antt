@@ -12,8 +12,8 @@ use Rattle.definition.specs.Number
 use Rattle.definition.specs.Tag.{tag_function_const}
 use Rattle.definition.specs.Field.{field}
 use Rattle.scope.specs.declared.State.{State}
-use Rattle.scope.specs.declared.Walked.{Walked}
-use Rattle.scope.specs.declared.Walked.TheVariants.{On}
+use Rattle.scope.specs.Walked.{Walked}
+use Rattle.std.specs.Prelude.{Ok}
 use Rattle.scope.specs.View.{Fits, Refuses}
 use Rattle.scope.specs.Machine.{with_constant, add_constant, function_content}
 use Rattle.session.specs.Write.{heading}
@@ -53,17 +53,17 @@ module _ (c : Bytes) (s : State) (f : Fits s) (a : code_size ≤ length c) where
   part_length : length (take (s.chunk.start + s.chunk.len - s.chunk.start) (drop s.chunk.start c)) ≡ s.chunk.len
   part_length = ap length part_bytes ∙ chunk-length
 
-  module _ {e : Bytes} {t : Bool} (m : Roomy e (On s)) (o : t ≡ has_room (3 + s.chunk.len) s) (y : t ≡ true) where
+  module _ {e : Bytes} {t : Bool} (m : Roomy e (Ok s)) (o : t ≡ has_room (3 + s.chunk.len) s) (y : t ≡ true) where
     pub function_within : s.pool_end + (3 + (3 + length (take (s.chunk.start + s.chunk.len - s.chunk.start) (drop s.chunk.start c)))) ≤ length e
     function_within = rw part_length (roomy_write refl m (3 + s.chunk.len) o y)
 
     pub function_on : (p locals params : ℕ) {e' : Bytes} {r : Added} → e' ≡ sets e s.pool_end (field tag_function_const (function_content locals params (take (s.chunk.start + s.chunk.len - s.chunk.start) (drop s.chunk.start c))))
-        → r ≡ record { walked = On (with_constant (3 + s.chunk.len) s); index = s.constants }
-        → Adds (add_constant p tag_function_const (function_content locals params (take s.chunk.len (drop s.chunk.start c)))) e e' (On s) r
+        → r ≡ record { walked = Ok (with_constant (3 + s.chunk.len) s); index = s.constants }
+        → Adds (add_constant p tag_function_const (function_content locals params (take s.chunk.len (drop s.chunk.start c)))) e e' (Ok s) r
     function_on p locals params st i =
         adds_on p tag_function_const (function_content locals params (take s.chunk.len (drop s.chunk.start c))) e refl (3 + s.chunk.len) m (omega (arith, chunk-length)) o y (rw part_bytes at st) i
 
-  pub function_full : (p locals params : ℕ) {e : Bytes} {t : Bool} {i : ℕ} {r : Walked} → t ≡ has_room (3 + s.chunk.len) s → t ≡ false → Refuses (On s) r Number.pool p
-      → Adds (add_constant p tag_function_const (function_content locals params (take s.chunk.len (drop s.chunk.start c)))) e e (On s) (record { walked = r; index = i })
+  pub function_full : (p locals params : ℕ) {e : Bytes} {t : Bool} {i : ℕ} {r : Walked} → t ≡ has_room (3 + s.chunk.len) s → t ≡ false → Refuses (Ok s) r Number.pool p
+      → Adds (add_constant p tag_function_const (function_content locals params (take s.chunk.len (drop s.chunk.start c)))) e e (Ok s) (record { walked = r; index = i })
   function_full p locals params {e} o y d =
       adds_full p tag_function_const (function_content locals params (take s.chunk.len (drop s.chunk.start c))) e refl (3 + s.chunk.len) (omega (arith, chunk-length)) o y d

@@ -11,23 +11,28 @@ use Rattle.definition.specs.Limit.{nesting_limit, arguments_limit}
 use Rattle.definition.specs.Number
 use Rattle.definition.specs.SymbolTable.{named, with_params}
 use Rattle.definition.specs.Walk.{on, refuse}
-use Rattle.definition.specs.declared.Refusal.{Refusal}
+use Rattle.definition.specs.declared.reason.Refusal.{Refusal}
 use Rattle.field.specs.Layout.{content, after}
 use Rattle.tree.specs.At.{Row, NamedAt, ParamsAt}
 use Rattle.symbol_table.specs.Name as Name
 use Rattle.symbol_table.specs.Layout.{globals_of, tables_of}
 use Rattle.symbol_table.specs.Contract as Symbol
 use Rattle.scope.specs.declared.State.{State}
-use Rattle.scope.specs.declared.Walked.{Walked}
-use Rattle.scope.specs.declared.Walked.TheVariants.{On, Stop}
+use Rattle.scope.specs.Walked.{Walked}
+use Rattle.std.specs.Prelude.{Ok, Err}
+use Rattle.scope.specs.Walked.{stopped}
 use Rattle.scope.specs.View.{view, Fits, Sound, Refuses}
 use Rattle.scope.specs.Machine.{inside, enter}
 use Rattle.step.specs.Memory.{rest, names_of, symbols_of, settled, FineState}
 use Rattle.step.specs.Contract.{HeadAt, EntersBeside}
 use Rattle.step.proofs.Memory.{stop_deeper, on_deeper, refuses_is}
+use Rattle.definition.specs.declared.reason.Reason.{Reason}
+use Rattle.scope.specs.declared.Stopped.{Stopped}
+use Rattle.std.specs.Result.{IsErrAnd}
+use Rattle.scope.proofs.Leaves.{passed_on}
 
 -- a walk that goes on has its chunk within the code area
-pub sound_on : {w : Walked} {s : State} → w ≡ On s → Sound w → Fits s
+pub sound_on : {w : Walked} {s : State} → w ≡ Ok s → Sound w → Fits s
 sound_on q h = rw q at h
 
 -- Parameters in a row
@@ -53,9 +58,9 @@ module _ {tree : Bytes} {p n : ℕ} (h : HeadAt tree p n) where
       rw (e, params_count x) (row_stands tree (after tree (p + 3) + 3) (after tree (after tree (p + 3))) h.params.0 x.names.row)
 
   -- a test that refuses
-  module _ {t : List ℕ} {w : Walked} {s : State} (q : w ≡ On s) where
-    refused_enters : {k : ℕ} {r : Walked} → ((c e : Bytes) (ps : List Bytes) → n ≡ length ps → refuse k p (view c e (symbols_of tree (rest e t) s) s) ≡ enter p (content tree (p + 3)) ps (view c e (symbols_of tree (rest e t) s) s))
-        → Refuses (On s) r k p → EntersBeside tree p t t w r
+  module _ {t : List ℕ} {w : Walked} {s : State} (q : w ≡ Ok s) where
+    refused_enters : {k : Reason} {r : Walked} → ((c e : Bytes) (ps : List Bytes) → n ≡ length ps → refuse k p (view c e (symbols_of tree (rest e t) s) s) ≡ enter p (content tree (p + 3)) ps (view c e (symbols_of tree (rest e t) s) s))
+        → Refuses (Ok s) r k p → EntersBeside tree p t t w r
     refused_enters m d =
         rw (q, refuses_is d)
         (record {
@@ -63,12 +68,12 @@ module _ {tree : Bytes} {p n : ℕ} (h : HeadAt tree p n) where
               record { step = λ ps x. ap settled (m c e ps (params_count x)); ready = record { area = a.area; sound = tt }; fine = tt; inside = stop_deeper };
         })
 
-    pub enter-nested : {r : Walked} → nesting_limit ≤ s.level → Refuses (On s) r Number.nesting p → EntersBeside tree p t t w r
+    pub enter-nested : {r : Walked} → nesting_limit ≤ s.level → Refuses (Ok s) r Number.nesting p → EntersBeside tree p t t w r
     unfolding enter
     enter-nested l d = refused_enters (λ c e ps _. rw (le-leb nesting_limit s.level l)) d
 
     module _ (l : s.level < nesting_limit) where
-      pub enter-many : {r : Walked} → arguments_limit < n → Refuses (On s) r Number.too_many p → EntersBeside tree p t t w r
+      pub enter-many : {r : Walked} → arguments_limit < n → Refuses (Ok s) r Number.too_many p → EntersBeside tree p t t w r
       unfolding enter
       enter-many g d = refused_enters (λ c e ps m. rw (lt-leb nesting_limit s.level l, lt-ltb arguments_limit (length ps) (rw m at g))) d
 
@@ -96,7 +101,7 @@ module _ {tree : Bytes} {p n : ℕ} (h : HeadAt tree p n) where
               pool = record { area = f.pool.area; room = f.pool.room; start = f.pool.start; end = f.pool.end };
             }
 
-        pub enter-on : {s' : State} → length t' ≡ length t → s' ≡ inside s → EntersBeside tree p t t' w (On s')
+        pub enter-on : {s' : State} → length t' ≡ length t → s' ≡ inside s → EntersBeside tree p t t' w (Ok s')
         enter-on k i =
             rw (q, i)
             (record {
@@ -110,5 +115,5 @@ module _ {tree : Bytes} {p n : ℕ} (h : HeadAt tree p n) where
             })
 
 -- a walk that has stopped stays as it is
-pub enter_stop : {tree : Bytes} {p : ℕ} {t : List ℕ} {w : Walked} {x : Refusal} {s : State} → w ≡ Stop x s → EntersBeside tree p t t w (Stop x s)
-enter_stop q = rw q (record { enters = λ c e a f. record { step = λ ps y. refl; ready = a; fine = f; inside = stop_deeper } })
+pub enter_stop : {tree : Bytes} {p : ℕ} {t : List ℕ} {w r : Walked} {z : Stopped} → w ≡ Err z → IsErrAnd r (λ y. y ≡ z) → EntersBeside tree p t t w r
+enter_stop q h = rw (q, passed_on h) (record { enters = λ c e a f. record { step = λ ps y. refl; ready = a; fine = f; inside = stop_deeper } })

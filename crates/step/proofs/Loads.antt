@@ -12,8 +12,9 @@ use Rattle.definition.specs.Walk.{on}
 use Rattle.definition.proofs.Instructions.{width_most}
 use Rattle.symbol_table.specs.Layout.{part, symbol_of, originals_at, originals_of}
 use Rattle.symbol_table.proofs.Back.{back_none, back_next}
-use Rattle.scope.specs.declared.Walked.{Walked}
-use Rattle.scope.specs.declared.Walked.TheVariants.{On, Stop}
+use Rattle.scope.specs.Walked.{Walked}
+use Rattle.std.specs.Prelude.{Ok, Err}
+use Rattle.scope.specs.Walked.{stopped}
 use Rattle.scope.specs.View.{Symbols, ended, then, Ready, Done}
 use Rattle.scope.specs.Machine.{emit, loads_size, loads}
 use Rattle.step.proofs.Memory.{done_done}
@@ -41,8 +42,8 @@ unfolding loads
 loads_none p r {c} {w} h = rw (originals_none r) (record { step = λ e y. same e y w; ready = h; same = refl })
   where
     same : (e : Bytes) (y : Symbols) (w : Walked) → ended c e y w ≡ then (ended c e y w) (λ v. on tt v)
-    same e y (On s) = refl
-    same e y (Stop x s) = refl
+    same e y (Ok s) = refl
+    same e y (Err z) = refl
 
 pub loads_more : (p : ℕ) (r : List ℕ) (i : ℕ) {k o a : ℕ} {c c₁ c₂ : Bytes} {w v u : Walked} → Done c c₁ w v (loads p (originals_of r i)) → k ≡ get_or r (originals_at + i) 0 → instr o a 0 ≡ load_of (symbol_of k) → Done c₁ c₂ v u (emit p (instr o a 0))
     → Done c c₂ w u (loads p (originals_of r (i + 1)))

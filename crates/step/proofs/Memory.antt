@@ -6,13 +6,18 @@ use mathlib.Core.Path.{◌≡◌, refl, sym, ap, ◌∙◌}
 use Rattle.definition.specs.Basic.{Bytes}
 use Rattle.definition.specs.Walk.{Res, on, stop, bind, Go}
 use Rattle.definition.specs.Number.{refusal}
-use Rattle.definition.specs.declared.Refusal.{Refusal}
+use Rattle.definition.specs.declared.reason.Refusal.{Refusal}
 use Rattle.scope.specs.declared.State.{State}
-use Rattle.scope.specs.declared.Walked.{Walked}
-use Rattle.scope.specs.declared.Walked.TheVariants.{On, Stop}
+use Rattle.scope.specs.Walked.{Walked}
+use Rattle.std.specs.Prelude.{Ok, Err}
+use Rattle.scope.specs.Walked.{stopped}
 use Rattle.scope.specs.View.{View, view, ended, then, outline, outline_of, Ready, Done, Refuses}
 use Rattle.step.specs.Memory.{Rest, state_of, symbols_of, no_symbols, settled, result, memory, Roomy, FineState, Fine, Deeper, Keeps}
 use Rattle.step.specs.Contract.{Steps}
+use Rattle.definition.specs.declared.reason.Reason.{Reason}
+use Rattle.scope.specs.declared.Stopped.{Stopped}
+use Rattle.std.specs.Result.{IsErrAnd}
+use Rattle.scope.proofs.Leaves.{passed_on}
 
 -- Steps in a row
 
@@ -39,13 +44,13 @@ chain x f g p q = follow x (λ _. f) (λ _. g) p q
 module _ (tree c : Bytes) (m : Rest) where
   -- a value that the next step uses
   pub with_value : {A B : Type 0} (w : Walked) (a : A) (g : A → View → Res View B) → settled (bind (memory tree c m w) (λ _. g a)) ≡ settled (bind (result tree c m w a) g)
-  with_value (On s) a g = refl
-  with_value (Stop r s) a g = refl
+  with_value (Ok s) a g = refl
+  with_value (Err z) a g = refl
 
   -- the symbols are those of the state
   memory-ended : (w : Walked) → memory tree c m w ≡ settled (ended c m.session (symbols_of tree m (state_of w)) w)
-  memory-ended (On s) = refl
-  memory-ended (Stop r s) = refl
+  memory-ended (Ok s) = refl
+  memory-ended (Err z) = refl
 
 -- Where a walk goes on
 
@@ -53,10 +58,10 @@ module _ (tree c : Bytes) (m : Rest) where
 pub no_way : {A : Type 0} {a : A} {v v' : View} {x : Refusal} → on a v ≡ stop x v' → ⊥
 no_way e = let z : ◌≡◌ {A = ℕ} 0 1 = cc in omega arith
 
-pub stop_deeper : {n : ℕ} {w : Walked} {x : Refusal} {s : State} → Deeper n w (Stop x s)
+pub stop_deeper : {n : ℕ} {w : Walked} {x : Refusal} {s : State} → Deeper n w (Err (stopped x s))
 stop_deeper = record { origin = λ t q. let z : ◌≡◌ {A = ℕ} 0 1 = cc in absurd (omega arith) }
 
-pub on_deeper : {n : ℕ} {s t : State} → t.level ≡ s.level + n → t.names_end ≡ s.names_end → Deeper n (On s) (On t)
+pub on_deeper : {n : ℕ} {s t : State} → t.level ≡ s.level + n → t.names_end ≡ s.names_end → Deeper n (Ok s) (Ok t)
 on_deeper {n} {s} {t} l m = record { origin = λ u q. let e : t ≡ u = cc in record { from = s; is = refl; level = rw (sym e) l; names = rw (sym e) m } }
 
 pub keeps_refl : (w : Walked) → Keeps w w
@@ -74,8 +79,8 @@ deeper_keeps d k =
 -- A step on the code area alone
 
 outline_state : (w : Walked) → outline_of w ≡ outline (state_of w)
-outline_state (On s) = refl
-outline_state (Stop r s) = refl
+outline_state (Ok s) = refl
+outline_state (Err z) = refl
 
 module _ (tree : Bytes) (m : Rest) where
   pub same_symbols : (s t : State) → outline t ≡ outline s → symbols_of tree m t ≡ symbols_of tree m s
@@ -106,16 +111,16 @@ module _ (tree : Bytes) {c c' : Bytes} (m : Rest) {k : Go View} where
       ∙ ap (λ x. settled (then x k)) (sym (memory-ended tree c m w))
 
   pub done_fine : (w r : Walked) → Done c c' w r k → Fine tree m w → Fine tree m r
-  done_fine (On s) (On t) d f = same_fine tree m d.same f
-  done_fine (On s) (Stop x t) d f = tt
-  done_fine (Stop x s) (On t) d f = absurd (no_way (d.step [] no_symbols))
-  done_fine (Stop x s) (Stop x' t) d f = tt
+  done_fine (Ok s) (Ok t) d f = same_fine tree m d.same f
+  done_fine (Ok s) (Err z) d f = tt
+  done_fine (Err z) (Ok t) d f = absurd (no_way (d.step [] no_symbols))
+  done_fine (Err z) (Err z₂) d f = tt
 
   pub done_keeps : (w r : Walked) → Done c c' w r k → Keeps w r
-  done_keeps (On s) (On t) d = on_deeper (omega (arith, ap (λ o. o.level) d.same)) (ap (λ o. o.names_end) d.same)
-  done_keeps (On s) (Stop x t) d = stop_deeper
-  done_keeps (Stop x s) (On t) d = absurd (no_way (d.step [] no_symbols))
-  done_keeps (Stop x s) (Stop x' t) d = stop_deeper
+  done_keeps (Ok s) (Ok t) d = on_deeper (omega (arith, ap (λ o. o.level) d.same)) (ap (λ o. o.names_end) d.same)
+  done_keeps (Ok s) (Err z) d = stop_deeper
+  done_keeps (Err z) (Ok t) d = absurd (no_way (d.step [] no_symbols))
+  done_keeps (Err z) (Err z₂) d = stop_deeper
 
 pub done_steps : {tree c c' : Bytes} {m : Rest} {k : Go View} {w r : Walked} → Fine tree m w → Done c c' w r k → Steps tree k c c' m m w r
 done_steps {tree = tree} {m = m} {w = w} {r = r} f d = record { step = λ _ _. done_step tree m w r d; ready = d.ready; fine = done_fine tree m w r d f; keeps = done_keeps tree m w r d }
@@ -126,21 +131,21 @@ done_done {c = c} {w = w} {f = f} {g = g} d h =
     record { step = λ e y. h.step e y ∙ ap (λ x. then x g) (d.step e y) ∙ assoc (ended c e y w) (λ _. f) (λ _. g); ready = h.ready; same = h.same ∙ d.same }
 
 -- a walk that has stopped stays as it is
-pub stays : {tree c : Bytes} {m : Rest} {k : Go View} {w : Walked} {x : Refusal} {s : State} → w ≡ Stop x s → Ready c w → Steps tree k c c m m w (Stop x s)
-stays {x = x} {s = s} q h = rw q (record { step = λ _ _. refl; ready = record { area = h.area; sound = tt }; fine = tt; keeps = keeps_refl (Stop x s) })
+pub stays : {tree c : Bytes} {m : Rest} {k : Go View} {w r : Walked} {z : Stopped} → w ≡ Err z → IsErrAnd r (λ y. y ≡ z) → Ready c w → Steps tree k c c m m w r
+stays {z = z} q p h = rw (q, passed_on p) (record { step = λ _ _. refl; ready = record { area = h.area; sound = tt }; fine = tt; keeps = keeps_refl (Err z) })
 
 -- a refusal is one
-pub refuses_is : {s : State} {r : Walked} {n p : ℕ} → Refuses (On s) r n p → r ≡ Stop (refusal n p) s
+pub refuses_is : {s : State} {r : Walked} {n : Reason} {p : ℕ} → Refuses (Ok s) r n p → r ≡ Err (stopped (refusal n p) s)
 refuses_is {s} {r} {n} {p} d = go r (d.step [] [] no_symbols)
   where
     state_in : Res View (Unit {0}) → State
     state_in (on a v) = v.state
     state_in (stop x v) = v.state
 
-    go : (r : Walked) → ended [] [] no_symbols r ≡ stop (refusal n p) (view [] [] no_symbols s) → r ≡ Stop (refusal n p) s
-    go (On t) e = absurd (no_way e)
-    go (Stop x t) e = let q : x ≡ refusal n p = cc in λ i. Stop (q i) (state_in (e i))
+    go : (r : Walked) → ended [] [] no_symbols r ≡ stop (refusal n p) (view [] [] no_symbols s) → r ≡ Err (stopped (refusal n p) s)
+    go (Ok t) e = absurd (no_way e)
+    go (Err z) e = let q : z.refusal ≡ refusal n p = cc in λ i. Err (stopped (q i) (state_in (e i)))
 
 -- a session in which all stands well has room for its pool
 pub fine_roomy : (tree : Bytes) (m : Rest) {w : Walked} → Fine tree m w → Roomy m.session w
-fine_roomy tree m {w} f = record { pool = λ s q. let g : Fine tree m (On s) = rw q at f in g.pool }
+fine_roomy tree m {w} f = record { pool = λ s q. let g : Fine tree m (Ok s) = rw q at f in g.pool }

@@ -12,31 +12,33 @@ use Rattle.definition.specs.Opcode.{instr}
 use Rattle.definition.specs.SymbolTable.{Table, load_of}
 use Rattle.definition.specs.Decode.{words_in}
 use Rattle.definition.specs.Walk.{refuse}
-use Rattle.definition.specs.declared.Refusal.{Refusal}
+use Rattle.definition.specs.declared.reason.Refusal.{Refusal}
 use Rattle.symbol_table.specs.Layout.{part_size, base, symbol_of, globals_of, tables_of, Good}
 use Rattle.symbol_table.specs.Contract as Symbol
-use Rattle.symbol_table.specs.Contract.{defined_of, resolved_of, HasWords, Resolves}
-use Rattle.symbol_table.specs.declared.Definition.{Definition}
-use Rattle.symbol_table.specs.declared.Definition.TheVariants.{Global, Local, GlobalsFull, LocalsFull}
-use Rattle.symbol_table.specs.declared.Lookup.{Lookup}
-use Rattle.symbol_table.specs.declared.Lookup.TheVariants.{Found}
+use Rattle.symbol_table.specs.Contract.{Lookup, Definition, defined_of, resolved_of, HasWords, Resolves}
+use Rattle.symbol_table.specs.declared.Found.{Found}
+use Rattle.symbol_table.specs.declared.Slot.TheVariants.{Global, Local}
+use Rattle.symbol_table.specs.declared.DefineError.TheVariants.{GlobalsFull, LocalsFull}
+use Rattle.std.specs.Prelude.{Ok, Err}
 use Rattle.field.specs.Layout.{content}
 use Rattle.scope.specs.declared.State.{State}
-use Rattle.scope.specs.declared.Walked.{Walked}
-use Rattle.scope.specs.declared.Walked.TheVariants.{On, Stop}
+use Rattle.scope.specs.Walked.{Walked}
+use Rattle.scope.specs.Walked.{stopped}
 use Rattle.scope.specs.View.{Symbols, View, view, Ready, Done, Refuses}
 use Rattle.scope.specs.Machine.{define, placed, with_tables, load, loaded, emit}
 use Rattle.step.specs.declared.Defining.{Defining}
 use Rattle.step.specs.Memory.{rest, names_of, symbols_of, settled, result, FineState, Fine, Keeps}
 use Rattle.step.specs.Contract.{Steps, placed_at, FineBeside, DefinesBeside}
 use Rattle.step.proofs.Memory.{stop_deeper, keeps_refl, done_steps, refuses_is}
+use Rattle.definition.specs.declared.reason.Reason.{Reason}
+use Rattle.scope.specs.declared.Stopped.{Stopped}
 
 -- the table area after a step on it, with as many open functions
 table_fine : {tree e : Bytes} {t t' : List ℕ} {s : State} → length t' ≡ length t → Good tree (names_of e s) s.level t' → FineState tree (rest e t) s → FineState tree (rest e t') s
 table_fine n g f = record { words = f.words; symbols = g; level = f.level; area = rw n f.area; pool = f.pool }
 
 -- What the code needs of the table area
-module _ {tree : Bytes} {t : List ℕ} {w : Walked} {s : State} (q : w ≡ On s) (h : FineBeside tree t w) where
+module _ {tree : Bytes} {t : List ℕ} {w : Walked} {s : State} (q : w ≡ Ok s) (h : FineBeside tree t w) where
   beside_fine : FineState tree (rest h.session t) s
   beside_fine = let f = h.fine in rw q at f
 
@@ -50,7 +52,7 @@ module _ {tree : Bytes} {t : List ℕ} {w : Walked} {s : State} (q : w ≡ On s)
   beside_good = (names_of h.session s, beside_fine.symbols)
 
 -- What a lookup needs, and the names as a part of the session
-module _ (tree e : Bytes) (t : List ℕ) {w : Walked} {s : State} (q : w ≡ On s) (f : Fine tree (rest e t) w) where
+module _ (tree e : Bytes) (t : List ℕ) {w : Walked} {s : State} (q : w ≡ Ok s) (f : Fine tree (rest e t) w) where
   fine_on : FineState tree (rest e t) s
   fine_on = rw q at f
 
@@ -71,7 +73,7 @@ module _ (p : ℕ) (s : State) (a : Definition) where
   pub placed_is : {d : Defining} {b : Definition} → a ≡ b → d ≡ placed_at p s b → d ≡ placed_at p s a
   placed_is q e = e ∙ sym (ap (placed_at p s) q)
 
-  pub placed-refused : {r : Walked} {k o i : ℕ} → Refuses (On s) r k p → record { walked = Stop (refusal k p) s; op = o; operand = i } ≡ placed_at p s a → record { walked = r; op = o; operand = i } ≡ placed_at p s a
+  pub placed-refused : {r : Walked} {k : Reason} {o i : ℕ} → Refuses (Ok s) r k p → record { walked = Err (stopped (refusal k p) s); op = o; operand = i } ≡ placed_at p s a → record { walked = r; op = o; operand = i } ≡ placed_at p s a
   placed-refused {o = o} {i = i} d e = (λ u. record { walked = refuses_is d u; op = o; operand = i }) ∙ e
 
 -- and as the machine takes it
@@ -79,30 +81,30 @@ module _ (tree c e : Bytes) (t : List ℕ) (p : ℕ) (s : State) where
   place-step : (y : Symbols) (a : Definition)
       → result tree c (rest e t) (placed_at p s a).walked (instr (placed_at p s a).op (placed_at p s a).operand 0)
       ≡ settled (placed p (view c e y s) (defined_of a (symbols_of tree (rest e t) s).globals (symbols_of tree (rest e t) s).tables))
-  place-step y (Global k) = refl
-  place-step y (Local k) = refl
-  place-step y GlobalsFull = refl
-  place-step y LocalsFull = refl
+  place-step y (Ok (Global k)) = refl
+  place-step y (Ok (Local k)) = refl
+  place-step y (Err GlobalsFull) = refl
+  place-step y (Err LocalsFull) = refl
 
-  place_ready : (a : Definition) → Ready c (On s) → Ready c (placed_at p s a).walked
-  place_ready (Global k) h = h
-  place_ready (Local k) h = h
-  place_ready GlobalsFull h = record { area = h.area; sound = tt }
-  place_ready LocalsFull h = record { area = h.area; sound = tt }
+  place_ready : (a : Definition) → Ready c (Ok s) → Ready c (placed_at p s a).walked
+  place_ready (Ok (Global k)) h = h
+  place_ready (Ok (Local k)) h = h
+  place_ready (Err GlobalsFull) h = record { area = h.area; sound = tt }
+  place_ready (Err LocalsFull) h = record { area = h.area; sound = tt }
 
   place_fine : (a : Definition) → FineState tree (rest e t) s → Fine tree (rest e t) (placed_at p s a).walked
-  place_fine (Global k) f = f
-  place_fine (Local k) f = f
-  place_fine GlobalsFull f = tt
-  place_fine LocalsFull f = tt
+  place_fine (Ok (Global k)) f = f
+  place_fine (Ok (Local k)) f = f
+  place_fine (Err GlobalsFull) f = tt
+  place_fine (Err LocalsFull) f = tt
 
-place_keeps : (p : ℕ) (s : State) (a : Definition) → Keeps (On s) (placed_at p s a).walked
-place_keeps p s (Global k) = keeps_refl (On s)
-place_keeps p s (Local k) = keeps_refl (On s)
-place_keeps p s GlobalsFull = stop_deeper
-place_keeps p s LocalsFull = stop_deeper
+place_keeps : (p : ℕ) (s : State) (a : Definition) → Keeps (Ok s) (placed_at p s a).walked
+place_keeps p s (Ok (Global k)) = keeps_refl (Ok s)
+place_keeps p s (Ok (Local k)) = keeps_refl (Ok s)
+place_keeps p s (Err GlobalsFull) = stop_deeper
+place_keeps p s (Err LocalsFull) = stop_deeper
 
-pub define-on : (p : ℕ) {tree : Bytes} {t t' : List ℕ} {w : Walked} {s : State} {a : Definition} {d : Defining} → w ≡ On s → length t' ≡ length t → Symbol.Defines tree s.level (p + 3) a t t' → d ≡ placed_at p s a → DefinesBeside tree p t t' w d
+pub define-on : (p : ℕ) {tree : Bytes} {t t' : List ℕ} {w : Walked} {s : State} {a : Definition} {d : Defining} → w ≡ Ok s → length t' ≡ length t → Symbol.Defines tree s.level (p + 3) a t t' → d ≡ placed_at p s a → DefinesBeside tree p t t' w d
 unfolding define
 define-on p {tree} {t} {t'} {w} {s} {a} q n x i =
     rw (q, i)
@@ -117,8 +119,8 @@ define-on p {tree} {t} {t'} {w} {s} {a} q n x i =
     })
 
 -- a walk that has stopped stays as it is
-pub define_stop : (p : ℕ) {tree : Bytes} {t : List ℕ} {w : Walked} {x : Refusal} {s : State} {o i : ℕ} → w ≡ Stop x s → DefinesBeside tree p t t w (record { walked = Stop x s; op = o; operand = i })
-define_stop p {x = x} {s = s} q = rw q (record { defines = λ c e h f. record { step = refl; ready = h; fine = f; keeps = keeps_refl (Stop x s) } })
+pub define_stop : (p : ℕ) {tree : Bytes} {t : List ℕ} {w : Walked} {z : Stopped} {o i : ℕ} → w ≡ Err z → DefinesBeside tree p t t w (record { walked = w; op = o; operand = i })
+define_stop p {z = z} q = rw q (record { defines = λ c e h f. record { step = refl; ready = h; fine = f; keeps = keeps_refl (Err z) } })
 
 -- Lookups
 module _ (p : ℕ) (tree e : Bytes) (t t' : List ℕ) (s : State) {a : Lookup} (x : Resolves (words_in (names_of e s)) tree (names_of e s) s.level p a t t') (c : Bytes) where
@@ -131,9 +133,9 @@ module _ (p : ℕ) (tree e : Bytes) (t t' : List ℕ) (s : State) {a : Lookup} (
   answer_view : view c e (symbols_of tree (rest e t') s) s ≡ with_tables (tables_of tree s.level t') (view c e (symbols_of tree (rest e t) s) s)
   answer_view = ap (λ g. view c e (record { globals = globals_of tree (names_of e s) g; tables = tables_of tree s.level t' }) s) x.globals
 
-module _ (p : ℕ) {tree e : Bytes} {t t' : List ℕ} {w : Walked} {s : State} (q : w ≡ On s) where
-  pub load_found : {c c' : Bytes} {b : Lookup} {k u o i : ℕ} {r : Walked} → length t' ≡ length t → Fine tree (rest e t) w → Resolves (words_in (names_of e s)) tree (names_of e s) s.level p b t t' → b ≡ Found k u → instr o i 0 ≡ load_of (symbol_of k)
-      → Done c c' (On s) r (emit p (instr o i 0)) → Steps tree (load p (content tree p)) c c' (rest e t) (rest e t') w r
+module _ (p : ℕ) {tree e : Bytes} {t t' : List ℕ} {w : Walked} {s : State} (q : w ≡ Ok s) where
+  pub load_found : {c c' : Bytes} {b : Lookup} {k : Found} {o i : ℕ} {r : Walked} → length t' ≡ length t → Fine tree (rest e t) w → Resolves (words_in (names_of e s)) tree (names_of e s) s.level p b t t' → b ≡ Ok k → instr o i 0 ≡ load_of (symbol_of k.code)
+      → Done c c' (Ok s) r (emit p (instr o i 0)) → Steps tree (load p (content tree p)) c c' (rest e t) (rest e t') w r
   load_found {c} n f z g j d =
       let x = rw g at z in
       let f' : FineState tree (rest e t) s = rw q at f in
@@ -147,8 +149,8 @@ module _ (p : ℕ) {tree e : Bytes} {t t' : List ℕ} {w : Walked} {s : State} (
       })
 
   -- a lookup that is refused with number k
-  pub load-refused : (k : ℕ) {c : Bytes} {b : Lookup} (a : Lookup) {r : Walked} → ((v : View) (ts : List Table) → loaded p v (resolved_of a ts) ≡ refuse k p v) → Ready c w → Resolves (words_in (names_of e s)) tree (names_of e s) s.level p b t t' → b ≡ a
-      → Refuses (On s) r k p → Steps tree (load p (content tree p)) c c (rest e t) (rest e t') w r
+  pub load-refused : (k : Reason) {c : Bytes} {b : Lookup} (a : Lookup) {r : Walked} → ((v : View) (ts : List Table) → loaded p v (resolved_of a ts) ≡ refuse k p v) → Ready c w → Resolves (words_in (names_of e s)) tree (names_of e s) s.level p b t t' → b ≡ a
+      → Refuses (Ok s) r k p → Steps tree (load p (content tree p)) c c (rest e t) (rest e t') w r
   load-refused k {c} a none h z g d =
       let x = rw g at z in
       rw (q, refuses_is d)

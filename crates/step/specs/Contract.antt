@@ -1,5 +1,5 @@
 -- What the steps on session and table area promise.
-use Rattle.std.specs.Prelude.{ℕ, ◌+◌, ◌≤◌, ◌≡◌, Bool, false, List, leb, length}
+use Rattle.std.specs.Prelude.{ℕ, ◌+◌, ◌≤◌, ◌≡◌, Bool, false, List, leb, length, Ok, Err}
 use Rattle.definition.specs.Basic.{Bytes, pick}
 use Rattle.definition.specs.Limit.{code_size, constants_limit, pool_limit}
 use Rattle.definition.specs.Number
@@ -7,18 +7,19 @@ use Rattle.definition.specs.Number.{refusal}
 use Rattle.definition.specs.Opcode.{Instr, instr, op_set_global, op_set_local}
 use Rattle.definition.specs.Walk.{Res, bind, Go}
 use Rattle.symbol_table.specs.Layout.{part_size, base, part, Sized}
-use Rattle.symbol_table.specs.declared.Definition.{Definition}
-use Rattle.symbol_table.specs.declared.Definition.TheVariants.{Global, Local, GlobalsFull, LocalsFull}
+use Rattle.symbol_table.specs.Contract.{Definition}
+use Rattle.symbol_table.specs.declared.Slot.TheVariants.{Global, Local}
+use Rattle.symbol_table.specs.declared.DefineError.TheVariants.{GlobalsFull, LocalsFull}
 use Rattle.scope.specs.View.{View, then, Fits, Ready}
 use Rattle.scope.specs.Machine.{define, enter, outside, close_over, leave}
 use Rattle.field.specs.Layout.{content, after, Whole}
 use Rattle.tree.specs.At.{ParamsAt}
 use Rattle.tree.specs.Reads.{Some, Counted}
 use Rattle.step.specs.Memory.{Rest, rest, settled, result, memory, Roomy, FineState, Fine, Deeper, Keeps, Walks}
-use Rattle.definition.specs.declared.Refusal.{Refusal}
+use Rattle.definition.specs.declared.reason.Refusal.{Refusal}
 use Rattle.scope.specs.declared.State.{State}
-use Rattle.scope.specs.declared.Walked.{Walked}
-use Rattle.scope.specs.declared.Walked.TheVariants.{On, Stop}
+use Rattle.scope.specs.Walked.{Walked}
+use Rattle.scope.specs.Walked.{stopped}
 use Rattle.step.specs.declared.Defining.{Defining}
 use Rattle.step.specs.declared.Added.{Added}
 
@@ -62,10 +63,10 @@ pub record DefinesBeside (tree : Bytes) (p : ℕ) (t t' : List ℕ) (w : Walked)
 
 -- a definition's answer, with the instruction that will set it, or the refusal
 abbrev pub placed_at : ℕ → State → Definition → Defining
-placed_at p s (Global k) = record { walked = On s; op = op_set_global; operand = k }
-placed_at p s (Local k) = record { walked = On s; op = op_set_local; operand = k }
-placed_at p s GlobalsFull = record { walked = Stop (refusal Number.globals p) s; op = op_set_global; operand = 0 }
-placed_at p s LocalsFull = record { walked = Stop (refusal Number.locals p) s; op = op_set_local; operand = 0 }
+placed_at p s (Ok (Global k)) = record { walked = Ok s; op = op_set_global; operand = k }
+placed_at p s (Ok (Local k)) = record { walked = Ok s; op = op_set_local; operand = k }
+placed_at p s (Err GlobalsFull) = record { walked = Err (stopped (refusal Number.globals p) s); op = op_set_global; operand = 0 }
+placed_at p s (Err LocalsFull) = record { walked = Err (stopped (refusal Number.locals p) s); op = op_set_local; operand = 0 }
 
 -- the name of the function at p, and its n parameters
 pub record HeadAt (tree : Bytes) (p n : ℕ) : Type 0 where
@@ -86,8 +87,8 @@ pub record EntersBeside (tree : Bytes) (p : ℕ) (t t' : List ℕ) (w r : Walked
 
 -- the function in which `w` goes on is closed; `o` is the walk before it was entered
 pub record Leaves (tree : Bytes) (p n : ℕ) (c c' : Bytes) (m m' : Rest) (o w r : Walked) : Type 0 where
-  pub step : (v : View) → o ≡ On v.state → memory tree c' m' r ≡ settled (then (memory tree c m w) (leave p n v))
-  pub stopped : (x : Refusal) (s : State) → o ≡ Stop x s → memory tree c' m' r ≡ memory tree c m w
+  pub step : (v : View) → o ≡ Ok v.state → memory tree c' m' r ≡ settled (then (memory tree c m w) (leave p n v))
+  pub stopped : (x : Refusal) (s : State) → o ≡ Err (stopped x s) → memory tree c' m' r ≡ memory tree c m w
   pub ready : Ready c' r
   pub fine : Fine tree m' r
   pub keeps : Keeps o r
@@ -103,8 +104,8 @@ pub record LeavesBeside (p n : ℕ) (c c' e e' : Bytes) (t : List ℕ) (o w r : 
 
 -- the walk in the chunk outside again
 abbrev pub outside_of : State → Walked → Walked
-outside_of o (On s) = On (outside o s)
-outside_of o (Stop r s) = Stop r s
+outside_of o (Ok s) = Ok (outside o s)
+outside_of o (Err z) = Err (stopped z.refusal z.state)
 
 -- what closing needs: `o` is the state outside, `s` the state inside
 pub record Closable (c e : Bytes) (t : List ℕ) (o s : State) : Type 0 where
@@ -113,13 +114,13 @@ pub record Closable (c e : Bytes) (t : List ℕ) (o s : State) : Type 0 where
   pub inner : Fits s
   pub level : s.level ≡ o.level + 1
   pub names : s.names_end ≡ o.names_end
-  pub roomy : Roomy e (On s)
+  pub roomy : Roomy e (Ok s)
   pub table : base o.level + part_size ≤ length t
   pub sized : Sized (part o.level t)
 
 -- a function whose code is complete is closed
 pub record Closes (p n : ℕ) (c c' e e' : Bytes) (t : List ℕ) (o s : State) (r : Walked) : Type 0 where
-  pub step : (tree : Bytes) → memory tree c' (rest e' t) r ≡ settled (then (memory tree c (rest e t) (On s)) (λ v. close_over p n o v v.symbols.tables))
+  pub step : (tree : Bytes) → memory tree c' (rest e' t) r ≡ settled (then (memory tree c (rest e t) (Ok s)) (λ v. close_over p n o v v.symbols.tables))
   pub ready : Ready c' r
   pub fine : (tree : Bytes) → FineState tree (rest e t) s → Fine tree (rest e' t) r
-  pub keeps : Keeps (On o) r
+  pub keeps : Keeps (Ok o) r

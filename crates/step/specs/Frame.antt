@@ -1,12 +1,12 @@
 -- What closing a function leaves as it was.
-use Rattle.std.specs.Prelude.{ℕ, ◌≡◌, Bool, true, false, List, [], ◌∷◌, leb, ltb, eqb, length}
+use Rattle.std.specs.Prelude.{ℕ, ◌≡◌, Bool, true, false, List, [], ◌∷◌, leb, ltb, eqb, length, Ok, Err}
 use Rattle.definition.specs.Basic.{Bytes, byte_at, pick, both}
 use Rattle.definition.specs.Walk.{Res, on, stop}
 use Rattle.scope.specs.View.{View, view}
 use Rattle.scope.specs.Machine.{here, returned}
 use Rattle.scope.specs.declared.State.{State}
-use Rattle.scope.specs.declared.Walked.{Walked}
-use Rattle.scope.specs.declared.Walked.TheVariants.{On, Stop}
+use Rattle.scope.specs.Walked.{Walked}
+use Rattle.scope.specs.Walked.{stopped}
 use Rattle.step.specs.Memory.{state_of, no_symbols}
 
 -- the offsets from one up to another, which is not among them
@@ -45,14 +45,14 @@ outside_end o u = pick (eqb u.level o.level) (here u) (here o)
 
 -- the ranges of the code area: the closed chunk, and what the chunk outside gains; none where the walk had stopped
 abbrev pub code_ranges : Bytes → Walked → Walked → State → List Range
-code_ranges c (On o) (On s) u = range s.chunk.start (here (completed c s)) ∷ range (here o) (outside_end o u) ∷ []
-code_ranges c (On o) (Stop x s) u = []
-code_ranges c (Stop x o) w u = []
+code_ranges c (Ok o) (Ok s) u = range s.chunk.start (here (completed c s)) ∷ range (here o) (outside_end o u) ∷ []
+code_ranges c (Ok o) (Err z) u = []
+code_ranges c (Err z) w u = []
 
 -- the range of the session: the constant, its head counted
 abbrev pub session_ranges : Walked → State → List Range
-session_ranges (On s) u = range s.pool_end u.pool_end ∷ []
-session_ranges (Stop x s) u = []
+session_ranges (Ok s) u = range s.pool_end u.pool_end ∷ []
+session_ranges (Err z) u = []
 
 -- Closing changes the bytes of the closed chunk, those that the chunk outside gains and the constant's, and no others, also where it is refused. The pool's
 -- length is not among them: it is written with the session, once the whole tree is accepted. The output is not lent to this step, so it can't change.

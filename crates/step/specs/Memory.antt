@@ -1,5 +1,5 @@
 -- The lent memory during the walk: what it stands for, and what the steps need of it.
-use Rattle.std.specs.Prelude.{ℕ, ◌+◌, ◌≤◌, ◌≡◌, List, [], length, take}
+use Rattle.std.specs.Prelude.{ℕ, ◌+◌, ◌≤◌, ◌≡◌, List, [], length, take, Ok, Err}
 use Rattle.definition.specs.Basic.{Bytes}
 use Rattle.definition.specs.Limit.{session_size, table_size, pool_limit, nesting_limit}
 use Rattle.definition.specs.Walk.{Res, on, stop, Go}
@@ -7,8 +7,8 @@ use Rattle.symbol_table.specs.Layout.{globals_in, tables_of, Good}
 use Rattle.symbol_table.specs.Contract.{HasWords}
 use Rattle.scope.specs.View.{Symbols, View, view, then, Ready}
 use Rattle.scope.specs.declared.State.{State}
-use Rattle.scope.specs.declared.Walked.{Walked}
-use Rattle.scope.specs.declared.Walked.TheVariants.{On, Stop}
+use Rattle.scope.specs.Walked.{Walked}
+use Rattle.scope.specs.Walked.{stopped}
 
 -- the slices beside the code area
 pub record Rest : Type 0 where
@@ -19,8 +19,8 @@ abbrev pub rest : Bytes → List ℕ → Rest
 rest e t = record { session = e; table = t }
 
 abbrev pub state_of : Walked → State
-state_of (On s) = s
-state_of (Stop r s) = s
+state_of (Ok s) = s
+state_of (Err z) = z.state
 
 -- the names that the session had at the start
 abbrev pub names_of : Bytes → State → Bytes
@@ -39,8 +39,8 @@ settled (stop r v) = stop r (view v.code v.session no_symbols v.state)
 
 -- a value and the walk so far, on the lent memory
 abbrev pub result : {A : Type 0} → Bytes → Bytes → Rest → Walked → A → Res View A
-result tree c m (On s) a = on a (view c m.session (symbols_of tree m s) s)
-result tree c m (Stop r s) a = stop r (view c m.session no_symbols s)
+result tree c m (Ok s) a = on a (view c m.session (symbols_of tree m s) s)
+result tree c m (Err z) a = stop z.refusal (view c m.session no_symbols z.state)
 
 -- the walk so far
 abbrev pub memory : Bytes → Bytes → Rest → Walked → Res View (Unit {0})
@@ -54,7 +54,7 @@ pub record RoomyState (e : Bytes) (s : State) : Type 0 where
   pub end : s.pool_end ≤ s.names_end + 3 + pool_limit
 
 pub record Roomy (e : Bytes) (w : Walked) : Type 0 where
-  pub pool : (s : State) → w ≡ On s → RoomyState e s
+  pub pool : (s : State) → w ≡ Ok s → RoomyState e s
 
 -- the names have words in front, and the table area stands well
 pub record FineState (tree : Bytes) (m : Rest) (s : State) : Type 0 where
@@ -65,19 +65,19 @@ pub record FineState (tree : Bytes) (m : Rest) (s : State) : Type 0 where
   pub pool : RoomyState m.session s
 
 abbrev pub Fine : Bytes → Rest → Walked → Type 0
-Fine tree m (On s) = FineState tree m s
-Fine tree m (Stop r s) = Unit {0}
+Fine tree m (Ok s) = FineState tree m s
+Fine tree m (Err z) = Unit {0}
 
 -- the state in which a walk went on, n functions further out than another
 pub record Origin (n : ℕ) (w : Walked) (t : State) : Type 0 where
   pub from : State
-  pub is : w ≡ On from
+  pub is : w ≡ Ok from
   pub level : t.level ≡ from.level + n
   pub names : t.names_end ≡ from.names_end
 
 -- where a walk goes on, it went on before, n functions further out
 pub record Deeper (n : ℕ) (w r : Walked) : Type 0 where
-  pub origin : (t : State) → r ≡ On t → Origin n w t
+  pub origin : (t : State) → r ≡ Ok t → Origin n w t
 
 -- in the function where it began
 abbrev pub Keeps : Walked → Walked → Type 0

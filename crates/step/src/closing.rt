@@ -9,8 +9,8 @@ ghost use Rattle.step.specs.Contract.{outside_of, Closable, Closes};
 
 use super::Added;
 use super::pool::add_function;
+use definition::Reason;
 use definition::limit::CODE_SIZE;
-use definition::number;
 use scope::{State, Walked, emit_closure, emit_operand, refuse};
 use symbol_table::leaving::{captures, definitions, original};
 use symbol_table::load_of;
@@ -53,19 +53,12 @@ fn loads(code: &mut [u8], table: &[u32], w: Walked, place: usize, level: usize, 
 fn outside(o: State, w: Walked) -> Walked
     ensures { result ≡ outside_of o w }
 {
-    match w {
-        Walked::On(s) => {
-            let c = o.chunk;
-            Walked::On(State {
-                chunk: c,
-                level: o.level,
-                constants: s.constants,
-                names_end: s.names_end,
-                pool_end: s.pool_end,
-            })
-        }
-        Walked::Stop(r, s) => w,
-    }
+    let s = w?;
+    Ok(State {
+        chunk: o.chunk,
+        level: o.level,
+        ..s
+    })
 }
 
 // Outside a function whose constant was added: the loads of the `n` originals that it captures, and Closure.
@@ -106,7 +99,7 @@ pub fn close(
     let c = o.chunk;
     let k = s.chunk;
     if CODE_SIZE < (c.start + c.len + k.len) as usize + loads_size(table, level, n) {
-        return refuse(Walked::On(s), number::CODE, place);
+        return refuse(Ok(s), Reason::Code, place);
     }
     let added = add_function(session, code, s, place, definitions(table, level), params);
     emit_function(code, table, o, added, place, n)

@@ -15,12 +15,12 @@ ghost use Rattle.step.specs.Frame.{LeavesAlone};
 
 use closing::close;
 use definition::limit::ARGUMENTS_LIMIT;
-use definition::{limit, number};
+use definition::{Reason, limit};
 use field::{after_at, content_at};
 use opcode::opcodes;
 use pool::add_constant;
 use scope::{Chunk, State, Walked, emit_operand, refuse, returned};
-use symbol_table::{Definition, Lookup, load_of, resolve_name};
+use symbol_table::{DefineError, LookupError, Slot, load_of, resolve_name};
 
 // The open functions, as a level.
 const NESTING_LIMIT: u32 = limit::NESTING_LIMIT as u32;
@@ -74,44 +74,40 @@ pub fn load(
     requires fine { Fine tree.now (rest session.now table.old) w }
     ensures { Steps tree.now (machine.load at (content tree.now at)) code.old code.new (rest session.now table.old) (rest session.now table.new) w result }
 {
-    match w {
-        Walked::On(s) => {
-            let end = s.names_end as usize;
-            match resolve_name(tree, &session[..end], table, s.level as usize, at) {
-                Lookup::Found(symbol, _) => {
-                    let l = load_of(symbol);
-                    emit_operand(code, w, at, l.op, l.operands, l.operand as usize)
-                }
-                Lookup::Undefined => refuse(w, number::UNDEFINED, at),
-                Lookup::Full => refuse(w, number::CAPTURES, at),
-            }
+    let s = w?;
+    let end = s.names_end as usize;
+    match resolve_name(tree, &session[..end], table, s.level as usize, at) {
+        Ok(found) => {
+            let l = load_of(found.code);
+            emit_operand(code, Ok(s), at, l.op, l.operands, l.operand as usize)
         }
-        Walked::Stop(r, s) => w,
+        Err(LookupError::Undefined) => refuse(Ok(s), Reason::Undefined, at),
+        Err(LookupError::Full) => refuse(Ok(s), Reason::Captures, at),
     }
 }
 
 // A definition's answer: the instruction that will set it, or the refusal.
-fn placed(s: State, place: usize, answer: Definition) -> Defining
+fn placed(s: State, place: usize, answer: Result<Slot, DefineError>) -> Defining
     ensures { result ≡ placed_at place s answer }
 {
     match answer {
-        Definition::Global(k) => Defining {
-            walked: Walked::On(s),
+        Ok(Slot::Global(k)) => Defining {
+            walked: Ok(s),
             op: opcodes::SET_GLOBAL,
             operand: k as usize,
         },
-        Definition::Local(k) => Defining {
-            walked: Walked::On(s),
+        Ok(Slot::Local(k)) => Defining {
+            walked: Ok(s),
             op: opcodes::SET_LOCAL,
             operand: k as usize,
         },
-        Definition::GlobalsFull => Defining {
-            walked: refuse(Walked::On(s), number::GLOBALS, place),
+        Err(DefineError::GlobalsFull) => Defining {
+            walked: refuse(Ok(s), Reason::Globals, place),
             op: opcodes::SET_GLOBAL,
             operand: 0,
         },
-        Definition::LocalsFull => Defining {
-            walked: refuse(Walked::On(s), number::LOCALS, place),
+        Err(DefineError::LocalsFull) => Defining {
+            walked: refuse(Ok(s), Reason::Locals, place),
             op: opcodes::SET_LOCAL,
             operand: 0,
         },
@@ -126,11 +122,11 @@ pub fn define(tree: &[u8], table: &mut [u32], w: Walked, at: usize) -> Defining
     ensures { DefinesBeside tree.now at table.old table.new w result }
 {
     match w {
-        Walked::On(s) => {
+        Ok(s) => {
             let answer = symbol_table::define(tree, table, s.level as usize, at + 3);
             placed(s, at, answer)
         }
-        Walked::Stop(r, s) => Defining {
+        Err(_) => Defining {
             walked: w,
             op: opcodes::SET_GLOBAL,
             operand: 0,
@@ -168,20 +164,16 @@ pub fn enter(tree: &[u8], table: &mut [u32], w: Walked, at: usize, n: usize) -> 
     requires fine_beside { FineBeside tree.now table.old w }
     ensures { EntersBeside tree.now at table.old table.new w result }
 {
-    match w {
-        Walked::On(s) => {
-            if NESTING_LIMIT <= s.level {
-                return refuse(w, number::NESTING, at);
-            }
-            if ARGUMENTS_LIMIT < n {
-                return refuse(w, number::TOO_MANY, at);
-            }
-            let row = after_at(tree, at + 3) + 3;
-            symbol_table::enter(tree, table, s.level as usize, at + 3, row, n);
-            Walked::On(inside(s))
-        }
-        Walked::Stop(r, s) => w,
+    let s = w?;
+    if NESTING_LIMIT <= s.level {
+        return refuse(Ok(s), Reason::Nesting, at);
     }
+    if ARGUMENTS_LIMIT < n {
+        return refuse(Ok(s), Reason::TooMany, at);
+    }
+    let row = after_at(tree, at + 3) + 3;
+    symbol_table::enter(tree, table, s.level as usize, at + 3, row, n);
+    Ok(inside(s))
 }
 
 // Leaves the function in which `w` goes on: its constant, and outside it the loads of what it captures and Closure. Its code is copied once,
@@ -204,10 +196,10 @@ pub fn leave(
 {
     let v = returned(code, w, place);
     match outer {
-        Walked::On(o) => match v {
-            Walked::On(s) => close(session, code, table, o, s, place, params),
-            Walked::Stop(r, s) => v,
+        Ok(o) => match v {
+            Ok(s) => close(session, code, table, o, s, place, params),
+            Err(_) => v,
         },
-        Walked::Stop(r, s) => v,
+        Err(_) => v,
     }
 }

@@ -6,13 +6,13 @@ ghost use Rattle.definition.specs.Tag.{tag_function_const};
 ghost use Rattle.definition.specs.Field.{field};
 ghost use Rattle.scope.specs.Machine.{with_constant, add_constant, function_content};
 ghost use Rattle.scope.specs.View.{Fits};
-ghost use Rattle.scope.specs.declared.Walked.TheVariants.{On};
+ghost use Rattle.std.specs.Prelude.{Ok};
 ghost use Rattle.step.specs.Memory.{Roomy};
 ghost use Rattle.step.specs.Contract.{has_room, Adds};
 
 use super::Added;
 use definition::limit::POOL_LIMIT;
-use definition::{limit, number, tag};
+use definition::{Reason, limit, tag};
 use scope::{State, Walked, refuse};
 use session::write::{copy, put_field, put_head};
 
@@ -38,7 +38,7 @@ fn has_room(s: State, n: usize) -> bool
 fn advance(s: State, n: usize) -> Added
     requires constants_lt_constants_limit { s.constants < constants_limit }
     requires n_bound { s.pool_end + (3 + n) ≤ session_size }
-    ensures { result ≡ record { walked = On (with_constant n s); index = s.constants } }
+    ensures { result ≡ record { walked = Ok (with_constant n s); index = s.constants } }
 {
     let c = s.chunk;
     let next = State {
@@ -49,7 +49,7 @@ fn advance(s: State, n: usize) -> Added
         pool_end: s.pool_end + (3 + n) as u32,
     };
     Added {
-        walked: Walked::On(next),
+        walked: Ok(next),
         index: s.constants as usize,
     }
 }
@@ -60,7 +60,7 @@ pub fn add_constant(session: &mut [u8], w: Walked, place: usize, tag: u8, conten
     ensures { Adds (add_constant place tag content.now) session.old session.new w result }
 {
     match w {
-        Walked::On(s) => {
+        Ok(s) => {
             let n = content.len();
             let end = s.pool_end as usize;
             if has_room(s, n) {
@@ -68,11 +68,11 @@ pub fn add_constant(session: &mut [u8], w: Walked, place: usize, tag: u8, conten
                 return advance(s, n);
             }
             Added {
-                walked: refuse(w, number::POOL, place),
+                walked: refuse(Ok(s), Reason::Pool, place),
                 index: 0,
             }
         }
-        Walked::Stop(r, s) => Added {
+        Err(_) => Added {
             walked: w,
             index: 0,
         },
@@ -111,10 +111,10 @@ pub fn add_function(
     locals: usize,
     params: usize,
 ) -> Added
-    requires roomy { Roomy session.old (On s) }
+    requires roomy { Roomy session.old (Ok s) }
     requires fits { Fits s }
     requires code_size_in_bounds { code_size ≤ length code.now }
-    ensures { Adds (add_constant place tag_function_const (function_content locals params (take s.chunk.len (drop s.chunk.start code.now)))) session.old session.new (On s) result }
+    ensures { Adds (add_constant place tag_function_const (function_content locals params (take s.chunk.len (drop s.chunk.start code.now)))) session.old session.new (Ok s) result }
 {
     let c = s.chunk;
     let start = c.start as usize;
@@ -127,7 +127,7 @@ pub fn add_function(
         return advance(s, n);
     }
     Added {
-        walked: refuse(Walked::On(s), number::POOL, place),
+        walked: refuse(Ok(s), Reason::Pool, place),
         index: 0,
     }
 }

@@ -15,7 +15,10 @@ use Rattle.field.specs.Layout.{content}
 use Rattle.symbol_table.specs.Layout.{originals_at, symbol_of, Sized, table_of}
 use Rattle.symbol_table.specs.Store.{free_in}
 use Rattle.symbol_table.specs.Contract.{Crosses}
-use Rattle.symbol_table.specs.declared.Lookup.TheVariants.{Found, Undefined, Full}
+use Rattle.std.specs.Prelude.{Ok, Err}
+use Rattle.symbol_table.specs.declared.Found.{Found}
+use Rattle.symbol_table.specs.declared.LookupError.{LookupError}
+use Rattle.symbol_table.specs.declared.LookupError.TheVariants.{Undefined, Full}
 use Rattle.symbol_table.proofs.Back.{length_back}
 use Rattle.symbol_table.proofs.Codes.{symbol_free}
 use Rattle.symbol_table.proofs.Tables.{free-table, free_part}
@@ -44,30 +47,28 @@ unfolding table_of
 originals tree r = length_back symbol_of r originals_at (get_or r 2 0)
 
 module _ (r : List ℕ) (name hash : ℕ) where
-  pub crosses_undefined : Crosses name hash Undefined Undefined r r
-  crosses_undefined = record { resolved = λ tree ts. refl; further = tt; good = λ ws gs tree n g. g }
+  pub crosses_refused : (e : LookupError) → Crosses name hash (Err e) (Err e) r r
+  crosses_refused Undefined = record { resolved = λ tree ts. refl; further = tt; good = λ ws gs tree n g. g }
+  crosses_refused Full = record { resolved = λ tree ts. refl; further = tt; good = λ ws gs tree n g. g }
 
-  pub crosses_full : Crosses name hash Full Full r r
-  crosses_full = record { resolved = λ tree ts. refl; further = tt; good = λ ws gs tree n g. g }
+  pub crosses_far : (f : Found) → 768 ≤ f.code → Crosses name hash (Ok f) (Ok (record { code = f.code; crossed = f.crossed + 1 })) r r
+  crosses_far f h = record { further = refl; resolved = λ tree ts. sym (far_crosses (content tree name) (table_of tree r) ts f.code h); good = λ ws gs tree n g. g }
 
-  pub crosses_far : (c k : ℕ) → 768 ≤ c → Crosses name hash (Found c k) (Found c (k + 1)) r r
-  crosses_far c k h = record { further = refl; resolved = λ tree ts. sym (far_crosses (content tree name) (table_of tree r) ts c h); good = λ ws gs tree n g. g }
+  pub crosses_none : (f : Found) → f.code < 768 → free_limit ≤ get_or r 2 0 → Crosses name hash (Ok f) (Err Full) r r
+  crosses_none f k full =
+      record { further = tt; resolved = λ tree ts. sym (near_crosses (content tree name) (table_of tree r) ts f.code k ∙ rw (originals tree r, le-leb free_limit (get_or r 2 0) full)); good = λ ws gs tree n g. g }
 
-  pub crosses_none : (c j : ℕ) → c < 768 → free_limit ≤ get_or r 2 0 → Crosses name hash (Found c j) Full r r
-  crosses_none c j k full =
-      record { further = tt; resolved = λ tree ts. sym (near_crosses (content tree name) (table_of tree r) ts c k ∙ rw (originals tree r, le-leb free_limit (get_or r 2 0) full)); good = λ ws gs tree n g. g }
-
-  pub crosses_free : (c j : ℕ) → c < 768 → get_or r 2 0 < free_limit → Sized r → name < 32768 → Crosses name hash (Found c j) (Found (512 + get_or r 2 0) (j + 1)) r (free_in r name hash c)
-  crosses_free c j k room s below =
+  pub crosses_free : (f : Found) → f.code < 768 → get_or r 2 0 < free_limit → Sized r → name < 32768 → Crosses name hash (Ok f) (Ok (record { code = 512 + get_or r 2 0; crossed = f.crossed + 1 })) r (free_in r name hash f.code)
+  crosses_free f k room s below =
       record {
         further = refl;
         resolved = λ tree ts.
             rw (
-              free-table r name hash c s room below tree,
-              near_crosses (content tree name) (table_of tree r) ts c k,
+              free-table r name hash f.code s room below tree,
+              near_crosses (content tree name) (table_of tree r) ts f.code k,
               originals tree r,
               lt-leb free_limit (get_or r 2 0) room,
               symbol_free (get_or r 2 0) (omega arith),
             );
-        good = free_part r name hash c s room below;
+        good = free_part r name hash f.code s room below;
       }

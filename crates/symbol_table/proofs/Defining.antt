@@ -13,9 +13,10 @@ use Rattle.field.specs.Layout.{len}
 use Rattle.symbol_table.specs.Name.{Stands}
 use Rattle.symbol_table.specs.Layout.{globals_size, part_size, base, table_of, tables_of, globals_in, Sized, Good}
 use Rattle.symbol_table.specs.Store.{entered_in, local_in}
-use Rattle.symbol_table.specs.Contract.{IsName, Inside, Adds, DefinesGlobal, DefinesLocal, Defines, Params, Opens, Enters}
-use Rattle.symbol_table.specs.declared.Definition.{Definition}
-use Rattle.symbol_table.specs.declared.Definition.TheVariants.{Global, Local, GlobalsFull, LocalsFull}
+use Rattle.symbol_table.specs.Contract.{Definition, IsName, Inside, Adds, DefinesGlobal, DefinesLocal, Defines, Params, Opens, Enters}
+use Rattle.std.specs.Prelude.{Ok, Err}
+use Rattle.symbol_table.specs.declared.Slot.TheVariants.{Global, Local}
+use Rattle.symbol_table.specs.declared.DefineError.TheVariants.{GlobalsFull, LocalsFull}
 use Rattle.symbol_table.proofs.Pushing.{globals-length}
 use Rattle.symbol_table.proofs.Adding.{new_names, new_good}
 use Rattle.symbol_table.proofs.Tables.{local_table, local_part, entered_table, entered_unmarked}
@@ -28,10 +29,10 @@ module _ (r : List ℕ) (name hash : ℕ) where
   unfolding table_of
   definitions tree = refl
 
-  pub locals_full : locals_limit ≤ get_or r 1 0 → DefinesLocal name hash LocalsFull r r
+  pub locals_full : locals_limit ≤ get_or r 1 0 → DefinesLocal name hash (Err LocalsFull) r r
   locals_full h = record { defined = λ tree gs ts. rw (definitions tree, le-leb locals_limit (get_or r 1 0) h); good = λ ws gs tree n g. g }
 
-  pub local_defined : Sized r → get_or r 1 0 < locals_limit → name < 32768 → DefinesLocal name hash (Local (get_or r 1 0)) r (local_in r name hash)
+  pub local_defined : Sized r → get_or r 1 0 < locals_limit → name < 32768 → DefinesLocal name hash (Ok (Local (get_or r 1 0))) r (local_in r name hash)
   local_defined s room below =
       record {
         defined = λ tree gs ts. rw (local_table r name hash s room below tree, definitions tree, lt-leb locals_limit (get_or r 1 0) room);
@@ -40,10 +41,10 @@ module _ (r : List ℕ) (name hash : ℕ) where
 
 -- among the globals
 module _ (tree : Bytes) (g : List ℕ) (name : ℕ) where
-  pub globals_full : globals_limit ≤ get_or g 0 0 → DefinesGlobal tree name GlobalsFull g g
+  pub globals_full : globals_limit ≤ get_or g 0 0 → DefinesGlobal tree name (Err GlobalsFull) g g
   globals_full h = record { defined = λ names. rw (globals-length g tree names, le-leb globals_limit (get_or g 0 0) h); good = λ names x. x }
 
-  pub global_defined : (g' : List ℕ) → length g ≡ globals_size → get_or g 0 0 < globals_limit → name < 32768 → Stands tree name → Adds tree 1 name g g' → DefinesGlobal tree name (Global (get_or g 0 0)) g g'
+  pub global_defined : (g' : List ℕ) → length g ≡ globals_size → get_or g 0 0 < globals_limit → name < 32768 → Stands tree name → Adds tree 1 name g g' → DefinesGlobal tree name (Ok (Global (get_or g 0 0))) g g'
   global_defined g' size room small whole a =
       record {
         defined = λ names. rw (new_names tree names g g' name size room (omega arith) a, globals-length g tree names, lt-leb globals_limit (get_or g 0 0) room);

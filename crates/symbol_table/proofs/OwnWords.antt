@@ -16,8 +16,7 @@ use Rattle.definition.specs.Session.{Words, six, listed, in_order}
 use Rattle.definition.specs.Decode.{Decoded, decoded, malformed, then, as_words, read_name_fields, read_words, list_in, words_in}
 use Rattle.field.specs.Layout.{after}
 use Rattle.field.specs.Row.{RowTo, HasRow, found_of}
-use Rattle.field.specs.declared.names.Found.{Found}
-use Rattle.field.specs.declared.names.Found.TheVariants.{At, Nothing}
+use Rattle.std.specs.Prelude.{Option, Some, None}
 use Rattle.field.proofs.Reading.{items-row, Filled, filled, names-read}
 use Rattle.field.proofs.Rows.{row_same}
 use Rattle.symbol_table.specs.Layout.{symbol_of}
@@ -35,14 +34,14 @@ found_below n (w ∷ ws) i {k} e = go (same n w) e (λ h. found_below n ws (i + 
     go false h rest = omega (arith, rest h)
 
 -- what a search among few fields answers, as a symbol
-module _ {b : Bytes} {from to : ℕ} (g : HasRow b from to) (few : (h : HasRow b from to) → length h.names ≤ words_limit) (name : Bytes) {f : Found} (e : (h : HasRow b from to) → found_of f ≡ find_builtin name h.names 0) where
-  pub word_index : {k : ℕ} → f ≡ At k → k < words_limit
+module _ {b : Bytes} {from to : ℕ} (g : HasRow b from to) (few : (h : HasRow b from to) → length h.names ≤ words_limit) (name : Bytes) {f : Option ℕ} (e : (h : HasRow b from to) → found_of f ≡ find_builtin name h.names 0) where
+  pub word_index : {k : ℕ} → f ≡ Some k → k < words_limit
   word_index q = omega (arith, few g, found_below name g.names 0 (sym (e g) ∙ ap found_of q))
 
-  pub word_hit : {k : ℕ} → f ≡ At k → (h : HasRow b from to) → some (symbol_of (768 + k)) ≡ as_symbol Symbol.builtin (find_builtin name h.names 0)
+  pub word_hit : {k : ℕ} → f ≡ Some k → (h : HasRow b from to) → some (symbol_of (768 + k)) ≡ as_symbol Symbol.builtin (find_builtin name h.names 0)
   word_hit {k} q h = ap some (symbol_builtin k (omega (arith, word_index q))) ∙ ap (as_symbol Symbol.builtin) (sym (ap found_of q) ∙ e h)
 
-  pub word_none : f ≡ Nothing → (h : HasRow b from to) → none ≡ as_symbol Symbol.builtin (find_builtin name h.names 0)
+  pub word_none : f ≡ None → (h : HasRow b from to) → none ≡ as_symbol Symbol.builtin (find_builtin name h.names 0)
   word_none q h = ap (as_symbol Symbol.builtin) (sym (ap found_of q) ∙ e h)
 
 -- the fields of a part have the names of any reading

@@ -5,7 +5,9 @@ use mathlib.Core.Logic.{◌≢◌}
 use mathlib.Core.List.{List, [], ◌∷◌, ◌++◌}
 use mathlib.Core.Option.{none}
 use native.Mathlib.Omega.{arith}
-use lib.ListN.{length, get_or, set, take, drop, length-set}
+use lib.ListN.{length, get_or, set, take, drop, replicate, length-set, length-drop, length-replicate, get_or-append}
+use Rattle.std.proofs.lemmas.List.{get_or-append-add, get_or-replicate}
+use borrow.Rule.Slice.PartMut.{put_mid, post_of}
 use lib.Seq.{get_or-set_same, get_or-set_other, length-take-le, take_at, drop_at}
 use Rattle.definition.specs.Basic.{Bytes, byte_at}
 use Rattle.definition.specs.Limit.{session_size, globals_limit}
@@ -18,7 +20,6 @@ use Rattle.symbol_table.specs.Name.{Stands, buckets, hash_of}
 use Rattle.symbol_table.specs.Search.{child_of, ends}
 use Rattle.symbol_table.specs.Layout.{globals_size, heads_at, back, GoodGlobals, globals_of, Good}
 use Rattle.symbol_table.specs.Contract.{Addable, Adds, HasNames, HasItems, StartsGlobals, StartsFrom, Starts}
-use Rattle.symbol_table.proofs.Back.{last_or_before}
 use Rattle.symbol_table.proofs.Names.{len_take, content-take}
 use Rattle.symbol_table.proofs.Nodes.{child_none}
 use Rattle.symbol_table.proofs.Adding.{old_names, old_count, old_good, none_more}
@@ -118,11 +119,19 @@ module _ (session : Bytes) (start : ℕ) where
         all : (tree : Bytes) (ns : List Bytes) (e : ℕ) → items (read_name_field (byte_at session)) (globals_limit - get_or g 0 0) (globals_of tree (take end session) g) at end ≡ decoded ns e → globals_of tree (take end session) g ≡ ns
         all tree ns e h = cc (items_none (read_name_field (byte_at session)) (globals_limit - get_or g 0 0) (globals_of tree (take end session) g) at end (omega arith))
 
--- a head more is 0
-pub cleared_more : (g : List ℕ) (i : ℕ) → length g ≡ globals_size → i < buckets → ((h : ℕ) → h < i → get_or g (heads_at + h) 0 ≡ 0) → (h : ℕ) → h < i + 1 → get_or (set g (heads_at + i) 0) (heads_at + h) 0 ≡ 0
-cleared_more g i size below old h l =
-    last_or_before (λ k. get_or (set g (heads_at + i) 0) (heads_at + k) 0 ≡ 0) i h (omega arith) (get_or-set_same g (heads_at + i) 0 0 (omega arith))
-    (λ lt. get_or-set_other g (heads_at + i) (heads_at + h) 0 0 (omega arith) ∙ old h lt)
+-- a part from the heads on that is zeroed: each is 0
+pub heads_cleared : (g : List ℕ) (k h : ℕ) {x : List ℕ} → heads_at + k ≡ length g → h < k → x ≡ replicate (length (take k (drop heads_at g))) 0 → get_or (put_mid heads_at k g x) (heads_at + h) 0 ≡ 0
+heads_cleared g k h {x} e b z =
+    let front = take heads_at g in
+    let rest = post_of heads_at k g in
+    let l : length front ≡ heads_at = length-take-le heads_at g (omega arith) in
+    let m : length (take k (drop heads_at g)) ≡ k = length-take-le k (drop heads_at g) (omega (arith, length-drop heads_at g)) in
+    let r : length x ≡ k = ap length z ∙ length-replicate (length (take k (drop heads_at g))) 0 ∙ m in
+    ap (λ n. get_or (front ++ (x ++ rest)) (n + h) 0) (sym l)
+    ∙ get_or-append-add front (x ++ rest) h 0
+    ∙ get_or-append x rest 0 h (omega arith)
+    ∙ ap (λ x. get_or x h 0) z
+    ∙ get_or-replicate (length (take k (drop heads_at g))) h 0 0 (omega arith)
 
 -- in the whole area
 pub started : (session : Bytes) (from end : ℕ) (a g' : List ℕ) → length g' ≡ globals_size → StartsGlobals session from end g' → StartsFrom session from end a (g' ++ drop globals_size a)

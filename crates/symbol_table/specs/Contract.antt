@@ -1,6 +1,7 @@
 -- What the functions promise: equations with the definition's tables, and what stays as it was.
-use Rattle.std.specs.Prelude.{ℕ, suc, ◌+◌, ◌*◌, ◌%◌, ◌^◌, ◌≤◌, ◌<◌, Bool, true, ◌≡◌, List, [], ◌∷◌, length, get_or, take, drop}
-use Rattle.std.proofs.Math.Option.{Option, none, some}
+use Rattle.std.specs.Prelude.{ℕ, suc, ◌+◌, ◌*◌, ◌%◌, ◌^◌, ◌≤◌, ◌<◌, Bool, true, ◌≡◌, List, [], ◌∷◌, length, get_or, take, drop, Option, Some, None, Result, Ok, Err}
+use Rattle.std.proofs.Math.Option as maybe
+use Rattle.std.proofs.Math.Option.{none, some}
 use Rattle.definition.specs.Basic.{Bytes, byte_at}
 use Rattle.definition.specs.Number
 use Rattle.definition.specs.Opcode.{instr, op_set_global, op_set_local}
@@ -13,51 +14,56 @@ use Rattle.symbol_table.specs.Name.{Stands, fields, buckets, hash_of}
 use Rattle.symbol_table.specs.Search.{Way, Goes}
 use Rattle.symbol_table.specs.Layout.{globals_size, heads_at, head_of, part_size, entries_at, tag_in, base, part, symbol_of, table_of, tables_of, globals_of, globals_in, GoodTable, GoodGlobals, Good, entries, marked_at, marks_at, code_of, IsMarked, Marked, GoodPart}
 use Rattle.symbol_table.specs.Store.{global_in}
-use Rattle.symbol_table.specs.declared.Hit.{Hit}
-use Rattle.symbol_table.specs.declared.Hit.TheVariants.{At, Nothing}
-use Rattle.symbol_table.specs.declared.Lookup.{Lookup}
-use Rattle.symbol_table.specs.declared.Lookup.TheVariants.{Found, Undefined, Full}
-use Rattle.symbol_table.specs.declared.Definition.{Definition}
-use Rattle.symbol_table.specs.declared.Definition.TheVariants.{Global, Local, GlobalsFull, LocalsFull}
+use Rattle.symbol_table.specs.declared.Found.{Found}
+use Rattle.symbol_table.specs.declared.LookupError.{LookupError}
+use Rattle.symbol_table.specs.declared.LookupError.TheVariants.{Undefined, Full}
+use Rattle.symbol_table.specs.declared.Slot.{Slot}
+use Rattle.symbol_table.specs.declared.Slot.TheVariants.{Global, Local}
+use Rattle.symbol_table.specs.declared.DefineError.{DefineError}
+use Rattle.symbol_table.specs.declared.DefineError.TheVariants.{GlobalsFull, LocalsFull}
+
+-- what a lookup answers
+abbrev pub Lookup : Type 0
+Lookup = Result Found LookupError
+
+-- what a definition answers
+abbrev pub Definition : Type 0
+Definition = Result Slot DefineError
 
 -- an answer of a search in one table
-abbrev pub hit_of : Hit → Option Symbol
-hit_of (At c) = some (symbol_of c)
-hit_of Nothing = none
+abbrev pub hit_of : Option ℕ → maybe.Option Symbol
+hit_of (Some c) = some (symbol_of c)
+hit_of None = none
 
 -- an index, as the symbol of its kind
-abbrev pub as_symbol : (ℕ → Symbol) → Option ℕ → Option Symbol
+abbrev pub as_symbol : (ℕ → Symbol) → maybe.Option ℕ → maybe.Option Symbol
 as_symbol f (some k) = some (f k)
 as_symbol f none = none
 
 -- a lookup's answer, with the tables after it
 abbrev pub resolved_of : Lookup → List Table → Resolved
-resolved_of (Found c k) ts = Resolved.found (symbol_of c) ts
-resolved_of Undefined ts = Resolved.undefined
-resolved_of Full ts = Resolved.full
+resolved_of (Ok f) ts = Resolved.found (symbol_of f.code) ts
+resolved_of (Err Undefined) ts = Resolved.undefined
+resolved_of (Err Full) ts = Resolved.full
 
 -- the functions crossed by a lookup that found its name
 abbrev pub Crossed : ℕ → Lookup → Type 0
-Crossed n (Found c k) = k ≡ n
-Crossed n Undefined = Unit {0}
-Crossed n Full = Unit {0}
+Crossed n (Ok f) = f.crossed ≡ n
+Crossed n (Err e) = Unit {0}
 
 -- one more fits
 abbrev pub Few : Lookup → Type 0
-Few (Found c k) = k + 1 < 2 ^ 64
-Few Undefined = Unit {0}
-Few Full = Unit {0}
+Few (Ok f) = f.crossed + 1 < 2 ^ 64
+Few (Err e) = Unit {0}
 
 -- one more is crossed
 abbrev pub Further : Lookup → Lookup → Type 0
-Further (Found c k) (Found d j) = j ≡ k + 1
-Further Undefined (Found d j) = ⊥
-Further Full (Found d j) = ⊥
-Further outer Undefined = Unit {0}
-Further outer Full = Unit {0}
+Further (Ok f) (Ok g) = g.crossed ≡ f.crossed + 1
+Further (Err e) (Ok g) = ⊥
+Further outer (Err e) = Unit {0}
 
 -- the first of two symbols that is there
-abbrev pub first_of : Option Symbol → Option Symbol → Resolved
+abbrev pub first_of : maybe.Option Symbol → maybe.Option Symbol → Resolved
 first_of (some x) y = Resolved.found x []
 first_of none (some y) = Resolved.found y []
 first_of none none = Resolved.undefined
@@ -68,10 +74,10 @@ outermost_of bs gs n = first_of (as_symbol Symbol.global (find_global n gs)) (as
 
 -- a definition's answer, with the names and the tables after it
 abbrev pub defined_of : Definition → List Bytes → List Table → Defined
-defined_of (Global k) gs ts = Defined.defined (instr op_set_global k 0) gs ts
-defined_of (Local k) gs ts = Defined.defined (instr op_set_local k 0) gs ts
-defined_of GlobalsFull gs ts = Defined.no_room Number.globals
-defined_of LocalsFull gs ts = Defined.no_room Number.locals
+defined_of (Ok (Global k)) gs ts = Defined.defined (instr op_set_global k 0) gs ts
+defined_of (Ok (Local k)) gs ts = Defined.defined (instr op_set_local k 0) gs ts
+defined_of (Err GlobalsFull) gs ts = Defined.no_room Number.globals
+defined_of (Err LocalsFull) gs ts = Defined.no_room Number.locals
 
 -- a name of the tree, and its hash
 pub record IsName (tree : Bytes) (name hash : ℕ) : Type 0 where
@@ -156,7 +162,7 @@ pub record Addable (bytes : Bytes) (side : ℕ) (g : List ℕ) (name hash : ℕ)
   pub room : get_or g 0 0 < globals_limit
   pub named : IsName bytes name hash
   pub within : name < 65536
-  pub found : Option ℕ
+  pub found : maybe.Option ℕ
   pub way : Way bytes side g (content bytes name) 0 (head_of g (content bytes name) side) found
 
 -- it is added where the search for its name ends

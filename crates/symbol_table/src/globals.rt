@@ -15,9 +15,10 @@ use super::layout::{
     BUCKET_BITS, BUCKETS, GLOBAL, GLOBALS, HEADS_AT, IN_TREE, LATEST_UNIT, NODES_AT, SIDE_BITS,
     SIDE_UNIT,
 };
-use super::name::{hash_at, name_at, wide32};
-use super::{Definition, Hit};
+use super::name::hash_at;
+use super::{DefineError, Slot};
 use field::names::same_name;
+use field::{after_at, content_at};
 
 // Where a global more goes: an index of the area, and the number that is to stand there.
 #[derive(Clone, Copy)]
@@ -37,7 +38,7 @@ fn side_of(name: &[u8], hash: usize, depth: usize) -> usize
     if name.len() <= i {
         return 0;
     }
-    (field::wide(name[i]) >> ((depth - SIDE_BITS) % 8)) % 2
+    (usize::from(name[i]) >> ((depth - SIDE_BITS) % 8)) % 2
 }
 
 // The global on a side of a node, or of a bucket's heads.
@@ -67,11 +68,11 @@ fn same_global(tree: &[u8], names: &[u8], v: u32, name: &[u8]) -> bool
     requires { GlobalStands tree.now names.now v }
     ensures { result ≡ same name.now (global_name tree.now names.now v) }
 {
-    let at = wide32(v);
+    let at = v as usize;
     if at < IN_TREE {
-        return same_name(name, name_at(names, at));
+        return same_name(name, content_at(names, at));
     }
-    same_name(name, name_at(tree, at - IN_TREE))
+    same_name(name, content_at(tree, at - IN_TREE))
 }
 
 // The latest global of a name among the session's, on side 0, or the tree's.
@@ -82,7 +83,7 @@ fn find_side(
     globals: &[u32],
     name: &[u8],
     hash: usize,
-) -> Hit
+) -> Option<u32>
     requires good_globals { GoodGlobals tree.now names.now globals.now }
     requires hash_value { hash ≡ hash_of name.now }
     requires side_bound { side < 2 }
@@ -91,25 +92,31 @@ fn find_side(
     let mut k = child(globals[HEADS_AT + hash % BUCKETS], side);
     let mut depth = 0;
     while k > 0 {
-        let i = wide32(k);
+        let i = k as usize;
         let node = globals[NODES_AT + i];
         if same_global(tree, names, globals[i], name) {
-            return Hit::At(GLOBAL + node / LATEST_UNIT);
+            return Some(GLOBAL + node / LATEST_UNIT);
         }
         k = child(node, side_of(name, hash, depth));
         depth += 1;
     }
-    Hit::Nothing
+    None
 }
 
 // The latest global of a name: those of the tree come after those of the session.
-pub fn find_global(tree: &[u8], names: &[u8], globals: &[u32], name: &[u8], hash: usize) -> Hit
+pub fn find_global(
+    tree: &[u8],
+    names: &[u8],
+    globals: &[u32],
+    name: &[u8],
+    hash: usize,
+) -> Option<u32>
     requires good_globals { GoodGlobals tree.now names.now globals.now }
     requires hash_value { hash ≡ hash_of name.now }
     ensures { hit_of result ≡ as_symbol Symbol.global (find_global name.now (globals_of tree.now names.now globals.now)) }
 {
-    if let Hit::At(code) = find_side(tree, names, 1, globals, name, hash) {
-        return Hit::At(code);
+    if let Some(code) = find_side(tree, names, 1, globals, name, hash) {
+        return Some(code);
     }
     find_side(tree, names, 0, globals, name, hash)
 }
@@ -128,9 +135,9 @@ fn find_place(bytes: &[u8], side: usize, globals: &[u32], name: &[u8], hash: usi
     let mut k = child(globals[at], on);
     let mut depth = 0;
     while k > 0 {
-        let i = wide32(k);
+        let i = k as usize;
         at = NODES_AT + i;
-        if same_name(name, name_at(bytes, wide32(globals[i]) % IN_TREE)) {
+        if same_name(name, content_at(bytes, globals[i] as usize % IN_TREE)) {
             return Place {
                 at: at,
                 number: globals[at] % LATEST_UNIT + LATEST_UNIT * new,
@@ -154,7 +161,7 @@ fn push_global(globals: &mut [u32], v: u32, at: usize, number: u32)
     ensures { globals.new ≡ global_in globals.old v at number }
 {
     let k = globals[0];
-    let i = 1 + wide32(k);
+    let i = 1 + k as usize;
     globals[i] = v;
     globals[NODES_AT + i] = LATEST_UNIT * k;
     globals[at] = number;
@@ -162,6 +169,7 @@ fn push_global(globals: &mut [u32], v: u32, at: usize, number: u32)
 }
 
 // A global more, the first of its side in its bucket.
+#[inline(always)]
 fn add_first(globals: &mut [u32], side: usize, v: u32, hash: usize)
     requires globals_len { length globals.old ≡ globals_size }
     requires globals_bound { get_or globals.old 0 0 < globals_limit }
@@ -179,7 +187,7 @@ fn add_below(bytes: &[u8], side: usize, globals: &mut [u32], name: usize, hash: 
     requires side_bound { side < 2 }
     ensures { Adds bytes.now side name globals.old globals.new }
 {
-    let place = find_place(bytes, side, globals, name_at(bytes, name), hash);
+    let place = find_place(bytes, side, globals, content_at(bytes, name), hash);
     push_global(
         globals,
         (IN_TREE * side + name) as u32,
@@ -188,32 +196,27 @@ fn add_below(bytes: &[u8], side: usize, globals: &mut [u32], name: usize, hash: 
     );
 }
 
-// A global of the session more: its name is at an offset.
-fn add_old(names: &[u8], globals: &mut [u32], name: usize, hash: usize)
-    requires { Addable names.now 0 globals.old name hash }
-    ensures { Adds names.now 0 name globals.old globals.new }
+// A global more, of the session's on side 0 or of the tree's on side 1: its name is at an offset.
+#[inline(always)]
+fn add_global(bytes: &[u8], side: usize, globals: &mut [u32], name: usize, hash: usize)
+    requires addable { Addable bytes.now side globals.old name hash }
+    requires side_bound { side < 2 }
+    ensures { Adds bytes.now side name globals.old globals.new }
 {
-    if child(globals[HEADS_AT + hash % BUCKETS], 0) == 0 {
-        add_first(globals, 0, name as u32, hash);
+    if child(globals[HEADS_AT + hash % BUCKETS], side) == 0 {
+        add_first(globals, side, (IN_TREE * side + name) as u32, hash);
         return;
     }
-    add_below(names, 0, globals, name, hash);
-}
-
-// A global of the tree more: its name is at an offset.
-fn add_new(tree: &[u8], globals: &mut [u32], name: usize, hash: usize)
-    requires { Addable tree.now 1 globals.old name hash }
-    ensures { Adds tree.now 1 name globals.old globals.new }
-{
-    if child(globals[HEADS_AT + hash % BUCKETS], 1) == 0 {
-        add_first(globals, 1, (IN_TREE + name) as u32, hash);
-        return;
-    }
-    add_below(tree, 1, globals, name, hash);
+    add_below(bytes, side, globals, name, hash);
 }
 
 // A global of the tree more, if there is room.
-pub fn place_global(tree: &[u8], globals: &mut [u32], name: usize, hash: usize) -> Definition
+pub fn place_global(
+    tree: &[u8],
+    globals: &mut [u32],
+    name: usize,
+    hash: usize,
+) -> Result<Slot, DefineError>
     requires good_globals { (names : Bytes) × GoodGlobals tree.now names globals.old }
     requires name { IsName tree.now name hash }
     requires name_lt_tree_limit { name < tree_limit }
@@ -221,10 +224,10 @@ pub fn place_global(tree: &[u8], globals: &mut [u32], name: usize, hash: usize) 
 {
     let k = globals[0];
     if GLOBALS <= k {
-        return Definition::GlobalsFull;
+        return Err(DefineError::GlobalsFull);
     }
-    add_new(tree, globals, name, hash);
-    Definition::Global(k)
+    add_global(tree, 1, globals, name, hash);
+    Ok(Slot::Global(k))
 }
 
 // No global in any bucket.
@@ -233,11 +236,7 @@ fn clear_heads(globals: &mut [u32])
     ensures globals_len { length globals.new ≡ globals_size }
     ensures by_index { (h : ℕ) → h < buckets → get_or globals.new (heads_at + h) 0 ≡ 0 }
 {
-    let mut i = 0;
-    while i < BUCKETS {
-        globals[HEADS_AT + i] = 0;
-        i += 1;
-    }
+    globals[HEADS_AT..].fill(0);
 }
 
 // The names of a session become the globals: the fields from an offset up to an end.
@@ -252,7 +251,7 @@ pub fn start_in(session: &[u8], globals: &mut [u32], from: usize, end: usize)
     let mut at = from;
     while at < end {
         let hash = hash_at(session, at);
-        add_old(&session[..end], globals, at, hash);
-        at = at + 3 + field::length_at(session, at);
+        add_global(&session[..end], 0, globals, at, hash);
+        at = after_at(session, at);
     }
 }

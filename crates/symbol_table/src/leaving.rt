@@ -5,14 +5,13 @@ ghost use Rattle.symbol_table.specs.Layout.{part_size, originals_at, base, part}
 
 use super::enclosed::number_at;
 use super::layout::ORIGINALS_AT;
-use super::name::wide32;
 
 // The definitions of the function at a level.
 pub fn definitions(table: &[u32], level: usize) -> usize
     requires { base level + part_size ≤ length table.now }
     ensures { result ≡ get_or (part level table.now) 1 0 }
 {
-    wide32(number_at(table, level, 1))
+    number_at(table, level, 1) as usize
 }
 
 // How many originals the function at a level has captured.
@@ -20,7 +19,7 @@ pub fn captures(table: &[u32], level: usize) -> usize
     requires { base level + part_size ≤ length table.now }
     ensures { result ≡ get_or (part level table.now) 2 0 }
 {
-    wide32(number_at(table, level, 2))
+    number_at(table, level, 2) as usize
 }
 
 // The code of an original that the function at a level has captured.

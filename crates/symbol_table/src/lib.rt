@@ -1,4 +1,5 @@
 // The symbol tables of the open functions, in the table area: what a name stands for.
+// Kept: the tables are numbers packed in `&mut [u32]`, since C lends them as such: fixed memory, and no heap.
 #![tactic(auto)]
 
 mod enclosed;
@@ -20,34 +21,39 @@ ghost use Rattle.symbol_table.specs.Name.{Stands, Row, hash_bound};
 ghost use Rattle.symbol_table.specs.Layout.{globals_size, part_size, originals_at, base, part, symbol_of, table_of, globals_in, Sized, GoodTable, GoodGlobals, Good, entries, GoodPart};
 ghost use Rattle.symbol_table.specs.Contract.{hit_of, resolved_of, outermost_of, IsName, Inside, Few, Crossed, Crosses, Resolves, DefinesLocal, Defines, Enters, HasWords, HasNames, HasItems, StartsFrom, Starts, Remarked, Known};
 
-use enclosed::{cross_in, find_in, open_in, place_in};
+use enclosed::{cross_in, find_in, open_in, part, place_in};
+use field::content_at;
 use globals::{find_global, place_global, start_in};
 use layout::{BUILTIN, FREE, GLOBAL, GLOBALS_SIZE, LOCAL, ORIGINALS_AT, PART_SIZE, SHORT};
 use marks::{code_outermost, count_at, is_absent};
-use name::{hash_at, name_at, wide32};
+use name::hash_at;
 use opcode::opcodes;
 use words::find_builtin;
 
-// The code of a symbol that a table has for a name.
-#[derive(Clone, Copy)]
-pub enum Hit {
-    At(u32),
-    Nothing,
+// A symbol that a lookup found: its code, and the functions crossed.
+#[derive(Clone, Copy, PartialEq, Eq, Debug)]
+pub struct Found {
+    pub code: u32,
+    pub crossed: usize,
 }
 
-// What a lookup gives: the code of the symbol and the functions crossed, an undefined name, or a table with no room for a free symbol.
-#[derive(Clone, Copy)]
-pub enum Lookup {
-    Found(u32, usize),
+// Why a lookup finds no symbol: an undefined name, or a table with no room for a free symbol.
+#[derive(Clone, Copy, PartialEq, Eq, Debug)]
+pub enum LookupError {
     Undefined,
     Full,
 }
 
-// Where a definition goes: its index, or the table that is full.
-#[derive(Clone, Copy)]
-pub enum Definition {
+// Where a definition stands: its index among the globals, or among the definitions of a function.
+#[derive(Clone, Copy, PartialEq, Eq, Debug)]
+pub enum Slot {
     Global(u32),
     Local(u32),
+}
+
+// The table that has no room for a definition.
+#[derive(Clone, Copy, PartialEq, Eq, Debug)]
+pub enum DefineError {
     GlobalsFull,
     LocalsFull,
 }
@@ -61,20 +67,31 @@ pub struct Load {
 }
 
 // The latest entry of a name in the table of the function at a level, which has n entries.
-fn find_at(tree: &[u8], table: &[u32], level: usize, n: usize, name: usize, hash: usize) -> Hit
+fn find_at(
+    tree: &[u8],
+    table: &[u32],
+    level: usize,
+    n: usize,
+    name: usize,
+    hash: usize,
+) -> Option<u32>
     requires part_size_in_bounds { base level + part_size ≤ length table.now }
     requires good_table { GoodTable tree.now (part level table.now) }
     requires n_value { n ≡ entries (part level table.now) }
     requires name { IsName tree.now name hash }
     ensures { hit_of result ≡ find (content tree.now name) (table_of tree.now (part level table.now)).entries }
 {
-    let start = GLOBALS_SIZE + PART_SIZE * level;
-    let end = start + PART_SIZE;
-    find_in(tree, &table[start..end], n, name_at(tree, name), hash)
+    find_in(tree, part(table, level), n, content_at(tree, name), hash)
 }
 
 // A lookup comes back through the function at a level.
-fn cross_at(table: &mut [u32], level: usize, name: usize, hash: usize, outer: Lookup) -> Lookup
+fn cross_at(
+    table: &mut [u32],
+    level: usize,
+    name: usize,
+    hash: usize,
+    outer: Result<Found, LookupError>,
+) -> Result<Found, LookupError>
     requires part_size_in_bounds { base level + part_size ≤ length table.old }
     requires sized { Sized (part level table.old) }
     requires name_lt_tree_limit { name < tree_limit }
@@ -87,7 +104,13 @@ fn cross_at(table: &mut [u32], level: usize, name: usize, hash: usize, outer: Lo
 }
 
 // The global or the builtin of a name: outside all functions, globals come before builtins.
-fn find_outermost(tree: &[u8], names: &[u8], table: &[u32], name: usize, hash: usize) -> Lookup
+fn find_outermost(
+    tree: &[u8],
+    names: &[u8],
+    table: &[u32],
+    name: usize,
+    hash: usize,
+) -> Result<Found, LookupError>
     requires has_words { HasWords names.now }
     requires globals_size_in_bounds { globals_size ≤ length table.now }
     requires good_globals { GoodGlobals tree.now names.now (take globals_size table.now) }
@@ -96,14 +119,14 @@ fn find_outermost(tree: &[u8], names: &[u8], table: &[u32], name: usize, hash: u
     ensures result_value { resolved_of result [] ≡ outermost_of (words_in names.now) (globals_in tree.now names.now table.now) (content tree.now name) }
     ensures crossed { Crossed 0 result }
 {
-    let it = name_at(tree, name);
-    if let Hit::At(code) = find_global(tree, names, &table[..GLOBALS_SIZE], it, hash) {
-        return Lookup::Found(code, 0);
+    let it = content_at(tree, name);
+    if let Some(code) = find_global(tree, names, &table[..GLOBALS_SIZE], it, hash) {
+        return Ok(Found { code, crossed: 0 });
     }
-    if let Hit::At(code) = find_builtin(names, it) {
-        return Lookup::Found(code, 0);
+    if let Some(code) = find_builtin(names, it) {
+        return Ok(Found { code, crossed: 0 });
     }
-    Lookup::Undefined
+    Err(LookupError::Undefined)
 }
 
 // The same, where the name's code may be known: 0 is a name not yet looked for, 1 one that is not there.
@@ -114,7 +137,7 @@ fn resolve_outermost(
     name: usize,
     hash: usize,
     known: u32,
-) -> Lookup
+) -> Result<Found, LookupError>
     requires has_words { HasWords names.now }
     requires globals_size_in_bounds { globals_size ≤ length table.now }
     requires good_globals { GoodGlobals tree.now names.now (take globals_size table.now) }
@@ -125,7 +148,10 @@ fn resolve_outermost(
     ensures crossed { Crossed 0 result }
 {
     if BUILTIN <= known {
-        return Lookup::Found(known, 0);
+        return Ok(Found {
+            code: known,
+            crossed: 0,
+        });
     }
     find_outermost(tree, names, table, name, hash)
 }
@@ -167,7 +193,7 @@ fn look_at(
     name: usize,
     hash: usize,
     code: u32,
-) -> Hit
+) -> Option<u32>
     requires has_words { HasWords names.now }
     requires part_size_in_bounds { base level + part_size ≤ length table.old }
     requires good_globals { GoodGlobals tree.now names.now (take globals_size table.old) }
@@ -179,7 +205,7 @@ fn look_at(
     ensures inside { Inside (Remarked (words_in names.now) (globals_in tree.now names.now table.old) tree.now) level table.old table.new }
 {
     if is_absent(tree, names, table, level, n, code) {
-        return Hit::Nothing;
+        return None;
     }
     find_at(tree, table, level, n, name, hash)
 }
@@ -193,7 +219,7 @@ fn resolve(
     name: usize,
     hash: usize,
     known: u32,
-) -> Lookup
+) -> Result<Found, LookupError>
     requires has_words { HasWords names.now }
     requires level_in_bounds { base level ≤ length table.old }
     requires good { Good tree.now names.now level table.old }
@@ -209,8 +235,8 @@ fn resolve(
     let l = level - 1;
     let n = count_at(table, l);
     let outside = code_for(tree, names, table, n, name, hash, known);
-    if let Hit::At(code) = look_at(tree, names, table, l, n, name, hash, outside) {
-        return Lookup::Found(code, 0);
+    if let Some(code) = look_at(tree, names, table, l, n, name, hash, outside) {
+        return Ok(Found { code, crossed: 0 });
     }
     let outer = resolve(
         tree,
@@ -231,7 +257,7 @@ pub fn resolve_name(
     table: &mut [u32],
     level: usize,
     name: usize,
-) -> Lookup
+) -> Result<Found, LookupError>
     requires has_words { HasWords names.now }
     requires level_in_bounds { base level ≤ length table.old }
     requires good { Good tree.now names.now level table.old }
@@ -247,7 +273,7 @@ pub fn resolve_name(
 }
 
 // A definition in the table of the function at a level.
-fn place_at(table: &mut [u32], level: usize, name: usize, hash: usize) -> Definition
+fn place_at(table: &mut [u32], level: usize, name: usize, hash: usize) -> Result<Slot, DefineError>
     requires part_size_in_bounds { base level + part_size ≤ length table.old }
     requires sized { Sized (part level table.old) }
     requires name_lt_tree_limit { name < tree_limit }
@@ -259,7 +285,12 @@ fn place_at(table: &mut [u32], level: usize, name: usize, hash: usize) -> Defini
 }
 
 // A definition more, in the innermost of so many open functions, or among the globals.
-pub fn define(tree: &[u8], table: &mut [u32], level: usize, name: usize) -> Definition
+pub fn define(
+    tree: &[u8],
+    table: &mut [u32],
+    level: usize,
+    name: usize,
+) -> Result<Slot, DefineError>
     requires level_in_bounds { base level ≤ length table.old }
     requires good { (names : Bytes) × Good tree.now names level table.old }
     requires stands { Stands tree.now name }
@@ -316,7 +347,7 @@ pub fn count_globals(table: &[u32]) -> usize
     requires { 0 < length table.now }
     ensures { result ≡ get_or table.now 0 0 }
 {
-    wide32(table[0])
+    table[0] as usize
 }
 
 // The name of a global, as a number: an offset among the session's names, or IN_TREE more than an offset in the tree.

@@ -7,24 +7,19 @@ ghost use Rattle.symbol_table.specs.Layout.{globals_size, part_size, marked_at, 
 ghost use Rattle.symbol_table.specs.Store.{mark_in};
 ghost use Rattle.symbol_table.specs.Contract.{IsName, HasWords, Inside, SameBelow, BeginsMarks, MarksNext, Outermost, MarksAll, Absent};
 
-use super::enclosed::{count, number_at};
+use super::enclosed::{count, number_at, part};
+use super::find_outermost;
 use super::layout::{
-    BUILTIN, CODE_UNIT, ENTRIES_AT, GLOBALS_SIZE, MARK_NUMBERS, MARKED_AT, MARKS, MARKS_AT,
-    PART_SIZE, SHORT,
+    BUILTIN, CODE_UNIT, ENTRIES_AT, GLOBALS_SIZE, MARKED_AT, MARKS, MARKS_AT, PART_SIZE, SHORT,
 };
-use super::name::{hash_at, wide32};
-use super::{Lookup, find_outermost};
+use super::name::hash_at;
 
 // No mark is set.
 fn clear_marks(part: &mut [u32])
     requires { length part.old ≡ part_size }
     ensures { SameBelow marks_at part.old part.new }
 {
-    let mut i = 0;
-    while i < MARK_NUMBERS {
-        part[MARKS_AT + i] = 0;
-        i += 1;
-    }
+    part[MARKS_AT..].fill(0);
 }
 
 // The mark of a code is set.
@@ -33,7 +28,7 @@ fn mark(part: &mut [u32], code: u32)
     ensures { part.new ≡ mark_in part.old code }
 {
     let k = code % MARKS;
-    let at = MARKS_AT + wide32(k / 32);
+    let at = MARKS_AT + (k / 32) as usize;
     let one: u32 = 1;
     let v = part[at] | (one << (k % 32));
     part[at] = v;
@@ -45,7 +40,7 @@ fn is_marked(part: &[u32], code: u32) -> bool
     ensures { result ≡ false → IsMarked part.now code → ⊥ }
 {
     let k = code % MARKS;
-    let v = part[MARKS_AT + wide32(k / 32)];
+    let v = part[MARKS_AT + (k / 32) as usize];
     (v >> (k % 32)) % 2 == 1
 }
 
@@ -91,9 +86,7 @@ fn is_marked_at(table: &[u32], level: usize, code: u32) -> bool
     requires { base level + part_size ≤ length table.now }
     ensures { result ≡ false → IsMarked (part level table.now) code → ⊥ }
 {
-    let start = GLOBALS_SIZE + PART_SIZE * level;
-    let end = start + PART_SIZE;
-    is_marked(&table[start..end], code)
+    is_marked(part(table, level), code)
 }
 
 // How many entries the function at a level has.
@@ -102,9 +95,7 @@ pub fn count_at(table: &[u32], level: usize) -> usize
     requires sized { Sized (part level table.now) }
     ensures { result ≡ entries (part level table.now) }
 {
-    let start = GLOBALS_SIZE + PART_SIZE * level;
-    let end = start + PART_SIZE;
-    count(&table[start..end])
+    count(part(table, level))
 }
 
 // The code of a name's builtin or global, or 1 where there is none.
@@ -117,9 +108,8 @@ pub fn code_outermost(tree: &[u8], names: &[u8], table: &[u32], name: usize, has
     ensures { Outermost (words_in names.now) (globals_in tree.now names.now table.now) (content tree.now name) result }
 {
     match find_outermost(tree, names, table, name, hash) {
-        Lookup::Found(code, _) => code,
-        Lookup::Undefined => 1,
-        Lookup::Full => 1,
+        Ok(found) => found.code,
+        Err(_) => 1,
     }
 }
 
@@ -132,13 +122,12 @@ fn mark_entries(tree: &[u8], names: &[u8], table: &mut [u32], level: usize, n: u
     requires n_value { n ≡ entries (part level table.old) }
     ensures { MarksAll (words_in names.now) (globals_in tree.now names.now table.old) tree.now level table.old table.new }
 {
-    let mut i = wide32(number_at(table, level, MARKED_AT));
-    while i < n {
-        let name = wide32(number_at(table, level, ENTRIES_AT + i) % CODE_UNIT);
+    let from = number_at(table, level, MARKED_AT) as usize;
+    for i in from..n {
+        let name = (number_at(table, level, ENTRIES_AT + i) % CODE_UNIT) as usize;
         let hash = hash_at(tree, name);
         let code = code_outermost(tree, names, table, name, hash);
         next_at(table, level, code);
-        i += 1;
     }
 }
 

@@ -6,26 +6,25 @@ ghost use Rattle.definition.specs.Decode.{words_in};
 ghost use Rattle.field.specs.Row.{HasRow};
 ghost use Rattle.symbol_table.specs.Contract.{hit_of, as_symbol, HasWords};
 
-use super::Hit;
 use super::layout::BUILTIN;
 use definition::tag;
 use field::after_at;
-use field::names::{Found, find_name};
+use field::names::find_name;
 
 // The builtin of a name, among the fields from an offset up to an end.
-fn find_word(words: &[u8], from: usize, to: usize, name: &[u8]) -> Hit
+fn find_word(words: &[u8], from: usize, to: usize, name: &[u8]) -> Option<u32>
     requires has_row { HasRow words.now from to }
     requires names_len_bound { (h : HasRow words.now from to) → length h.names ≤ words_limit }
     ensures { (h : HasRow words.now from to) → hit_of result ≡ as_symbol Symbol.builtin (find_builtin name.now h.names 0) }
 {
     match find_name(words, from, to, name) {
-        Found::At(k) => Hit::At(BUILTIN + k as u32),
-        Found::Nothing => Hit::Nothing,
+        Some(k) => Some(BUILTIN + k as u32),
+        None => None,
     }
 }
 
 // The builtin of a name, among document 01's.
-fn find_six(name: &[u8]) -> Hit
+fn find_six(name: &[u8]) -> Option<u32>
     ensures { hit_of result ≡ as_symbol Symbol.builtin (find_builtin name.now builtins 0) }
 {
     let six =
@@ -34,7 +33,7 @@ fn find_six(name: &[u8]) -> Hit
 }
 
 // The builtin of a name, among a session's words.
-pub fn find_builtin(names: &[u8], name: &[u8]) -> Hit
+pub fn find_builtin(names: &[u8], name: &[u8]) -> Option<u32>
     requires { HasWords names.now }
     ensures { hit_of result ≡ as_symbol Symbol.builtin (find_builtin name.now (words_in names.now) 0) }
 {

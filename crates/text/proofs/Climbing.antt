@@ -4,9 +4,9 @@ use native.Mathlib.Omega.{arith}
 use mathlib.Core.Bool.{Bool, true, false}
 use mathlib.Core.Path.{◌≡◌, refl, sym, ap, subst, ◌∙◌}
 use lib.Dec.{ltb}
-use borrow.Author.Tests.{eqb-false, ne_eqb, ltb-true, ltb-false}
+use borrow.Author.Tests.{eqb-false, ltb-true, ltb-false}
 use Rattle.definition.specs.Basic.{Bytes}
-use Rattle.text.specs.Kind.{open_paren}
+use Rattle.text.specs.Kind.{open_paren, number_of}
 use Rattle.text.specs.Token.{Row, kind_of, behind}
 use Rattle.text.specs.Node.{Node, node, ◌then◌, written, levels, levels_all}
 use Rattle.text.specs.Shape.{tight_of, closes_group, ends_at, continued_tag}
@@ -63,12 +63,12 @@ climb_begins {least} {text} {at} {to} {left} {old} {out} {g} {p} k w v =
     go y rest (ExpressionRow.begins {us = us} {x = x} _ d c) = climbs x us c (w.puts x us d)
 
 -- the tests of a token are those of the row's next
-told : {text : Bytes} {at : ℕ} {t : piece.Token} {row : Row} (test : ℕ → Bool) {b : Bool} → Sees text at t → row_at text at ≡ row → test t.kind ≡ b → test (kind_of row) ≡ b
+told : {text : Bytes} {at : ℕ} {t : piece.Token} {row : Row} (test : ℕ → Bool) {b : Bool} → Sees text at t → row_at text at ≡ row → test (number_of t.kind) ≡ b → test (kind_of row) ≡ b
 told test a h e = ap (λ r. test (kind_of r)) (sym h) ∙ ap test (sym a.kind) ∙ e
 
 module _ {least : ℕ} {text : Bytes} {at to left opened : ℕ} {old out : Bytes} {p : Part} {t : piece.Token} where
   -- a `)` of its own
-  pub climb_closes : {s : Part} → Climbing least text at to left opened old out p → Sees text p.at t → p.at ≤ t.end → closes_group opened t.kind ≡ true → s ≡ moved_on p t.end → Climbing least text at to left (opened - 1) old out s
+  pub climb_closes : {s : Part} → Climbing least text at to left opened old out p → Sees text p.at t → p.at ≤ t.end → closes_group opened (number_of t.kind) ≡ true → s ≡ moved_on p t.end → Climbing least text at to left (opened - 1) old out s
   climb_closes l a o e i =
       subst (λ s. Climbing least text at to left (opened - 1) old out s) (sym i)
       (record { bounds = bounds_on l.bounds o a.within; spares = λ h. omega (arith, l.spares h); going = λ y rest f. by y rest (l.going y rest f) })
@@ -87,7 +87,7 @@ module _ {least : ℕ} {text : Bytes} {at to left opened : ℕ} {old out : Bytes
       by y rest (Climbs.going x row c n h w) = step y rest row x c n h w
 
   -- its end
-  pub climb_ended : Climbing least text at to left opened old out p → Sees text p.at t → closes_group opened t.kind ≡ false → ends_at opened least t.kind ≡ true → WritesNode (ExpressionRow least 0) text at to 0 left old out p
+  pub climb_ended : Climbing least text at to left opened old out p → Sees text p.at t → closes_group opened (number_of t.kind) ≡ false → ends_at opened least (number_of t.kind) ≡ true → WritesNode (ExpressionRow least 0) text at to 0 left old out p
   climb_ended l a e f = record { bounds = l.bounds; puts = λ y rest f. by y rest (l.going y rest f) }
     where
       step : (y : Node) (rest row : Row) (x : Node) → ClimbRow least opened x row rest y → row_at text p.at ≡ row → PutNode text row x left to old out p → PutNode text rest y left to old out p
@@ -100,7 +100,7 @@ module _ {least : ℕ} {text : Bytes} {at to left opened : ℕ} {old out : Bytes
       by y rest (Climbs.going x row c n h w) = step y rest row x c h w
 
 -- an operator, a call or an index
-pub climb_goes : {least : ℕ} {text : Bytes} {at to left opened : ℕ} {old mid out : Bytes} {p s : Part} {t : piece.Token} → Climbing least text at to left opened old mid p → Sees text p.at t → closes_group opened t.kind ≡ false → ends_at opened least t.kind ≡ false → Continues text t to p left mid out s → Climbing least text at to left opened old out s
+pub climb_goes : {least : ℕ} {text : Bytes} {at to left opened : ℕ} {old mid out : Bytes} {p s : Part} {t : piece.Token} → Climbing least text at to left opened old mid p → Sees text p.at t → closes_group opened (number_of t.kind) ≡ false → ends_at opened least (number_of t.kind) ≡ false → Continues text t to p left mid out s → Climbing least text at to left opened old out s
 climb_goes {least} {text} {at} {to} {left} {opened} {old} {mid} {out} {p} {s} {t} l a e f w =
     record {
       bounds =
@@ -120,12 +120,12 @@ climb_goes {least} {text} {at} {to} {left} {opened} {old} {mid} {out} {p} {s} {t
     step y rest row x (ClimbRow.closes n _) h v = absurd (no_both_ways n (told (closes_group opened) a h e))
     step _ _ row x (ClimbRow.ends _ n) h v = absurd (no_both_ways n (told (ends_at opened least) a h f))
     step y rest row x (ClimbRow.goes {us = us} {xs = xs} _ _ i c) h v =
-        let k : t.kind ≡ kind_of row = a.kind ∙ ap kind_of h in
+        let k : number_of t.kind ≡ kind_of row = a.kind ∙ ap kind_of h in
         let r : row_at text t.end ≡ behind row = a.rest ∙ ap behind h in
-        let i' : InsideRow t.kind (tight_of t.kind) (row_at text t.end) us xs = rw (k, r) i in
-        let c' : ClimbRow least opened (node (continued_tag t.kind) (x then xs)) us rest y = rw k c in
+        let i' : InsideRow (number_of t.kind) (tight_of (number_of t.kind)) (row_at text t.end) us xs = rw (k, r) i in
+        let c' : ClimbRow least opened (node (continued_tag (number_of t.kind)) (x then xs)) us rest y = rw k c in
         let v' : PutNode text (row_at text p.at) x left to old mid p = rw h v in
-        climbs (node (continued_tag t.kind) (x then xs)) us c' (w.puts x xs us old l.bounds.lengths v' i')
+        climbs (node (continued_tag (number_of t.kind)) (x then xs)) us c' (w.puts x xs us old l.bounds.lengths v' i')
 
     by : (y : Node) (rest : Row) → Climbs least opened text rest y left to old mid p → Climbs least opened text rest y left to old out s
     by y rest (Climbs.lost b c) = Climbs.lost b (w.deep (omega arith))
@@ -139,16 +139,10 @@ pub record Skipping (text : Bytes) (from at opened : ℕ) : Type 0 where
   pub rows : (least : ℕ) (rest : Row) (y : Node) → ExpressionRow least 0 (row_at text from) rest y → ExpressionRow least opened (row_at text at) rest y
 
 -- one more
-pub skips_on : {text : Bytes} {from at opened : ℕ} {t : piece.Token} → Skipping text from at opened → Sees text at t → at < t.end → t.kind ≡ open_paren → Skipping text from t.end (opened + 1)
+pub skips_on : {text : Bytes} {from at opened : ℕ} {t : piece.Token} → Skipping text from at opened → Sees text at t → at < t.end → number_of t.kind ≡ open_paren → Skipping text from t.end (opened + 1)
 skips_on {text} {from} {at} {opened} {t} k a o e =
     record { onward = omega (arith, k.onward); within = a.within; few = omega (arith, k.few); rows = λ least rest y f. go least rest y (k.rows least rest y f) }
   where
     go : (least : ℕ) (rest : Row) (y : Node) → ExpressionRow least opened (row_at text at) rest y → ExpressionRow least (opened + 1) (row_at text t.end) rest y
     go least rest y (ExpressionRow.grouped _ d) = let n : opened + 1 ≡ suc opened = omega arith in rw (n, a.rest) d
     go least rest y (ExpressionRow.begins n _ _) = absurd (eqb-false (kind_of (row_at text at)) open_paren n (sym a.kind ∙ e))
-
--- all
-pub skips_end : {text : Bytes} {from at opened : ℕ} {t : piece.Token} {g : Groups} → Skipping text from at opened → Sees text at t → (t.kind ≡ open_paren → ⊥) → g ≡ record { at = at; opened = opened } → Skips text from g
-skips_end {text} {from} {at} {opened} {t} k a e i =
-    subst (λ g. Skips text from g) (sym i)
-    (record { onward = k.onward; within = k.within; few = k.few; rows = k.rows; operand = ne_eqb (kind_of (row_at text at)) open_paren (λ z. e (a.kind ∙ z)) })

@@ -1,46 +1,50 @@
 -- The contents of tokens, and the fields made of them.
-use Prim.Native.Nat.{ℕ, ◌+◌, ◌-◌, ◌≤◌}
+use Prim.Native.Nat.{ℕ, ◌+◌, ◌-◌, ◌≤◌, ◌<◌}
 use native.Mathlib.Omega.{arith}
 use mathlib.Core.List.{[], ◌∷◌}
-use mathlib.Core.Path.{◌≡◌, refl, sym, ap, subst, ◌∙◌}
-use lib.ListN.{length}
-use lib.Seq.{sets}
-use borrow.Author.Tests.{eq-eqb, ne_eqb, le-leb}
+use mathlib.Core.Path.{◌≡◌, refl, sym, ap, ◌∙◌}
+use lib.ListN.{length, take, drop, length-drop}
+use lib.Seq.{sets, length-take-le}
+use borrow.Author.Tests.{ne_eqb, le-leb}
 use Rattle.definition.specs.Basic.{Bytes, byte_at}
 use Rattle.definition.specs.Field.{field, bytes}
 use Rattle.session.proofs.Stores.{sets_before}
-use Rattle.text.specs.Kind.{an_integer, a_string, true_word, false_word, semicolon}
-use Rattle.text.specs.Token.{kind_of}
+use Rattle.text.specs.Kind.{an_integer, a_string, true_word, false_word, number_of}
 use Rattle.text.specs.Scan.{value, eight, integer_limit}
-use Rattle.text.specs.Seen.{capped}
-use Rattle.text.specs.Parts.{end_of, head_of, row_at, content_of, Sees, Passes, moved_on}
-use Rattle.text.specs.declared.part.Part.{Part}
+use Rattle.text.specs.Seen.{within_limit}
+use Rattle.std.specs.Prelude.{Some}
+use Rattle.text.specs.Parts.{end_of, head_of, content_of, Sees}
 use Rattle.text.specs.declared.scan.Token as piece
+use Rattle.text.proofs.RowAt.{end_early, end_within}
 
 module _ (text : Bytes) (t : piece.Token) where
-  pub content_integer : t.kind ≡ an_integer → value 0 (bytes (byte_at text) t.start (t.end - t.start)) ≤ integer_limit → (v : ℕ) → v ≡ capped (value 0 (bytes (byte_at text) t.start (t.end - t.start))) → content_of text t ≡ eight v
+  pub content_integer : number_of t.kind ≡ an_integer → value 0 (bytes (byte_at text) t.start (t.end - t.start)) ≤ integer_limit → (v : ℕ) → Some v ≡ within_limit (value 0 (bytes (byte_at text) t.start (t.end - t.start))) → content_of text t ≡ eight v
   unfolding content_of
-  content_integer e h v f = let i = value 0 (bytes (byte_at text) t.start (t.end - t.start)) in let g : capped i ≡ i = rw (le-leb i integer_limit h) refl in rw e (ap eight (sym (f ∙ g)))
+  content_integer e h v f = let i = value 0 (bytes (byte_at text) t.start (t.end - t.start)) in let g : within_limit i ≡ Some i = rw (le-leb i integer_limit h) refl in let j : i ≡ v = cc in rw e (ap eight j)
 
-  pub content_string : t.kind ≡ a_string → content_of text t ≡ bytes (byte_at text) (t.start + 1) (t.end - 1 - (t.start + 1))
+  pub content_string : number_of t.kind ≡ a_string → content_of text t ≡ bytes (byte_at text) (t.start + 1) (t.end - 1 - (t.start + 1))
   unfolding content_of
   content_string e = rw e refl
 
-  pub content_true : t.kind ≡ true_word → content_of text t ≡ 1 ∷ []
+  pub content_true : number_of t.kind ≡ true_word → content_of text t ≡ 1 ∷ []
   unfolding content_of
   content_true e = rw e refl
 
-  pub content_false : t.kind ≡ false_word → content_of text t ≡ 0 ∷ []
+  pub content_false : number_of t.kind ≡ false_word → content_of text t ≡ 0 ∷ []
   unfolding content_of
   content_false e = rw e refl
 
-  pub content-bytes : (t.kind ≡ an_integer → ⊥) → (t.kind ≡ a_string → ⊥) → (t.kind ≡ true_word → ⊥) → (t.kind ≡ false_word → ⊥) → content_of text t ≡ bytes (byte_at text) t.start (t.end - t.start)
+  pub content-bytes : (number_of t.kind ≡ an_integer → ⊥) → (number_of t.kind ≡ a_string → ⊥) → (number_of t.kind ≡ true_word → ⊥) → (number_of t.kind ≡ false_word → ⊥) → content_of text t ≡ bytes (byte_at text) t.start (t.end - t.start)
   unfolding content_of
-  content-bytes a b c d = rw (ne_eqb t.kind an_integer a, ne_eqb t.kind a_string b, ne_eqb t.kind true_word c, ne_eqb t.kind false_word d) refl
+  content-bytes a b c d = rw (ne_eqb (number_of t.kind) an_integer a, ne_eqb (number_of t.kind) a_string b, ne_eqb (number_of t.kind) true_word c, ne_eqb (number_of t.kind) false_word d) refl
 
   -- put
   pub put_done : (to : ℕ) (old : Bytes) {content : Bytes} {r : ℕ} {out : Bytes} → content_of text t ≡ content → r ≡ to + length content → out ≡ sets old to content → length content ≤ 8 + (t.end - t.start) → (r ≡ to + length (content_of text t)) × ((out ≡ sets old to (content_of text t)) × (length (content_of text t) ≤ 8 + (t.end - t.start)))
   put_done to old {content} {r} {out} e a b c = (a ∙ ap (λ x. to + length x) (sym e), (b ∙ ap (sets old to) (sym e), omega (arith, ap length e)))
+
+-- a part of a text's tokens is short
+pub part_small : (text : Bytes) (from n : ℕ) → from + n ≤ end_of text → length (take n (drop from text)) < 1048576
+part_small text from n h = omega (arith, end_early text, end_within text, length-take-le n (drop from text) (omega (arith, length-drop from text, end_within text)))
 
 -- a head in front of a content
 pub field_stored : (tag : ℕ) (content : Bytes) (to : ℕ) (old : Bytes) {end : ℕ} {mid out : Bytes} → mid ≡ sets old (to + 3) content → end ≡ to + 3 + length content → out ≡ sets mid to (head_of tag (end - to - 3)) → out ≡ sets old to (field tag content)
@@ -51,14 +55,3 @@ field_stored tag content to old {end} {mid} {out} a e b =
 -- a token ends behind where it was looked for
 pub sees_on : {text : Bytes} {at : ℕ} {t : piece.Token} → Sees text at t → at ≤ t.end
 sees_on s = omega (arith, s.from, s.order)
-
--- a `;`, or none
-pub passes_one : {text : Bytes} {t : piece.Token} {p q : Part} → Sees text p.at t → t.kind ≡ semicolon → q ≡ moved_on p t.end → Passes text p q
-passes_one {text} {t} {p} a e i =
-    subst (λ q. Passes text p q) (sym i)
-    (record { part = refl; onward = sees_on a; within = a.within; row = a.rest ∙ rw (eq-eqb (kind_of (row_at text p.at)) semicolon (sym a.kind ∙ e)) refl })
-
-pub passes_none : {text : Bytes} {t : piece.Token} {p q : Part} → Sees text p.at t → p.at ≤ end_of text → (t.kind ≡ semicolon → ⊥) → q ≡ p → Passes text p q
-passes_none {text} {t} {p} a h e i =
-    subst (λ q. Passes text p q) (sym i)
-    (record { part = refl; onward = omega arith; within = h; row = rw (ne_eqb (kind_of (row_at text p.at)) semicolon (λ z. e (a.kind ∙ z))) refl })

@@ -2,9 +2,9 @@
 use Prim.Native.Nat.{ℕ, zero, suc, ◌+◌, ◌≤◌, ◌<◌}
 use native.Mathlib.Omega.{arith}
 use mathlib.Core.Bool.{Bool, true, false}
-use mathlib.Core.Path.{◌≡◌, refl, ap}
+use mathlib.Core.Path.{◌≡◌, refl}
 use lib.Dec.{ltb, eqb}
-use borrow.Author.Tests.{ne_eqb, lt-ltb, le-ltb, le-leb, lt-leb}
+use borrow.Author.Tests.{ne_eqb, lt-ltb, le-leb, lt-leb}
 use Rattle.definition.specs.Basic.{both}
 use Rattle.definition.specs.Tag.{tag_infix, tag_expr_stmt}
 use Rattle.definition.proofs.Basic.{chosen}
@@ -17,9 +17,6 @@ use Rattle.text.specs.Shape.{tight_of, closes_group, ends_at, closing, separatin
 pub both_no : (a : Bool) {b : Bool} → b ≡ false → both a b ≡ false
 both_no true e = e
 both_no false e = refl
-
-pub no_both : {a : Bool} (b : Bool) → a ≡ false → both a b ≡ false
-no_both b e = ap (λ x. both x b) e
 
 -- a token that is no `)` closes no group
 pub not_closes : (opened k : ℕ) → eqb k close_paren ≡ false → closes_group opened k ≡ false
@@ -100,31 +97,6 @@ begins-statement k h = rw (ne_eqb k close_brace (λ e. omega arith), ne_eqb k en
 pub begins-expression : (k : ℕ) → a_name ≤ k → statement_tag k ≡ tag_expr_stmt
 unfolding statement_tag
 begins-expression k h = rw (ne_eqb k let_word (λ e. omega arith), ne_eqb k return_word (λ e. omega arith)) refl
-
--- the tightness of a kind, by its range
-pub tight_call : (k : ℕ) → open_paren ≤ k → k < minus → tight_of k ≡ 6
-unfolding tight_of
-tight_call k a b = rw (le-ltb k open_paren a, lt-ltb k minus b) refl
-
-pub tight_sum : (k : ℕ) → minus ≤ k → k < 15 → tight_of k ≡ 3
-unfolding tight_of
-tight_sum k a b = rw (le-ltb k open_paren (omega arith), le-ltb k minus a, lt-ltb k 15 b) refl
-
-pub tight_product : (k : ℕ) → 15 ≤ k → k < 17 → tight_of k ≡ 4
-unfolding tight_of
-tight_product k a b = rw (le-ltb k open_paren (omega arith), le-ltb k minus (omega arith), le-ltb k 15 a, lt-ltb k 17 b) refl
-
-pub tight_comparison : (k : ℕ) → 17 ≤ k → k < 19 → tight_of k ≡ 2
-unfolding tight_of
-tight_comparison k a b = rw (le-ltb k open_paren (omega arith), le-ltb k minus (omega arith), le-ltb k 15 (omega arith), le-ltb k 17 a, lt-ltb k 19 b) refl
-
-pub tight_equality : (k : ℕ) → 19 ≤ k → k < else_word → tight_of k ≡ 1
-unfolding tight_of
-tight_equality k a b = rw (le-ltb k open_paren (omega arith), le-ltb k minus (omega arith), le-ltb k 15 (omega arith), le-ltb k 17 (omega arith), le-ltb k 19 a, lt-ltb k else_word b) refl
-
-pub late_loose : (k : ℕ) → else_word ≤ k → tight_of k ≡ 0
-unfolding tight_of
-late_loose k a = rw (le-ltb k open_paren (omega arith), le-ltb k minus (omega arith), le-ltb k 15 (omega arith), le-ltb k 17 (omega arith), le-ltb k 19 (omega arith), le-ltb k else_word a) refl
 
 -- none is tighter than a call
 pub tight_most : (k : ℕ) → tight_of k ≤ 6

@@ -11,7 +11,7 @@ use borrow.Author.Tests.{eqb-true, eqb-false}
 use Rattle.definition.specs.Basic.{Bytes, pick}
 use Rattle.definition.specs.Field.{field}
 use Rattle.definition.specs.Tag.{tag_name}
-use Rattle.text.specs.Kind.{a_name, comma}
+use Rattle.text.specs.Kind.{a_name, comma, number_of}
 use Rattle.text.specs.Token.{Row, kind_of, bytes_of, behind}
 use Rattle.text.specs.Node.{leaf, Nodes, written, written_all, levels, levels_all, larger}
 use Rattle.text.specs.Shape.{closing, separating, ending}
@@ -20,8 +20,8 @@ use Rattle.text.specs.Parts.{end_of, row_at, denoted, content_of, Sees, Put, Put
 use Rattle.text.specs.declared.part.Part.{Part}
 use Rattle.text.specs.declared.scan.Token as piece
 use Rattle.text.proofs.Larger.{larger_is}
-use Rattle.text.proofs.Bounding.{bounds_none, bounds_behind, bounds_on}
-use Rattle.text.proofs.Putting.{put_on, put_same, Going, going_begins, going_on, going_ends, going_lost}
+use Rattle.text.proofs.Bounding.{bounds_behind, bounds_on}
+use Rattle.text.proofs.Putting.{put_on, put_same, Going, going_on, going_ends, going_lost}
 use Rattle.text.proofs.Writing.{put_leaf_field}
 
 -- what such a loop keeps
@@ -29,17 +29,13 @@ pub record Looping (F : Row → Row → Nodes → Type 0) (text : Bytes) (at to 
   pub bounds : Bounds text at to 0 left old out p
   pub going : (xs : Nodes) (rest : Row) → F (row_at text at) rest xs → Going F text rest xs left to old out p
 
--- nothing yet
-pub looping_begins : {F : Row → Row → Nodes → Type 0} {text : Bytes} (at to left : ℕ) {old : Bytes} {p : Part} → at ≤ end_of text → p ≡ record { at = at; to = to; levels = 0; tag = 0 } → Looping F text at to left old old p
-looping_begins at to left h e = record { bounds = bounds_none at to left h e; going = λ xs rest f. going_begins at f (ap (λ p. p.at) e) (ap (λ p. p.to) e) (ap (λ p. p.levels) e) }
-
 -- what is too deep stays so
 lost : {F : Row → Row → Nodes → Type 0} {text : Bytes} {rest : Row} {xs : Nodes} {left to : ℕ} {old out : Bytes} {p : Part} (g : Going F text rest xs left to old out p) → left < g.deep → left < p.levels → Put text rest (written_all xs) (levels_all xs) left to old out p
 lost {xs = xs} g a b = Put.too_deep (omega (arith, g.depth, (larger_is g.deep (levels_all g.more)).left)) b
 
 module _ {text : Bytes} {at to left : ℕ} {old mid out : Bytes} {p q s : Part} {t : piece.Token} where
   -- a statement more
-  pub statements_on : Looping StatementsRow text at to left old mid p → Sees text p.at t → ending t.kind ≡ false → WritesNode StatementRow text p.at p.to 0 left mid out q → s ≡ joined_of p q → Looping StatementsRow text at to left old out s
+  pub statements_on : Looping StatementsRow text at to left old mid p → Sees text p.at t → ending (number_of t.kind) ≡ false → WritesNode StatementRow text p.at p.to 0 left mid out q → s ≡ joined_of p q → Looping StatementsRow text at to left old out s
   statements_on l a e w i =
       subst (λ s. Looping StatementsRow text at to left old out s) (sym i)
       (record { bounds = bounds_behind l.bounds (omega arith) w.bounds; going = λ xs rest f. by (l.going xs rest f) (l.going xs rest f).put })
@@ -53,10 +49,10 @@ module _ {text : Bytes} {at to left : ℕ} {old mid out : Bytes} {p q s : Part} 
       by g (Put.fits a r b c d) = step g g.more g.row g.ahead refl r refl
 
   -- an item more
-  pub list_on : {from : ℕ} → Looping ListRow text at to left old mid p → Sees text p.at t → p.at ≤ t.end → closing t.kind ≡ false → from ≡ pick (separating t.kind) t.end p.at → WritesNode (ExpressionRow 0 0) text from p.to 0 left mid out q → s ≡ joined_of p q → Looping ListRow text at to left old out s
+  pub list_on : {from : ℕ} → Looping ListRow text at to left old mid p → Sees text p.at t → p.at ≤ t.end → closing (number_of t.kind) ≡ false → from ≡ pick (separating (number_of t.kind)) t.end p.at → WritesNode (ExpressionRow 0 0) text from p.to 0 left mid out q → s ≡ joined_of p q → Looping ListRow text at to left old out s
   list_on {from} l a o e f w i =
       subst (λ s. Looping ListRow text at to left old out s) (sym i)
-      (record { bounds = bounds_behind l.bounds (rw f (later (separating t.kind))) w.bounds; going = λ xs rest f. by (l.going xs rest f) (l.going xs rest f).put })
+      (record { bounds = bounds_behind l.bounds (rw f (later (separating (number_of t.kind)))) w.bounds; going = λ xs rest f. by (l.going xs rest f) (l.going xs rest f).put })
     where
       later : (b : Bool) → p.at ≤ pick b t.end p.at
       later true = o
@@ -67,7 +63,7 @@ module _ {text : Bytes} {at to left : ℕ} {old mid out : Bytes} {p q s : Part} 
       stands false = refl
 
       place : row_at text from ≡ item_row (row_at text p.at)
-      place = ap (row_at text) f ∙ stands (separating t.kind) ∙ ap (λ k. pick (separating k) (behind (row_at text p.at)) (row_at text p.at)) a.kind
+      place = ap (row_at text) f ∙ stands (separating (number_of t.kind)) ∙ ap (λ k. pick (separating k) (behind (row_at text p.at)) (row_at text p.at)) a.kind
 
       step : {rest : Row} {xs : Nodes} (g : Going ListRow text rest xs left to old mid p) (m : Nodes) (ρ : Row) → ListRow ρ rest m → g.more ≡ m → row_at text p.at ≡ g.row → g.row ≡ ρ → Going ListRow text rest xs left to old out (joined_of p q)
       step g _ ρ (ListRow.closed y) i h j = let z : ◌≡◌ {A = Bool} true false = sym y ∙ ap (λ r. closing (kind_of r)) (sym (h ∙ j)) ∙ ap closing (sym a.kind) ∙ e in let y : ◌≡◌ {A = ℕ} 0 1 = cc in absurd (omega arith)
@@ -79,7 +75,7 @@ module _ {text : Bytes} {at to left : ℕ} {old mid out : Bytes} {p q s : Part} 
 
 module _ {text : Bytes} {at to left : ℕ} {old out : Bytes} {p : Part} {t : piece.Token} where
   -- all statements
-  pub statements_end : Looping StatementsRow text at to left old out p → Sees text p.at t → ending t.kind ≡ true → Writes StatementsRow text at to 0 left old out p
+  pub statements_end : Looping StatementsRow text at to left old out p → Sees text p.at t → ending (number_of t.kind) ≡ true → Writes StatementsRow text at to 0 left old out p
   statements_end l a e = record { bounds = l.bounds; puts = λ xs rest f. by (l.going xs rest f) (l.going xs rest f).put }
     where
       step : {rest : Row} {xs : Nodes} (g : Going StatementsRow text rest xs left to old out p) (m : Nodes) (ρ : Row) → StatementsRow ρ rest m → g.more ≡ m → row_at text p.at ≡ g.row → g.row ≡ ρ → Put text rest (written_all xs) (levels_all xs) left to old out p
@@ -91,7 +87,7 @@ module _ {text : Bytes} {at to left : ℕ} {old out : Bytes} {p : Part} {t : pie
       by g (Put.fits a r b c d) = step g g.more g.row g.ahead refl r refl
 
   -- all items, and the token that closes them
-  pub list_end : {s : Part} → Looping ListRow text at to left old out p → Sees text p.at t → p.at ≤ t.end → closing t.kind ≡ true → s ≡ moved_on p t.end → Writes ListRow text at to 0 left old out s
+  pub list_end : {s : Part} → Looping ListRow text at to left old out p → Sees text p.at t → p.at ≤ t.end → closing (number_of t.kind) ≡ true → s ≡ moved_on p t.end → Writes ListRow text at to 0 left old out s
   list_end {s} l a o e i =
       subst (λ s. Writes ListRow text at to 0 left old out s) (sym i) (record { bounds = bounds_on l.bounds o a.within; puts = λ xs rest f. by (l.going xs rest f) (l.going xs rest f).put })
     where
@@ -104,7 +100,7 @@ module _ {text : Bytes} {at to left : ℕ} {old out : Bytes} {p : Part} {t : pie
       by g (Put.fits a r b c d) = step g g.more g.row g.ahead refl r refl
 
 -- a name's bytes
-pub content_name : (text : Bytes) (t : piece.Token) → t.kind ≡ a_name → content_of text t ≡ denoted text t.kind t.start t.end
+pub content_name : (text : Bytes) (t : piece.Token) → number_of t.kind ≡ a_name → content_of text t ≡ denoted text (number_of t.kind) t.start t.end
 unfolding content_of denoted
 content_name text t e = rw e refl
 
@@ -124,7 +120,7 @@ bounds_token {tag} {text} {t} {at} {to} {left} {old} {out} {p} w h k l =
     }
 
 -- a name more
-pub names_name : {text : Bytes} {at to left : ℕ} {old mid out : Bytes} {p q s : Part} {t : piece.Token} → Looping NamesRow text at to left old mid p → Sees text p.at t → t.kind ≡ a_name → p.at < t.end → PutToken tag_name text t p.to mid out q → s ≡ joined_of p q → Looping NamesRow text at to left old out s
+pub names_name : {text : Bytes} {at to left : ℕ} {old mid out : Bytes} {p q s : Part} {t : piece.Token} → Looping NamesRow text at to left old mid p → Sees text p.at t → number_of t.kind ≡ a_name → p.at < t.end → PutToken tag_name text t p.to mid out q → s ≡ joined_of p q → Looping NamesRow text at to left old out s
 unfolding written levels
 names_name {text} {at} {to} {left} {old} {mid} {out} {p} {q} {s} {t} l a e o w i =
     subst (λ s. Looping NamesRow text at to left old out s) (sym i)
@@ -151,7 +147,7 @@ names_name {text} {at} {to} {left} {old} {mid} {out} {p} {q} {s} {t} l a e o w i
     by g (Put.fits a r b c d) = step g g.more g.row g.ahead refl r refl
 
 -- a comma
-pub names-comma : {text : Bytes} {at to left : ℕ} {old out : Bytes} {p s : Part} {t : piece.Token} → Looping NamesRow text at to left old out p → Sees text p.at t → t.kind ≡ comma → p.at ≤ t.end → s ≡ moved_on p t.end → Looping NamesRow text at to left old out s
+pub names-comma : {text : Bytes} {at to left : ℕ} {old out : Bytes} {p s : Part} {t : piece.Token} → Looping NamesRow text at to left old out p → Sees text p.at t → number_of t.kind ≡ comma → p.at ≤ t.end → s ≡ moved_on p t.end → Looping NamesRow text at to left old out s
 names-comma {text} {at} {to} {left} {old} {out} {p} {s} {t} l a e o i =
     subst (λ s. Looping NamesRow text at to left old out s) (sym i)
     (record { bounds = bounds_on l.bounds o a.within; going = λ xs rest f. by (l.going xs rest f) (l.going xs rest f).put })
@@ -170,11 +166,11 @@ names-comma {text} {at} {to} {left} {old} {out} {p} {s} {t} l a e o i =
     by g (Put.fits a r b c d) = step g g.more g.row g.ahead refl r refl
 
 -- all names, and the token behind them
-pub names-end : {text : Bytes} {at to left : ℕ} {old out : Bytes} {p s : Part} {t : piece.Token} → Looping NamesRow text at to left old out p → Sees text p.at t → (t.kind ≡ a_name → ⊥) → (t.kind ≡ comma → ⊥) → p.at ≤ t.end → s ≡ moved_on p t.end → Writes NamesRow text at to 0 left old out s
+pub names-end : {text : Bytes} {at to left : ℕ} {old out : Bytes} {p s : Part} {t : piece.Token} → Looping NamesRow text at to left old out p → Sees text p.at t → (number_of t.kind ≡ a_name → ⊥) → (number_of t.kind ≡ comma → ⊥) → p.at ≤ t.end → s ≡ moved_on p t.end → Writes NamesRow text at to 0 left old out s
 names-end {text} {at} {to} {left} {old} {out} {p} {s} {t} l a e f o i =
     subst (λ s. Writes NamesRow text at to 0 left old out s) (sym i) (record { bounds = bounds_on l.bounds o a.within; puts = λ xs rest f. by (l.going xs rest f) (l.going xs rest f).put })
   where
-    is : (ρ : Row) → row_at text p.at ≡ ρ → t.kind ≡ kind_of ρ
+    is : (ρ : Row) → row_at text p.at ≡ ρ → number_of t.kind ≡ kind_of ρ
     is ρ h = a.kind ∙ ap kind_of h
 
     step : {rest : Row} {xs : Nodes} (g : Going NamesRow text rest xs left to old out p) (m : Nodes) (ρ : Row) → NamesRow ρ rest m → g.more ≡ m → row_at text p.at ≡ g.row → g.row ≡ ρ → Put text rest (written_all xs) (levels_all xs) left to old out (moved_on p t.end)

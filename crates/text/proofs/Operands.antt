@@ -12,11 +12,11 @@ use Rattle.definition.specs.Basic.{Bytes, byte_at}
 use Rattle.definition.specs.Field.{field, bytes}
 use Rattle.definition.specs.Tag.{tag_operator}
 use Rattle.definition.proofs.Basic.{chosen, both_true}
-use Rattle.text.specs.Kind.{a_name, false_word, if_word, fn_word, ended}
+use Rattle.text.specs.Kind.{a_name, false_word, if_word, fn_word, ended, number_of}
 use Rattle.text.specs.Token.{Row, kind_of, bytes_of}
 use Rattle.text.specs.Node.{Node, node, Nodes, ◌then◌, written, written_all, levels, levels_all, larger}
 use Rattle.text.specs.Shape.{tight_of, is_leaf, is_list, operator_of, continued_tag, operand_tag, leaf_bytes}
-use Rattle.text.specs.Parse.{ExpressionRow, OperandRow, InsideRow, ListRow, IfRow, FunctionRow}
+use Rattle.text.specs.Parse.{ExpressionRow, OperandRow, InsideRow, ListRow}
 use Rattle.text.specs.Parts.{end_of, head_of, moved_by, row_at, denoted, content_of, Sees, Put, PutNode, PutToken, Bounds, Spares, WritesNode, Writes, Continues, joined_of, closed_of}
 use Rattle.text.specs.declared.part.Part.{Part}
 use Rattle.text.specs.declared.scan.Token as piece
@@ -50,7 +50,7 @@ unfolding is_leaf
 is_leaf_kind k e = let b = both_true (leb a_name k) (leb k false_word) e in leaf_kind k (leb-true a_name k b.0) (leb-true k false_word b.1)
 
 -- a leaf's content
-content_leaf : (text : Bytes) (t : piece.Token) → LeafKind t.kind → content_of text t ≡ leaf_bytes t.kind (denoted text t.kind t.start t.end)
+content_leaf : (text : Bytes) (t : piece.Token) → LeafKind (number_of t.kind) → content_of text t ≡ leaf_bytes (number_of t.kind) (denoted text (number_of t.kind) t.start t.end)
 unfolding content_of leaf_bytes denoted
 content_leaf text t (LeafKind.two e) = rw e refl
 content_leaf text t (LeafKind.three e) = rw e refl
@@ -68,7 +68,7 @@ pub no_both_ways : {b : Bool} → b ≡ true → b ≡ false → ⊥
 no_both_ways e f = let z : ◌≡◌ {A = Bool} true false = sym e ∙ f in let y : ◌≡◌ {A = ℕ} 0 1 = cc in omega arith
 
 -- the text has ended
-pub operand-ended : {text : Bytes} {at to left : ℕ} {o : Bytes} {t : piece.Token} {p : Part} → Sees text at t → t.kind ≡ ended → p ≡ record { at = t.end; to = to; levels = 0; tag = 0 } → WritesNode OperandRow text at to 0 left o o p × Spares text at to p
+pub operand-ended : {text : Bytes} {at to left : ℕ} {o : Bytes} {t : piece.Token} {p : Part} → Sees text at t → number_of t.kind ≡ ended → p ≡ record { at = t.end; to = to; levels = 0; tag = 0 } → WritesNode OperandRow text at to 0 left o o p × Spares text at to p
 operand-ended {text} {at} {to} {left} {o} {t} {p} a k e =
     let i = ap (λ p. p.at) e in
     let j = ap (λ p. p.to) e in (
@@ -84,25 +84,25 @@ operand-ended {text} {at} {to} {left} {o} {t} {p} a k e =
     go _ _ (OperandRow.deeper h _ _) = absurd (eqb-false (kind_of (row_at text at)) ended h (sym a.kind ∙ k))
 
 -- an operand that is one token
-pub operand_leaf : {text : Bytes} {at to left : ℕ} {o o₁ : Bytes} {t : piece.Token} {p : Part} → Sees text at t → at < t.end → is_leaf t.kind ≡ true → PutToken (operand_tag t.kind) text t to o o₁ p → WritesNode OperandRow text at to 0 left o o₁ p × Spares text at to p
+pub operand_leaf : {text : Bytes} {at to left : ℕ} {o o₁ : Bytes} {t : piece.Token} {p : Part} → Sees text at t → at < t.end → is_leaf (number_of t.kind) ≡ true → PutToken (operand_tag (number_of t.kind)) text t to o o₁ p → WritesNode OperandRow text at to 0 left o o₁ p × Spares text at to p
 unfolding written levels
 operand_leaf {text} {at} {to} {left} {o} {o₁} {t} {p} a h k w =
     (record { bounds = bounds_token w h a.from a.within; puts = λ x rest f. go x rest f }, λ _. omega (arith, ap (λ p. p.at) w.part, ap (λ p. p.to) w.part, w.most, a.from))
   where
     go : (x : Node) (rest : Row) → OperandRow (row_at text at) rest x → PutNode text rest x left to o o₁ p
     go _ _ (OperandRow.a_leaf _) =
-        let c : content_of text t ≡ leaf_bytes (kind_of (row_at text at)) (bytes_of (row_at text at)) = content_leaf text t (is_leaf_kind t.kind k) ∙ (λ i. leaf_bytes (a.kind i) (a.content i)) in
+        let c : content_of text t ≡ leaf_bytes (kind_of (row_at text at)) (bytes_of (row_at text at)) = content_leaf text t (is_leaf_kind (number_of t.kind) k) ∙ (λ i. leaf_bytes (a.kind i) (a.content i)) in
         record {
-          put = put_same (λ i. field (operand_tag (a.kind i)) (c i)) refl (put_leaf_field (operand_tag t.kind) (content_of text t) left a.rest w.part w.stored);
+          put = put_same (λ i. field (operand_tag (a.kind i)) (c i)) refl (put_leaf_field (operand_tag (number_of t.kind)) (content_of text t) left a.rest w.part w.stored);
           tag = λ _. ap (λ p. p.tag) w.part ∙ ap operand_tag a.kind;
         }
     go _ _ (OperandRow.deeper _ h _) = absurd (no_both_ways (ap is_leaf (sym a.kind) ∙ k) h)
 
 -- an operand with fields inside
-pub operand_deeper : {text : Bytes} {at to l left : ℕ} {o o₁ o₂ : Bytes} {t : piece.Token} {p s : Part} → left ≡ suc l → Sees text at t → at < t.end → is_leaf t.kind ≡ false → Writes (InsideRow t.kind 5) text t.end (to + 3) 9 l o o₁ p → s ≡ closed_of (operand_tag t.kind) p → o₂ ≡ sets o₁ to (head_of (operand_tag t.kind) (p.to - to - 3)) → WritesNode OperandRow text at to 0 left o o₂ s × Spares text at to s
+pub operand_deeper : {text : Bytes} {at to l left : ℕ} {o o₁ o₂ : Bytes} {t : piece.Token} {p s : Part} → left ≡ suc l → Sees text at t → at < t.end → is_leaf (number_of t.kind) ≡ false → Writes (InsideRow (number_of t.kind) 5) text t.end (to + 3) 9 l o o₁ p → s ≡ closed_of (operand_tag (number_of t.kind)) p → o₂ ≡ sets o₁ to (head_of (operand_tag (number_of t.kind)) (p.to - to - 3)) → WritesNode OperandRow text at to 0 left o o₂ s × Spares text at to s
 unfolding written levels
 operand_deeper {text} {at} {to} {l} {left} {o} {o₁} {o₂} {t} {p} {s} z a h k w j m =
-    let f = bounds_field (operand_tag t.kind) w.bounds m in
+    let f = bounds_field (operand_tag (number_of t.kind)) w.bounds m in
     subst (λ left. WritesNode OperandRow text at to 0 left o o₂ s × Spares text at to s) (sym z) (subst (λ s. WritesNode OperandRow text at to 0 (suc l) o o₂ s × Spares text at to s) (sym j) (
       record {
         bounds = record { lengths = f.lengths; onward = omega (arith, f.onward); within = f.within; room = omega (arith, f.room, f.onward); behind = f.behind; depth = f.depth };
@@ -111,35 +111,17 @@ operand_deeper {text} {at} {to} {l} {left} {o} {o₁} {o₂} {t} {p} {s} z a h k
       λ _. omega (arith, w.bounds.room),
     ))
   where
-    go : (x : Node) (rest : Row) → OperandRow (row_at text at) rest x → PutNode text rest x (suc l) to o o₂ (closed_of (operand_tag t.kind) p)
+    go : (x : Node) (rest : Row) → OperandRow (row_at text at) rest x → PutNode text rest x (suc l) to o o₂ (closed_of (operand_tag (number_of t.kind)) p)
     go _ _ (OperandRow.a_leaf h) = absurd (no_both_ways h (ap is_leaf (sym a.kind) ∙ k))
     go _ _ (OperandRow.deeper {us = us} {xs} _ _ d) =
-        let i : InsideRow t.kind 5 (row_at text t.end) us xs = rw (a.kind, a.rest) d in
+        let i : InsideRow (number_of t.kind) 5 (row_at text t.end) us xs = rw (a.kind, a.rest) d in
         record {
-          put = put_same (ap (λ k. field (operand_tag k) (written_all xs)) a.kind) refl (put-field (operand_tag t.kind) (w.puts xs us i) m);
+          put = put_same (ap (λ k. field (operand_tag k) (written_all xs)) a.kind) refl (put-field (operand_tag (number_of t.kind)) (w.puts xs us i) m);
           tag = λ _. ap operand_tag a.kind;
         }
 
 -- inside: by the token
 module _ {text : Bytes} {k least at to left : ℕ} {o o₁ : Bytes} {p : Part} where
-  pub inside_if : k ≡ if_word → Writes IfRow text at to 6 left o o₁ p → Writes (InsideRow k least) text at to 9 left o o₁ p
-  inside_if e w = record { bounds = bounds_from w.bounds (omega arith) (omega arith); puts = λ xs rest f. go xs rest f }
-    where
-      go : (xs : Nodes) (rest : Row) → InsideRow k least (row_at text at) rest xs → Put text rest (written_all xs) (levels_all xs) left to o o₁ p
-      go xs rest (InsideRow.an_if _ d) = w.puts xs rest d
-      go xs rest (InsideRow.a_function h _ _) = absurd (eqb-false k if_word h e)
-      go xs rest (InsideRow.a_list h _ _ _) = absurd (eqb-false k if_word h e)
-      go _ rest (InsideRow.an_operator h _ _ _) = absurd (eqb-false k if_word h e)
-
-  pub inside_function : k ≡ fn_word → Writes FunctionRow text at to 9 left o o₁ p → Writes (InsideRow k least) text at to 9 left o o₁ p
-  inside_function e w = record { bounds = w.bounds; puts = λ xs rest f. go xs rest f }
-    where
-      go : (xs : Nodes) (rest : Row) → InsideRow k least (row_at text at) rest xs → Put text rest (written_all xs) (levels_all xs) left to o o₁ p
-      go xs rest (InsideRow.an_if h d) = let z = eqb-true k if_word h in absurd (omega arith)
-      go xs rest (InsideRow.a_function _ _ d) = w.puts xs rest d
-      go xs rest (InsideRow.a_list _ h _ _) = absurd (eqb-false k fn_word h e)
-      go _ rest (InsideRow.an_operator _ h _ _) = absurd (eqb-false k fn_word h e)
-
   pub inside_list : (k ≡ if_word → ⊥) → (k ≡ fn_word → ⊥) → is_list k ≡ true → Writes ListRow text at to 0 left o o₁ p → Writes (InsideRow k least) text at to 9 left o o₁ p
   inside_list a b e w = record { bounds = bounds_from w.bounds (omega arith) (omega arith); puts = λ xs rest f. go xs rest f }
     where
@@ -185,7 +167,7 @@ continued_deep {text} {t} {to} {left} {o} {v} {p} h k e =
       puts = λ x xs rest base l f i. go x xs rest base f.put;
     }
   where
-    go : (x : Node) (xs : Nodes) (rest : Row) (base : Bytes) → Put text (row_at text v.at) (written x) (levels x) left to base o v → PutNode text rest (node (continued_tag t.kind) (x then xs)) left to base o p
+    go : (x : Node) (xs : Nodes) (rest : Row) (base : Bytes) → Put text (row_at text v.at) (written x) (levels x) left to base o v → PutNode text rest (node (continued_tag (number_of t.kind)) (x then xs)) left to base o p
     go x xs rest base (Put.too_deep a b) =
         let m = larger_is (levels x) (levels_all xs) in
         record { put = Put.too_deep (omega (arith, m.left)) (omega (arith, ap (λ p. p.levels) e)); tag = λ z. absurd (omega (arith, m.left)) }
@@ -209,16 +191,16 @@ head_in_front base o o₁ o₂ o₃ xs ys tag to from end a f b c d e h =
     ∙ head_inserted base to (head_of tag (length (xs ++ ys))) xs ys {j = to + 3} {k = from + 3} refl (omega arith)
 
 -- a call, an index or an infix operator
-pub continued_writes : {text : Bytes} {t : piece.Token} {to l left : ℕ} {o o₁ o₂ o₃ : Bytes} {v q u s : Part} → left ≡ suc l → v.levels < left → v.at < t.end → to ≤ v.to → o₁ ≡ moved_by o to v.to 3 → Writes (InsideRow t.kind (tight_of t.kind)) text t.end (v.to + 3) 9 l o₁ o₂ q → u ≡ joined_of v q → s ≡ closed_of (continued_tag t.kind) u → o₃ ≡ sets o₂ to (head_of (continued_tag t.kind) (u.to - to - 3)) → Continues text t to v left o o₃ s
+pub continued_writes : {text : Bytes} {t : piece.Token} {to l left : ℕ} {o o₁ o₂ o₃ : Bytes} {v q u s : Part} → left ≡ suc l → v.levels < left → v.at < t.end → to ≤ v.to → o₁ ≡ moved_by o to v.to 3 → Writes (InsideRow (number_of t.kind) (tight_of (number_of t.kind))) text t.end (v.to + 3) 9 l o₁ o₂ q → u ≡ joined_of v q → s ≡ closed_of (continued_tag (number_of t.kind)) u → o₃ ≡ sets o₂ to (head_of (continued_tag (number_of t.kind)) (u.to - to - 3)) → Continues text t to v left o o₃ s
 unfolding written written_all levels levels_all
 continued_writes {text} {t} {to} {l} {left} {o} {o₁} {o₂} {o₃} {v} {q} {u} {s} z h k b m w i j n =
-    let n' : o₃ ≡ sets o₂ to (head_of (continued_tag t.kind) (q.to - to - 3)) = n ∙ ap (λ u. sets o₂ to (head_of (continued_tag t.kind) (u.to - to - 3))) i in
+    let n' : o₃ ≡ sets o₂ to (head_of (continued_tag (number_of t.kind)) (q.to - to - 3)) = n ∙ ap (λ u. sets o₂ to (head_of (continued_tag (number_of t.kind)) (u.to - to - 3))) i in
     let y = larger_is v.levels q.levels in
-    subst (λ s. Continues text t to v left o o₃ s) (sym (j ∙ ap (closed_of (continued_tag t.kind)) i))
+    subst (λ s. Continues text t to v left o o₃ s) (sym (j ∙ ap (closed_of (continued_tag (number_of t.kind))) i))
     (record {
       bounds =
           record {
-            lengths = ap length n' ∙ length-sets o₂ to (head_of (continued_tag t.kind) (q.to - to - 3)) ∙ w.bounds.lengths ∙ ap length m ∙ moved_length o to v.to 3;
+            lengths = ap length n' ∙ length-sets o₂ to (head_of (continued_tag (number_of t.kind)) (q.to - to - 3)) ∙ w.bounds.lengths ∙ ap length m ∙ moved_length o to v.to 3;
             onward = omega (arith, w.bounds.onward);
             within = w.bounds.within;
             room = omega (arith, w.bounds.room);
@@ -230,7 +212,7 @@ continued_writes {text} {t} {to} {l} {left} {o} {o₁} {o₂} {o₃} {v} {q} {u}
       puts = λ x xs rest base len f d. go n' x xs rest base len f.put (w.puts xs rest d);
     })
   where
-    go : o₃ ≡ sets o₂ to (head_of (continued_tag t.kind) (q.to - to - 3)) → (x : Node) (xs : Nodes) (rest : Row) (base : Bytes) → length o ≡ length base → Put text (row_at text v.at) (written x) (levels x) left to base o v → Put text rest (written_all xs) (levels_all xs) l (v.to + 3) o₁ o₂ q → PutNode text rest (node (continued_tag t.kind) (x then xs)) left to base o₃ (closed_of (continued_tag t.kind) (joined_of v q))
+    go : o₃ ≡ sets o₂ to (head_of (continued_tag (number_of t.kind)) (q.to - to - 3)) → (x : Node) (xs : Nodes) (rest : Row) (base : Bytes) → length o ≡ length base → Put text (row_at text v.at) (written x) (levels x) left to base o v → Put text rest (written_all xs) (levels_all xs) l (v.to + 3) o₁ o₂ q → PutNode text rest (node (continued_tag (number_of t.kind)) (x then xs)) left to base o₃ (closed_of (continued_tag (number_of t.kind)) (joined_of v q))
     go e x xs rest base len (Put.too_deep a c) f = absurd (omega arith)
     go e x xs rest base len (Put.fits a r c d g) (Put.too_deep a' c') =
         let y = larger_is v.levels q.levels in
@@ -242,6 +224,6 @@ continued_writes {text} {t} {to} {l} {left} {o} {o₁} {o₂} {o₃} {v} {q} {u}
         record {
           put =
               Put.fits (omega (arith, y'.least l (omega arith) a')) r' (omega (arith, length-append (written x) (written_all xs))) (omega (arith, ap (λ i. larger i q.levels) d ∙ ap (larger (levels x)) d'))
-              (λ f. head_in_front base o o₁ o₂ o₃ (written x) (written_all xs) (continued_tag t.kind) to v.to q.to (g (omega arith)) c m (g' (omega arith)) e (omega arith) f);
+              (λ f. head_in_front base o o₁ o₂ o₃ (written x) (written_all xs) (continued_tag (number_of t.kind)) to v.to q.to (g (omega arith)) c m (g' (omega arith)) e (omega arith) f);
           tag = λ _. refl;
         }

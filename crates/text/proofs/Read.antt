@@ -9,11 +9,11 @@ use borrow.Author.Tests.{lt-ltb, le-ltb}
 use Rattle.definition.specs.Basic.{Bytes, byte_at}
 use Rattle.definition.specs.Limit.{tree_limit, level_limit}
 use Rattle.definition.specs.Number
-use Rattle.definition.specs.Number.{refusal}
+use Rattle.definition.specs.Number.{refusal, bad_script}
 use Rattle.definition.specs.Tag.{tag_program}
-use Rattle.definition.specs.declared.Answer.{Answer}
-use Rattle.definition.specs.declared.Answer.TheVariants.{Length, Refused as AnswerRefused}
-use Rattle.definition.specs.declared.Refusal.{Refusal}
+use Rattle.definition.specs.Answer.{Answer}
+use Rattle.std.specs.Prelude.{Ok, Err}
+use Rattle.definition.specs.declared.reason.Refusal.{Refusal}
 use Rattle.session.proofs.Stores.{sets_over}
 use Rattle.text.specs.Token.{Row}
 use Rattle.text.specs.Node.{Node, node, Nodes, written, levels}
@@ -22,7 +22,6 @@ use Rattle.text.specs.Reader.{Result, ok, bad}
 use Rattle.text.specs.Scan.{Next, next_at, Tail, whole, cut, Scanned, scan_next, scan, scan_text, smaller}
 use Rattle.text.specs.Script.{Outcome, tree, refused, judged, read_row, read_text, answer_of, output_of}
 use Rattle.text.specs.Recognize.{recognition, closing, recognize_text}
-use Rattle.text.specs.declared.recognize.Recognized.TheVariants.{Script, Refused}
 use Rattle.text.specs.Parse.{StatementsRow}
 use Rattle.text.specs.Parts.{row_from, row_next, row_at, head_of, Put, PutsTree, Writes, closed_of}
 use Rattle.text.specs.declared.part.Part.{Part}
@@ -55,14 +54,14 @@ record Whole (s : Scanned) : Type 0 where
   pub end : ℕ
   pub is : s.tail ≡ whole end
 
-taken-whole : (s : Scanned) → closing s.tail (λ _. Script) ≡ Script → Whole s
+taken-whole : (s : Scanned) → closing s.tail (λ _. Ok tt) ≡ Ok tt → Whole s
 taken-whole s = go s.tail refl
   where
-    go : (t : Tail) → s.tail ≡ t → closing t (λ _. Script) ≡ Script → Whole s
+    go : (t : Tail) → s.tail ≡ t → closing t (λ _. Ok tt) ≡ Ok tt → Whole s
     go (whole n) e h = record { end = n; is = e }
     go (cut a b) e h = let z : ◌≡◌ {A = ℕ} 0 1 = cc in absurd (omega arith)
 
-pub accepted : (text : Bytes) → recognize_text text ≡ Script → Accepted text
+pub accepted : (text : Bytes) → recognize_text text ≡ Ok tt → Accepted text
 unfolding recognize_text row_at
 accepted text h = go (read_row ts) refl (judges ts)
   where
@@ -72,7 +71,7 @@ accepted text h = go (read_row ts) refl (judges ts)
     ts : Row
     ts = (scan_text text).tokens
 
-    found : (r : Result Node) → read_row ts ≡ r → recognition s (verdict_of r) ≡ Script
+    found : (r : Result Node) → read_row ts ≡ r → recognition s (verdict_of r) ≡ Ok tt
     found r e = ap (λ r. recognition s (verdict_of r)) (sym e) ∙ ap (recognition s) (sym (recognizes ts)) ∙ h
 
     by : {x : Node} → read_row ts ≡ ok x [] → Whole s → ScriptRow ts x → Accepted text
@@ -83,7 +82,7 @@ accepted text h = go (read_row ts) refl (judges ts)
           read = λ lent. settles lent text ∙ ap (λ r. settled r (judged_row lent (read_row ts))) h' ∙ ap (judged_row lent) e;
         }
       where
-        h' : recognize_text text ≡ Script
+        h' : recognize_text text ≡ Ok tt
         h' = h
 
     go : (r : Result Node) → read_row ts ≡ r → Judges ts (read_row ts) → Accepted text
@@ -93,7 +92,7 @@ accepted text h = go (read_row ts) refl (judges ts)
         made _ e (Judges.accepted {x} d) = by e (taken-whole s (found (ok x []) e)) d
         made _ e (Judges.stopped {us = []} f) = absurd (no_end s.tail (found (bad []) e))
           where
-            no_end : (t : Tail) → closing t (λ n. Refused (refusal 20 n)) ≡ Script → ⊥
+            no_end : (t : Tail) → closing t (λ n. Err (refusal bad_script n)) ≡ Ok tt → ⊥
             no_end (whole n) g = let z : ◌≡◌ {A = ℕ} 0 1 = cc in omega arith
             no_end (cut a b) g = let z : ◌≡◌ {A = ℕ} 0 1 = cc in omega arith
         made _ e (Judges.stopped {us = t ∷ us} f) = let g = found (bad (t ∷ us)) e in let z : ◌≡◌ {A = ℕ} 0 1 = cc in absurd (omega arith)
@@ -127,21 +126,21 @@ module _ (text old : Bytes) (a : Accepted text) where
       go (Put.too_deep d e) = absurd (omega arith)
       go (Put.fits d r b c e) = rw (le-ltb level_limit (levels x) d, lt-ltb (smaller (length old) tree_limit) (length (written x)) (omega arith)) refl
 
-  pub answers_tree : {o o' out : Bytes} {p q : Part} → PutsTree text o o' p → p.levels ≤ 64 → p.to ≤ smaller (length old) tree_limit → smaller (length old) tree_limit ≤ length old → PutsTree text old out q → (Length q.to ≡ answer_of outcome) × (out ≡ output_of outcome old)
+  pub answers_tree : {o o' out : Bytes} {p q : Part} → PutsTree text o o' p → p.levels ≤ 64 → p.to ≤ smaller (length old) tree_limit → smaller (length old) tree_limit ≤ length old → PutsTree text old out q → (Ok q.to ≡ answer_of outcome) × (out ≡ output_of outcome old)
   answers_tree {o} {o'} {out} {p} {q} w h k l v = go (w.puts a.nodes a.row) (v.puts a.nodes a.row)
     where
-      go : Put text [] (written x) (levels x) 64 0 o o' p → Put text [] (written x) (levels x) 64 0 old out q → (Length q.to ≡ answer_of outcome) × (out ≡ output_of outcome old)
+      go : Put text [] (written x) (levels x) 64 0 o o' p → Put text [] (written x) (levels x) 64 0 old out q → (Ok q.to ≡ answer_of outcome) × (out ≡ output_of outcome old)
       go (Put.too_deep d e) f = absurd (omega arith)
       go (Put.fits d r b c e) (Put.too_deep d' e') = absurd (omega arith)
       go (Put.fits d r b c e) (Put.fits d' r' b' c' e') =
           let i : outcome ≡ tree (written x) = a.read (length old) ∙ rw (le-ltb level_limit (levels x) d, le-ltb (smaller (length old) tree_limit) (length (written x)) (omega arith)) refl in
           let n : q.to ≡ length (written x) = omega arith in
-          (ap Length n ∙ ap answer_of (sym i), e' (omega arith) ∙ sets_over old (written x) (omega arith) ∙ ap (λ o. output_of o old) (sym i))
+          (ap Ok n ∙ ap answer_of (sym i), e' (omega arith) ∙ sets_over old (written x) (omega arith) ∙ ap (λ o. output_of o old) (sym i))
 
 -- a refusal is answered, and the output stays
-pub answers_refusal : {o : Outcome} {r : Refusal} {given : Answer} {old : Bytes} → o ≡ refused r → given ≡ AnswerRefused r → (given ≡ answer_of o) × (old ≡ output_of o old)
+pub answers_refusal : {o : Outcome} {r : Refusal} {given : Answer} {old : Bytes} → o ≡ refused r → given ≡ Err r → (given ≡ answer_of o) × (old ≡ output_of o old)
 answers_refusal {old = old} e f = (f ∙ ap answer_of (sym e), ap (λ o. output_of o old) (sym e))
 
 -- 20 and 21
-pub answers_refused : (lent : ℕ) (text : Bytes) {r : Refusal} → recognize_text text ≡ Refused r → read_text lent text ≡ refused r
+pub answers_refused : (lent : ℕ) (text : Bytes) {r : Refusal} → recognize_text text ≡ Err r → read_text lent text ≡ refused r
 answers_refused lent text h = settles lent text ∙ ap (λ r. settled r (judged_row lent (read_row (scan_text text).tokens))) h

@@ -7,20 +7,25 @@ use mathlib.Core.Path.{◌≡◌, refl, sym, ap, subst, ◌∙◌}
 use lib.ListN.{length}
 use lib.Dec.{leb, ltb, eqb}
 use borrow.Author.Tests.{leb-true, leb-false, ltb-true, ltb-false, eqb-false}
+use Rattle.std.specs.Prelude.{Result, Ok, Err}
+use Rattle.std.specs.Result.{result_unwrap_or}
 use Rattle.definition.specs.Basic.{Bytes, byte_at, pick, both}
 use Rattle.definition.specs.Limit.{name_limit}
 use Rattle.definition.specs.Field.{bytes}
 use Rattle.definition.proofs.Basic.{chosen, both_true}
-use Rattle.text.specs.Kind.{a_name, an_integer, a_string, bang, assign, ended}
+use Rattle.text.specs.Kind.{a_name, an_integer, a_string, bang, assign, ended, number_of}
 use Rattle.text.specs.Token.{Token, token, kind_of, bytes_of, behind}
 use Rattle.text.specs.Scan.{words, marks, kind_in, value, Next, no_mark, ending, either, is_blank, is_letter, is_digit, is_inside, smaller, skip, up_to, word_at, integer_at, string_at, mark_at, next_at, text_limit, integer_limit}
-use Rattle.text.specs.Seen.{ahead}
+use Rattle.text.specs.Seen.{ahead, next_of}
 use Rattle.text.specs.Parts.{end_of, row_next, row_from, row_at, denoted, Sees}
 use Rattle.text.specs.declared.scan.Token as piece
-use Rattle.text.specs.declared.scan.Ahead.{Ahead}
-use Rattle.text.specs.declared.scan.Ahead.TheVariants.{Found}
+use Rattle.text.specs.declared.scan.Stop.{Stop}
+use Rattle.text.specs.declared.scan.Stop.TheVariants.{Large, Broken, Finished}
+use Rattle.text.specs.declared.kind.Kind.TheVariants as kinds
 use Rattle.text.proofs.RealTokens.{none_is, kind-in, skip-on}
-use Rattle.text.proofs.Enough.{Moves, moves_next, skip_most, smaller_left}
+use Rattle.text.proofs.Enough.{Moves, moves_next}
+use Rattle.text.proofs.Skips.{skip_most}
+use Rattle.text.proofs.Smaller.{smaller_left}
 
 -- the smaller is the largest below both
 pub least_end : (text : Bytes) {i : ℕ} → i ≤ length text → i ≤ text_limit → i ≤ end_of text
@@ -179,41 +184,35 @@ module _ (text : Bytes) where
       let s : start ≡ end_of text = ap (λ m. skip byte n is_blank m (end_of text)) z in
       chosen (λ x. row_next x (λ end. row_from byte n n end) ≡ []) (eqb start n) (λ _. refl) (λ e. chosen (λ x. row_next x (λ end. row_from byte n n end) ≡ []) (leb text_limit start) (λ _. refl) (λ f. absurd (one_end (omega (arith, leb-false text_limit start f)) (λ g. eqb-false start n e (s ∙ g)))))
 
--- whether a token was found
-abbrev pub is_found : Ahead → Bool
-is_found (Ahead.Found t) = true
-is_found (Ahead.Large p) = false
-is_found (Ahead.Broken p) = false
-is_found (Ahead.Finished p) = false
-
 -- a token
-pub sees_found : (text : Bytes) (at : ℕ) → at ≤ end_of text → {y : Ahead} {t : piece.Token} → y ≡ ahead (next_at (byte_at text) (length text) at) → y ≡ Found t → Sees text at t
-sees_found text at h {y} {t} e f = go (piece_next text at (omega (arith, end_within text))) refl (sym e ∙ f)
+sees_found : (text : Bytes) (at : ℕ) → at ≤ end_of text → {y : Result piece.Token Stop} {t : piece.Token} → next_of y ≡ ahead (next_at (byte_at text) (length text) at) → y ≡ Ok t → Sees text at t
+sees_found text at h {y} {t} e f = go (piece_next text at (omega (arith, end_within text))) refl (sym e ∙ ap next_of f)
   where
-    go : {x : Next} → Piece text at x → next_at (byte_at text) (length text) at ≡ x → ahead x ≡ Found t → Sees text at t
+    go : {x : Next} → Piece text at x → next_at (byte_at text) (length text) at ≡ x → ahead x ≡ Next.found t.start t.end (token (number_of t.kind) []) → Sees text at t
     go (Piece.found {start} {end} {k} {b} l o w d s v n) i j =
         let r : row_at text at ≡ token k b ∷ row_at text end = row-next text at (omega (arith, end_within text)) i in
-        let u : record { kind = k; start = start; end = end } ≡ t = cc in
-        subst (λ t. Sees text at t) u
-        (record {
-          kind = sym (ap kind_of r);
-          rest = sym (ap behind r);
-          content = d ∙ sym (ap bytes_of r);
-          from = l;
+        let p : start ≡ t.start = cc in
+        let q : end ≡ t.end = cc in
+        let u : k ≡ number_of t.kind = cc in
+        record {
+          kind = sym u ∙ sym (ap kind_of r);
+          rest = ap (row_at text) (sym q) ∙ sym (ap behind r);
+          content = (λ m. denoted text (sym u m) (sym p m) (sym q m)) ∙ d ∙ sym (ap bytes_of r);
+          from = omega arith;
           order = omega arith;
-          within = w;
+          within = omega arith;
           onward = λ _. omega arith;
-          string = s;
-          integer = v;
-        })
+          string = λ z. omega (arith, s (u ∙ z));
+          integer = λ z. let g : value 0 (bytes (byte_at text) start (end - start)) ≡ value 0 (bytes (byte_at text) t.start (t.end - t.start)) = (λ m. value 0 (bytes (byte_at text) (p m) (q m - p m))) in omega (arith, v (u ∙ z));
+        }
     go Piece.large i j = let z : ◌≡◌ {A = ℕ} 0 1 = cc in absurd (omega arith)
     go Piece.broken i j = let z : ◌≡◌ {A = ℕ} 0 1 = cc in absurd (omega arith)
     go Piece.finished i j = let z : ◌≡◌ {A = ℕ} 0 1 = cc in absurd (omega arith)
 
 -- none
-pub sees_ended : (text : Bytes) (at : ℕ) → at ≤ end_of text → {y z : Ahead} → y ≡ ahead (next_at (byte_at text) (length text) at) → y ≡ z → is_found z ≡ false → {t : piece.Token} → t ≡ record { kind = ended; start = end_of text; end = end_of text } → Sees text at t
+sees_ended : (text : Bytes) (at : ℕ) → at ≤ end_of text → {y : Result piece.Token Stop} {z : Stop} → next_of y ≡ ahead (next_at (byte_at text) (length text) at) → y ≡ Err z → {t : piece.Token} → t ≡ record { kind = kinds.Ended; start = end_of text; end = end_of text } → Sees text at t
 unfolding denoted
-sees_ended text at h {y} {z} e f g {t} w = go (piece_next text at (omega (arith, end_within text))) refl (ap is_found (sym e ∙ f) ∙ g)
+sees_ended text at h {y} {z} e f {t} w = go z (piece_next text at (omega (arith, end_within text))) refl (sym e ∙ ap next_of f)
   where
     none : row_at text at ≡ [] → Sees text at t
     none r =
@@ -230,14 +229,21 @@ sees_ended text at h {y} {z} e f g {t} w = go (piece_next text at (omega (arith,
           integer = λ k. absurd (omega arith);
         })
 
-    go : {x : Next} → Piece text at x → next_at (byte_at text) (length text) at ≡ x → is_found (ahead x) ≡ false → Sees text at t
-    go (Piece.found l o w d s v n) i j = let z : ◌≡◌ {A = ℕ} 0 1 = cc in absurd (omega arith)
-    go Piece.large i j = none (row-next text at (omega (arith, end_within text)) i)
-    go Piece.broken i j = none (row-next text at (omega (arith, end_within text)) i)
-    go Piece.finished i j = none (row-next text at (omega (arith, end_within text)) i)
+    go : {x : Next} (z : Stop) → Piece text at x → next_at (byte_at text) (length text) at ≡ x → ahead x ≡ next_of (Err z) → Sees text at t
+    go (Large p) (Piece.found l o w d s v n) i j = let z : ◌≡◌ {A = ℕ} 0 1 = cc in absurd (omega arith)
+    go (Broken p) (Piece.found l o w d s v n) i j = let z : ◌≡◌ {A = ℕ} 0 1 = cc in absurd (omega arith)
+    go (Finished p) (Piece.found l o w d s v n) i j = let z : ◌≡◌ {A = ℕ} 0 1 = cc in absurd (omega arith)
+    go _ Piece.large i j = none (row-next text at (omega (arith, end_within text)) i)
+    go _ Piece.broken i j = none (row-next text at (omega (arith, end_within text)) i)
+    go _ Piece.finished i j = none (row-next text at (omega (arith, end_within text)) i)
+
+-- a token or none
+pub sees_next : (text : Bytes) (at : ℕ) → at ≤ end_of text → (y : Result piece.Token Stop) {t u : piece.Token} → next_of y ≡ ahead (next_at (byte_at text) (length text) at) → t ≡ record { kind = kinds.Ended; start = end_of text; end = end_of text } → u ≡ result_unwrap_or y t → Sees text at u
+sees_next text at h (Ok v) e w f = subst (λ u. Sees text at u) (sym f) (sees_found text at h e refl)
+sees_next text at h (Err z) e w f = subst (λ u. Sees text at u) (sym f) (sees_ended text at h e refl w)
 
 -- a token stands before the end
-pub sees_more : {text : Bytes} {at : ℕ} {t : piece.Token} → Sees text at t → at ≤ end_of text → (t.kind ≡ ended → ⊥) → at < end_of text
+pub sees_more : {text : Bytes} {at : ℕ} {t : piece.Token} → Sees text at t → at ≤ end_of text → (number_of t.kind ≡ ended → ⊥) → at < end_of text
 sees_more {text} {at} {t} s h f = go (ltb at (end_of text)) refl
   where
     go : (b : Bool) → ltb at (end_of text) ≡ b → at < end_of text
@@ -247,5 +253,5 @@ sees_more {text} {at} {t} s h f = go (ltb at (end_of text)) refl
         absurd (f (s.kind ∙ ap (λ j. kind_of (row_at text j)) i ∙ ap kind_of (row_end text)))
 
 -- so it ends behind where it was looked for
-pub sees_ahead : {text : Bytes} {at : ℕ} {t : piece.Token} → Sees text at t → at ≤ end_of text → (t.kind ≡ ended → ⊥) → at < t.end
+pub sees_ahead : {text : Bytes} {at : ℕ} {t : piece.Token} → Sees text at t → at ≤ end_of text → (number_of t.kind ≡ ended → ⊥) → at < t.end
 sees_ahead s h f = s.onward (sees_more s h f)

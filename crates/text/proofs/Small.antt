@@ -3,16 +3,16 @@ use Prim.Native.Nat.{ℕ, zero, suc, ◌+◌, ◌-◌, ◌≤◌}
 use native.Mathlib.Omega.{arith}
 use mathlib.Core.List.{[], ◌∷◌}
 use mathlib.Core.Path.{sym, subst}
-use lib.ListN.{length, replicate, length-replicate}
+use lib.ListN.{length}
 use lib.Dec.{leb, ltb, eqb}
-use borrow.Author.Tests.{leb-true, ltb-false, eqb-true}
+use borrow.Author.Tests.{ltb-false, eqb-true}
 use Rattle.definition.specs.Basic.{Bytes, byte_at, both}
 use Rattle.definition.specs.Limit.{name_limit, tree_limit, level_limit}
 use Rattle.definition.specs.Field.{bytes}
-use Rattle.definition.specs.Number.{refusal}
-use Rattle.definition.specs.declared.Refusal.{Refusal}
-use Rattle.definition.specs.declared.Answer.{Answer}
-use Rattle.definition.specs.declared.Answer.TheVariants.{Length, Refused as AnswerRefused}
+use Rattle.definition.specs.Number.{refusal, number_of, bad_script, large_integer, too_deep, output_short}
+use Rattle.definition.specs.declared.reason.Refusal.{Refusal}
+use Rattle.definition.specs.Answer.{Answer}
+use Rattle.std.specs.Prelude.{Ok, Err}
 use Rattle.definition.proofs.Basic.{chosen}
 use Rattle.text.specs.Kind.{bang, assign}
 use Rattle.text.specs.Token.{Token, token}
@@ -20,17 +20,14 @@ use Rattle.text.specs.Node.{Node, written, levels}
 use Rattle.text.specs.Reader.{Result, ok, bad, starved}
 use Rattle.text.specs.Scan.{Next, next_at, marks, kind_in, value, no_mark, ending, either, is_blank, is_letter, is_digit, is_inside, smaller, skip, up_to, word_at, integer_at, string_at, mark_at, text_limit, integer_limit, whole, stopped, scan_text}
 use Rattle.text.specs.Machine.{Mode, Stack, Step, go, stuck, step, at_row_end}
-use Rattle.text.specs.Recognize.{recognition, recognize_text, large_step, next_step, recognize_next, recognize_from}
+use Rattle.text.specs.Recognize.{Recognized, recognition, recognize_text, large_step, next_step, recognize_next, recognize_from}
 use Rattle.text.specs.Script.{Outcome, judged, read_row, read_text, answer_of}
-use Rattle.text.specs.declared.recognize.Recognized.{Recognized}
-use Rattle.text.specs.declared.recognize.Recognized.TheVariants.{Script, Refused}
-use Rattle.text.proofs.Enough.{Moves, moves_next, skip_most}
+use Rattle.text.proofs.Enough.{Moves, moves_next}
+use Rattle.text.proofs.Skips.{skip_most}
+use Rattle.text.proofs.Smaller.{smaller_right}
 use Rattle.text.proofs.Settled.{settled, judged_row, settles}
 use Rattle.text.proofs.Turns.{begins}
-
--- the smaller is at most the second
-smaller_right : (m n : ℕ) → smaller m n ≤ n
-smaller_right m n = chosen (λ k. k ≤ n) (leb m n) (λ e. leb-true m n e) (λ _. omega arith)
+use Rattle.definition.specs.declared.reason.Reason.{Reason}
 
 -- what is next stands at or before the limit
 data Early : Next → Type 0 where
@@ -68,17 +65,17 @@ module _ (byte : ℕ → ℕ) (n : ℕ) where
 
 -- a refusal's number and place
 data Near : Recognized → Type 0 where
-  script : Near Script
-  refused : {r : Refusal} → r.number ≤ 21 → r.place ≤ text_limit → Near (Refused r)
+  script : Near (Ok tt)
+  refused : {r : Refusal} → number_of r.reason ≤ 21 → r.place ≤ text_limit → Near (Err r)
 
-near : (number place : ℕ) → number ≤ 21 → place ≤ text_limit → Near (Refused (refusal number place))
+near : (number : Reason) (place : ℕ) → number_of number ≤ 21 → place ≤ text_limit → Near (Err (refusal number place))
 near number place a b = Near.refused a b
 
 near_end : (end : ℕ) → end ≤ text_limit → (r : Result (Unit {0})) → Near (recognition (stopped (whole end)) r)
 near_end end h (ok x us) = Near.script
-near_end end h (bad []) = near 20 end (omega arith) h
-near_end end h (bad (t ∷ us)) = near 20 0 (omega arith) (omega arith)
-near_end end h starved = near 20 0 (omega arith) (omega arith)
+near_end end h (bad []) = near bad_script end (omega arith) h
+near_end end h (bad (t ∷ us)) = near bad_script 0 (omega arith) (omega arith)
+near_end end h starved = near bad_script 0 (omega arith) (omega arith)
 
 near_from : (byte : ℕ → ℕ) (n fuel at : ℕ) (m : Mode) (s : Stack) → at ≤ n → at ≤ text_limit → Near (recognize_from byte n fuel at m s)
 unfolding recognize_from
@@ -90,42 +87,41 @@ near_from byte n (suc fuel) at m s h k = by (early_next byte n at k) (moves_next
       where
         at_step : (x : Step) → Near (next_step start x (λ m s. recognize_from byte n fuel end m s))
         at_step (go m s) = f end m s c d
-        at_step stuck = near 20 start (omega arith) e
+        at_step stuck = near bad_script start (omega arith) e
     by (Early.large {start} {t = token j b} e) w f = at_step (step m s j)
       where
         at_step : (x : Step) → Near (large_step start x)
-        at_step (go m s) = near 21 start (omega arith) e
-        at_step stuck = near 20 start (omega arith) e
-    by (Early.broken {start} e) w f = near 20 start (omega arith) e
+        at_step (go m s) = near large_integer start (omega arith) e
+        at_step stuck = near bad_script start (omega arith) e
+    by (Early.broken {start} e) w f = near bad_script start (omega arith) e
     by (Early.finished {end} e) w f = near_end end e (at_row_end m s)
 
 near_text : (text : Bytes) → Near (recognize_text text)
 near_text text =
-    let z : ℕ = 0 in
-    let g = begins text (replicate 8192 z) (length-replicate 8192 z) in
+    let g = begins text [] in
     subst Near (sym g.rest) (near_from (byte_at text) (length text) g.fuel 0 _ _ g.within g.early)
 
 -- an answer's parts
 pub data ReadWithin : Answer → Type 0 where
-  wrote : {n : ℕ} → n ≤ tree_limit → ReadWithin (Length n)
-  refused : {r : Refusal} → r.number ≤ 21 → r.place ≤ text_limit → ReadWithin (AnswerRefused r)
+  wrote : {n : ℕ} → n ≤ tree_limit → ReadWithin (Ok n)
+  refused : {r : Refusal} → number_of r.reason ≤ 21 → r.place ≤ text_limit → ReadWithin (Err r)
 
-within : (number place : ℕ) → number ≤ 21 → place ≤ text_limit → ReadWithin (AnswerRefused (refusal number place))
+within : (number : Reason) (place : ℕ) → number_of number ≤ 21 → place ≤ text_limit → ReadWithin (Err (refusal number place))
 within number place a b = ReadWithin.refused a b
 
 judged_within : (lent : ℕ) (x : Node) → ReadWithin (answer_of (judged lent x))
 judged_within lent x =
     let P : Outcome → Type 0 = λ o. ReadWithin (answer_of o) in
-    chosen P (ltb level_limit (levels x)) (λ _. within 4 0 (omega arith) (omega arith))
-    (λ _. chosen P (ltb (smaller lent tree_limit) (length (written x))) (λ _. within 15 0 (omega arith) (omega arith)) (λ e. ReadWithin.wrote (omega (arith, ltb-false (smaller lent tree_limit) (length (written x)) e, smaller_right lent tree_limit))))
+    chosen P (ltb level_limit (levels x)) (λ _. within too_deep 0 (omega arith) (omega arith))
+    (λ _. chosen P (ltb (smaller lent tree_limit) (length (written x))) (λ _. within output_short 0 (omega arith) (omega arith)) (λ e. ReadWithin.wrote (omega (arith, ltb-false (smaller lent tree_limit) (length (written x)) e, smaller_right lent tree_limit))))
 
 pub read_within : (lent : ℕ) (text : Bytes) → ReadWithin (answer_of (read_text lent text))
 read_within lent text = subst (λ o. ReadWithin (answer_of o)) (sym (settles lent text)) (by (judged_row lent (read_row (scan_text text).tokens)) (near_text text) (row (read_row (scan_text text).tokens)))
   where
     row : (r : Result Node) → ReadWithin (answer_of (judged_row lent r))
     row (ok x us) = judged_within lent x
-    row (bad us) = within 20 0 (omega arith) (omega arith)
-    row starved = within 20 0 (omega arith) (omega arith)
+    row (bad us) = within bad_script 0 (omega arith) (omega arith)
+    row starved = within bad_script 0 (omega arith) (omega arith)
 
     by : {r : Recognized} (o : Outcome) → Near r → ReadWithin (answer_of o) → ReadWithin (answer_of (settled r o))
     by o Near.script w = w

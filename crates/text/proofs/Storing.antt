@@ -1,10 +1,12 @@
 -- Bytes of a tree stored in an output: heads in front, parts behind, and parts moved further back.
-use Prim.Native.Nat.{ℕ, suc, ◌+◌, ◌-◌, ◌≤◌, ◌<◌}
+use Prim.Native.Nat.{ℕ, ◌+◌, ◌-◌, ◌≤◌, ◌<◌}
 use native.Mathlib.Omega.{arith}
+use native.Mathlib.Numerals.{add-one}
 use mathlib.Core.List.{[], ◌∷◌, ◌++◌, append_assoc}
 use mathlib.Core.Path.{◌≡◌, refl, sym, ap, ◌∙◌}
-use lib.ListN.{length, set, take, drop, get_or, length-append, length-set, take-append-drop}
-use lib.Seq.{sets, sets-eq, length-sets, length-take-le, take_at, drop_at, get_or-set_other}
+use lib.ListN.{length, set, take, drop, get_or, length-append, length-drop, take-append-drop}
+use lib.Seq.{sets, sets-eq, length-sets, length-take-le, take_at, drop_at, take-suc}
+use Rattle.std.specs.List.{copy_within}
 use Rattle.definition.specs.Basic.{Bytes, byte_at}
 use Rattle.definition.specs.Field.{bytes}
 use Rattle.definition.proofs.Bytes.{bytes_slice}
@@ -57,65 +59,17 @@ behind_front l i front xs {j} e h =
 pub stored_one : (o : Bytes) (i : ℕ) (xs : Bytes) {m n : Bytes} {j : ℕ} (b : ℕ) → m ≡ sets o i xs → n ≡ set m j b → j ≡ i + length xs → n ≡ sets o i (xs ++ (b ∷ []))
 stored_one o i xs {j = j} b e f g = f ∙ ap (λ l. set l j b) e ∙ sets_append o i {j = j} xs (b ∷ []) (sym g)
 
--- a loop that copies a text's bytes: what is left decides
-pub record Copying (text old : Bytes) (to from end : ℕ) (out : Bytes) (next k : ℕ) : Type 0 where
-  pub first : from ≤ k
-  pub last : k ≤ end
-  pub place : next ≡ to + (k - from)
-  pub left : sets old to (bytes (byte_at text) from (end - from)) ≡ sets out next (bytes (byte_at text) k (end - k))
-  pub lengths : length out ≡ length old
+-- one more of the bytes put
+pub taken_one : (o : Bytes) (i : ℕ) (bs : Bytes) (k : ℕ) {m n : Bytes} → k < length bs → m ≡ sets o i (take k bs) → n ≡ set m (i + k) (get_or bs k 0) → n ≡ sets o i (take (k + 1) bs)
+taken_one o i bs k h e f =
+    let n : length (take k bs) ≡ k = length-take-le k bs (omega arith) in
+    stored_one o i (take k bs) (get_or bs k 0) e f (omega arith) ∙ ap (sets o i) (sym (take-suc bs k 0 h)) ∙ ap (λ j. sets o i (take j bs)) (sym (add-one k))
 
-pub copies_on : {text old out out' : Bytes} {to from end next k : ℕ} → Copying text old to from end out next k → k < end → out' ≡ set out next (byte_at text k) → Copying text old to from end out' (next + 1) (k + 1)
-copies_on {text} {old} {out} {out'} {to} {from} {end} {next} {k} c h e =
-    let n : end - k ≡ suc (end - (k + 1)) = omega arith in
-    let s : suc next ≡ next + 1 = omega arith in
-    record {
-      first = omega (arith, c.first);
-      last = omega arith;
-      place = omega (arith, c.place, c.first);
-      left = c.left ∙ ap (λ m. sets out next (bytes (byte_at text) k m)) n ∙ (λ j. sets (sym e j) (s j) (bytes (byte_at text) (k + 1) (end - (k + 1))));
-      lengths = ap length e ∙ length-set out next (byte_at text k) ∙ c.lengths;
-    }
-
-pub copied : {text old out : Bytes} {to from end next k : ℕ} → Copying text old to from end out next k → end ≤ k → (next ≡ to + (end - from)) × (out ≡ sets old to (bytes (byte_at text) from (end - from)))
-copied {text} {old} {out} {to} {from} {end} {next} {k} c h =
-    let z : end - k ≡ 0 = omega arith in
-    (omega (arith, c.place, c.last), sym (c.left ∙ ap (λ m. sets out next (bytes (byte_at text) k m)) z))
-
--- what is in front of the bytes stored stays
-front_stays : (l : Bytes) (i j : ℕ) (xs : Bytes) → j < i → get_or (sets l i xs) j 0 ≡ get_or l j 0
-front_stays l i j [] h = refl
-front_stays l i j (x ∷ xs) h = front_stays (set l i x) (suc i) j xs (omega arith) ∙ get_or-set_other l i j x 0 (λ e. omega arith)
-
--- a loop that moves bytes back, the last first
-pub record Moving (old : Bytes) (from end by : ℕ) (out : Bytes) (k : ℕ) : Type 0 where
-  pub first : from ≤ k
-  pub last : k ≤ end
-  pub moved : out ≡ sets old (k + by) (bytes (byte_at old) k (end - k))
-  pub lengths : length out ≡ length old
-
-pub moves_begin : (old : Bytes) (from end by : ℕ) → from ≤ end → Moving old from end by old end
-moves_begin old from end by h =
-    let z : end - end ≡ 0 = omega arith in
-    record { first = h; last = omega arith; moved = sym (ap (λ m. sets old (end + by) (bytes (byte_at old) end m)) z); lengths = refl }
-
-pub moves_on : {old out out' : Bytes} {from end by k j b : ℕ} → Moving old from end by out k → from < k → j ≡ k - 1 → b ≡ byte_at out j → out' ≡ set out (j + by) b → Moving old from end by out' j
-moves_on {old} {out} {out'} {from} {end} {by} {k} {j} {b} m h e f g =
-    let n : end - j ≡ suc (end - (j + 1)) = omega (arith, m.last) in
-    let s : j + 1 ≡ k = omega arith in
-    let p : byte_at out j ≡ byte_at old j = ap (λ l. get_or l j 0) m.moved ∙ front_stays old (k + by) j (bytes (byte_at old) k (end - k)) (omega arith) in
-    let q : out ≡ sets old (k + by) (bytes (byte_at old) (j + 1) (end - (j + 1))) = m.moved ∙ ap (λ i. sets old (k + by) (bytes (byte_at old) i (end - i))) (sym s) in
-    record {
-      first = omega arith;
-      last = omega (arith, m.last);
-      moved =
-          g ∙ (λ i. set (q i) (j + by) ((f ∙ p) i))
-          ∙ sets_before old (j + by) {j = k + by} (byte_at old j ∷ []) (bytes (byte_at old) (j + 1) (end - (j + 1))) (omega arith)
-          ∙ ap (λ i. sets old (j + by) (bytes (byte_at old) j i)) (sym n);
-      lengths = ap length g ∙ length-set out (j + by) b ∙ m.lengths;
-    }
-
-pub moves_end : {old out : Bytes} {from end by k : ℕ} → Moving old from end by out k → k ≤ from → end + by ≤ length old → out ≡ moved_by old from end by
-moves_end {old} {out} {from} {end} {by} {k} m h l =
-    let e : k ≡ from = omega (arith, m.first) in
-    rw (le-ltb (length old) (end + by) l) (m.moved ∙ ap (λ i. sets old (i + by) (bytes (byte_at old) i (end - i))) e)
+-- bytes moved back by the library's copy
+pub moved_within : (l : Bytes) (from end by : ℕ) → from ≤ end → end + by ≤ length l → copy_within l from end (from + by) ≡ moved_by l from end by
+moved_within l from end by h k =
+    let n : length (take (end - from) (drop from l)) ≡ end - from = length-take-le (end - from) (drop from l) (omega (arith, length-drop from l)) in
+    rw (le-ltb (length l) (end + by) k)
+    (ap (λ m. take (from + by) l ++ take (end - from) (drop from l) ++ drop (from + by + m) l) (sym n)
+    ∙ sym (sets-eq (take (end - from) (drop from l)) l (from + by) (omega (arith, n)))
+    ∙ ap (sets l (from + by)) (sym (bytes_slice l from (end - from) (omega arith))))

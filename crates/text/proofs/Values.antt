@@ -13,7 +13,7 @@ use Rattle.definition.specs.Field.{field, bytes}
 use Rattle.definition.specs.Tag.{tag_function, tag_name}
 use Rattle.definition.proofs.Basic.{chosen}
 use Rattle.definition.proofs.Bytes.{length-bytes}
-use Rattle.text.specs.Kind.{let_word, return_word, a_name, fn_word, if_word, open_paren, open_bracket}
+use Rattle.text.specs.Kind.{let_word, return_word, a_name, fn_word, if_word, open_paren, open_bracket, number_of}
 use Rattle.text.specs.Token.{Row, kind_of, bytes_of}
 use Rattle.text.specs.Node.{Node, leaf, node, Nodes, ◌then◌, one, named, written, written_all, levels, levels_all}
 use Rattle.text.specs.Shape.{continued_tag, operand_tag}
@@ -152,10 +152,10 @@ named_writes {text} {name} {to} {v} {p} {q} {o} {o₁} {o₂} {o₃} k c w d e =
     by : ℕ
     by = name.end - name.start
 
-    as_long : name.kind ≡ a_name → by ≡ length (content_of text name)
+    as_long : number_of name.kind ≡ a_name → by ≡ length (content_of text name)
     as_long g = rw g (sym (length-bytes (byte_at text) name.start by))
 
-    go : name.kind ≡ a_name → (x : Node) (rest : Row) (left : ℕ) (base : Bytes) → Shaped x → Put text rest (written x) (levels x) left to base o v → (levels x ≤ left → v.tag ≡ tag_of x) → Put text rest (written (named (content_of text name) x)) (levels (named (content_of text name) x)) left to base o₃ (record { at = v.at; to = v.to + by; levels = v.levels; tag = v.tag })
+    go : number_of name.kind ≡ a_name → (x : Node) (rest : Row) (left : ℕ) (base : Bytes) → Shaped x → Put text rest (written x) (levels x) left to base o v → (levels x ≤ left → v.tag ≡ tag_of x) → Put text rest (written (named (content_of text name) x)) (levels (named (content_of text name) x)) left to base o₃ (record { at = v.at; to = v.to + by; levels = v.levels; tag = v.tag })
     go g x rest left base s (Put.too_deep a b) t = Put.too_deep (omega (arith, named-levels (content_of text name) x s)) b
     go g x rest left base s (Put.fits a b i j f) t =
         let u = sym (t a) ∙ k in
@@ -203,7 +203,7 @@ let_writes {text} {at} {to} {left} {o} {o₁} {o₂} {o₃} {t} {t'} {p} {v} {u}
   where
     go : Bounds text at to (11 + (t.end - t.start)) left o o₁ p → Bounds text t'.end p.to (t.end - t.start) left o₁ o₃ u → (xs : Nodes) (rest : Row) → LetRow (row_at text at) rest xs → Put text rest (written_all xs) (levels_all xs) left to o o₃ (joined_of p u)
     go l f _ _ (LetRow.let_row {us = us} {e = x} g d) =
-        let k : t.kind ≡ a_name = a.kind ∙ g in
+        let k : number_of t.kind ≡ a_name = a.kind ∙ g in
         let c : content_of text t ≡ bytes_of (row_at text at) = content_name text t k ∙ a.content in
         let d' : ExpressionRow 0 0 (row_at text t'.end) us x = rw (b.rest, a.rest) d in
         subst (λ n. Put text us (written_all (leaf tag_name n then one (named n x))) (levels_all (leaf tag_name n then one (named n x))) left to o o₃ (joined_of p u)) c
@@ -212,21 +212,7 @@ let_writes {text} {at} {to} {left} {o} {o₁} {o₂} {o₃} {t} {t'} {p} {v} {u}
 
 -- what a statement has inside, by its first token
 module _ {text : Bytes} {at to left : ℕ} {o o₁ : Bytes} {t : piece.Token} {p : Part} where
-  pub clause_let : Sees text at t → at < t.end → t.kind ≡ let_word → Writes LetRow text t.end to 11 left o o₁ p → Writes ClauseRow text at to 0 left o o₁ p × Spares text at to p
-  clause_let a h k w = (
-    record {
-      bounds = record { lengths = w.bounds.lengths; onward = omega (arith, w.bounds.onward); within = w.bounds.within; room = omega (arith, w.bounds.room); behind = w.bounds.behind; depth = w.bounds.depth };
-      puts = λ xs rest f. go xs rest f;
-    },
-    λ _. omega (arith, w.bounds.room),
-  )
-    where
-      go : (xs : Nodes) (rest : Row) → ClauseRow (row_at text at) rest xs → Put text rest (written_all xs) (levels_all xs) left to o o₁ p
-      go xs rest (ClauseRow.a_let _ d) = w.puts xs rest (rw a.rest d)
-      go _ rest (ClauseRow.a_return n _ _) = absurd (eqb-false (kind_of (row_at text at)) let_word n (sym a.kind ∙ k))
-      go _ rest (ClauseRow.an_expression n _ _) = absurd (eqb-false (kind_of (row_at text at)) let_word n (sym a.kind ∙ k))
-
-  pub clause_return : Sees text at t → at < t.end → t.kind ≡ return_word → WritesNode (ExpressionRow 0 0) text t.end to 0 left o o₁ p → Writes ClauseRow text at to 0 left o o₁ p × Spares text at to p
+  pub clause_return : Sees text at t → at < t.end → number_of t.kind ≡ return_word → WritesNode (ExpressionRow 0 0) text t.end to 0 left o o₁ p → Writes ClauseRow text at to 0 left o o₁ p × Spares text at to p
   clause_return a h k w = (
     record {
       bounds = record { lengths = w.bounds.lengths; onward = omega (arith, w.bounds.onward); within = w.bounds.within; room = omega (arith, w.bounds.room); behind = w.bounds.behind; depth = w.bounds.depth };
@@ -240,7 +226,7 @@ module _ {text : Bytes} {at to left : ℕ} {o o₁ : Bytes} {t : piece.Token} {p
       go _ rest (ClauseRow.a_return {e = x} _ _ d) = put_one x (w.puts x rest (rw a.rest d)).put
       go _ rest (ClauseRow.an_expression _ n _) = absurd (eqb-false (kind_of (row_at text at)) return_word n (sym a.kind ∙ k))
 
-  pub clause_expression : Sees text at t → (t.kind ≡ let_word → ⊥) → (t.kind ≡ return_word → ⊥) → WritesNode (ExpressionRow 0 0) text at to 0 left o o₁ p → Writes ClauseRow text at to 0 left o o₁ p
+  pub clause_expression : Sees text at t → (number_of t.kind ≡ let_word → ⊥) → (number_of t.kind ≡ return_word → ⊥) → WritesNode (ExpressionRow 0 0) text at to 0 left o o₁ p → Writes ClauseRow text at to 0 left o o₁ p
   clause_expression a h k w = record { bounds = w.bounds; puts = λ xs rest f. go xs rest f }
     where
       go : (xs : Nodes) (rest : Row) → ClauseRow (row_at text at) rest xs → Put text rest (written_all xs) (levels_all xs) left to o o₁ p

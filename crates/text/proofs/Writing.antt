@@ -9,7 +9,7 @@ use borrow.Author.Tests.{eqb-true, eqb-false}
 use Rattle.definition.specs.Basic.{Bytes}
 use Rattle.definition.specs.Field.{field}
 use Rattle.definition.specs.Tag.{tag_block, tag_name, tag_params}
-use Rattle.text.specs.Kind.{else_word}
+use Rattle.text.specs.Kind.{else_word, number_of}
 use Rattle.text.specs.Token.{Row, kind_of, behind}
 use Rattle.text.specs.Node.{Node, Nodes, written, written_all, levels, levels_all}
 use Rattle.text.specs.Shape.{statement_tag}
@@ -53,7 +53,7 @@ if_writes {text} {at} {to} {left} {o} {o₁} {o₂} {o₃} {t} {t'} {p} {q} {r} 
         v.puts xs ws (rw h g)))
 
 -- no else
-pub else_none : {text : Bytes} {at to left : ℕ} {o : Bytes} {t : piece.Token} {p : Part} → Sees text at t → (t.kind ≡ else_word → ⊥) → at ≤ end_of text → p ≡ record { at = at; to = to; levels = 0; tag = 0 } → Writes ElseRow text at to 3 left o o p
+pub else_none : {text : Bytes} {at to left : ℕ} {o : Bytes} {t : piece.Token} {p : Part} → Sees text at t → (number_of t.kind ≡ else_word → ⊥) → at ≤ end_of text → p ≡ record { at = at; to = to; levels = 0; tag = 0 } → Writes ElseRow text at to 3 left o o p
 unfolding written_all levels_all
 else_none {text} {at} {to} {left} {o} {t} {p} a n h e = record { bounds = bounds_from (bounds_none at to left h e) (omega arith) (omega arith); puts = λ xs rest f. go xs rest f }
   where
@@ -62,7 +62,7 @@ else_none {text} {at} {to} {left} {o} {t} {p} a n h e = record { bounds = bounds
     go _ _ (ElseRow.an_else k _) = absurd (n (a.kind ∙ eqb-true (kind_of (row_at text at)) else_word k))
 
 -- else
-pub else_block : {text : Bytes} {at to left : ℕ} {o o₁ : Bytes} {t : piece.Token} {p : Part} → Sees text at t → t.kind ≡ else_word → at ≤ t.end → WritesNode BlockRow text t.end to 3 left o o₁ p → Writes ElseRow text at to 3 left o o₁ p
+pub else_block : {text : Bytes} {at to left : ℕ} {o o₁ : Bytes} {t : piece.Token} {p : Part} → Sees text at t → number_of t.kind ≡ else_word → at ≤ t.end → WritesNode BlockRow text t.end to 3 left o o₁ p → Writes ElseRow text at to 3 left o o₁ p
 else_block {text} {at} {to} {left} {o} {o₁} {t} {p} a k h w = record { bounds = bounds_from w.bounds h (omega arith); puts = λ xs rest f. go xs rest f }
   where
     go : (xs : Nodes) (rest : Row) → ElseRow (row_at text at) rest xs → Put text rest (written_all xs) (levels_all xs) left to o o₁ p
@@ -129,10 +129,10 @@ parameters_writes {text} {at} {to} left {o} {o₁} {o₂} {t} {p} {s} a w y j m 
     by (suc l) = record { bounds = bounds_from (bounds_field tag_params (w l).bounds m) k (omega arith); puts = λ x rest f. go l x rest f }
 
 -- a statement: what it has inside, and a `;`
-pub one_writes : {text : Bytes} {at to l left : ℕ} {o o₁ o₂ : Bytes} {t : piece.Token} {p q s : Part} → left ≡ suc l → Sees text at t → at < end_of text → Writes ClauseRow text at (to + 3) 0 l o o₁ p → Spares text at (to + 3) p → q ≡ closed_of (statement_tag t.kind) p → o₂ ≡ sets o₁ to (head_of (statement_tag t.kind) (p.to - to - 3)) → Passes text q s → WritesNode StatementRow text at to 0 left o o₂ s
+pub one_writes : {text : Bytes} {at to l left : ℕ} {o o₁ o₂ : Bytes} {t : piece.Token} {p q s : Part} → left ≡ suc l → Sees text at t → at < end_of text → Writes ClauseRow text at (to + 3) 0 l o o₁ p → Spares text at (to + 3) p → q ≡ closed_of (statement_tag (number_of t.kind)) p → o₂ ≡ sets o₁ to (head_of (statement_tag (number_of t.kind)) (p.to - to - 3)) → Passes text q s → WritesNode StatementRow text at to 0 left o o₂ s
 unfolding written levels
 one_writes {text} {at} {to} {l} {left} {o} {o₁} {o₂} {t} {p} {q} {s} z a k w v i m b =
-    let f = bounds_field (statement_tag t.kind) w.bounds m in
+    let f = bounds_field (statement_tag (number_of t.kind)) w.bounds m in
     let u = v k in
     let g : Bounds text at to 0 (suc l) o o₂ q = subst (λ q. Bounds text at to 0 (suc l) o o₂ q) (sym i) (record { lengths = f.lengths; onward = f.onward; within = f.within; room = omega arith; behind = f.behind; depth = f.depth }) in
     subst (λ left. WritesNode StatementRow text at to 0 left o o₂ s) (sym z)
@@ -140,8 +140,8 @@ one_writes {text} {at} {to} {l} {left} {o} {o₁} {o₂} {t} {p} {q} {s} z a k w
   where
     go : (x : Node) (rest : Row) → StatementRow (row_at text at) rest x → PutNode text rest x (suc l) to o o₂ s
     go _ _ (StatementRow.statement_row {us = us} {xs} d) =
-        let c : Put text us (field (statement_tag t.kind) (written_all xs)) (suc (levels_all xs)) (suc l) to o o₂ q = subst (λ q. Put text us (field (statement_tag t.kind) (written_all xs)) (suc (levels_all xs)) (suc l) to o o₂ q) (sym i) (put-field (statement_tag t.kind) (w.puts xs us d) m) in
-        let e : Put text (past_semicolon us) (field (statement_tag t.kind) (written_all xs)) (suc (levels_all xs)) (suc l) to o o₂ s = subst (λ s. Put text (past_semicolon us) (field (statement_tag t.kind) (written_all xs)) (suc (levels_all xs)) (suc l) to o o₂ s) (sym b.part) (put_on (λ h. b.row ∙ ap past_semicolon h) c) in
+        let c : Put text us (field (statement_tag (number_of t.kind)) (written_all xs)) (suc (levels_all xs)) (suc l) to o o₂ q = subst (λ q. Put text us (field (statement_tag (number_of t.kind)) (written_all xs)) (suc (levels_all xs)) (suc l) to o o₂ q) (sym i) (put-field (statement_tag (number_of t.kind)) (w.puts xs us d) m) in
+        let e : Put text (past_semicolon us) (field (statement_tag (number_of t.kind)) (written_all xs)) (suc (levels_all xs)) (suc l) to o o₂ s = subst (λ s. Put text (past_semicolon us) (field (statement_tag (number_of t.kind)) (written_all xs)) (suc (levels_all xs)) (suc l) to o o₂ s) (sym b.part) (put_on (λ h. b.row ∙ ap past_semicolon h) c) in
         record {
           put = put_same (ap (λ k. field (statement_tag k) (written_all xs)) a.kind) refl e;
           tag = λ _. ap (λ p. p.tag) b.part ∙ ap (λ p. p.tag) i ∙ ap statement_tag a.kind;

@@ -3,7 +3,7 @@ use Rattle.std.specs.Prelude.{ℕ, zero, suc, ◌+◌, ◌*◌, ◌-◌, ◌/◌
 use Rattle.std.proofs.lemmas.List.Edits.{sets}
 use Rattle.definition.specs.Basic.{Bytes, byte_at, pick}
 use Rattle.definition.specs.Field.{bytes, field}
-use Rattle.text.specs.Kind.{a_name, a_string, an_integer, true_word, false_word, open_paren}
+use Rattle.text.specs.Kind.{a_name, a_string, an_integer, true_word, false_word, open_paren, number_of}
 use Rattle.text.specs.Token.{Row, kind_of, bytes_of, behind}
 use Rattle.definition.specs.Tag.{tag_program, tag_function, tag_name}
 use Rattle.text.specs.Node
@@ -50,30 +50,30 @@ denoted text k start end =
 
 -- what a token shows of a row, and where it stands
 pub record Sees (text : Bytes) (at : ℕ) (t : piece.Token) : Type 0 where
-  pub kind : t.kind ≡ kind_of (row_at text at)
+  pub kind : number_of t.kind ≡ kind_of (row_at text at)
   pub rest : row_at text t.end ≡ behind (row_at text at)
-  pub content : denoted text t.kind t.start t.end ≡ bytes_of (row_at text at)
+  pub content : denoted text (number_of t.kind) t.start t.end ≡ bytes_of (row_at text at)
   pub from : at ≤ t.start
   pub order : t.start ≤ t.end
   pub within : t.end ≤ end_of text
   pub onward : at < end_of text → at < t.end
-  pub string : t.kind ≡ a_string → t.start + 2 ≤ t.end
-  pub integer : t.kind ≡ an_integer → value 0 (bytes (byte_at text) t.start (t.end - t.start)) ≤ 9223372036854775807
+  pub string : number_of t.kind ≡ a_string → t.start + 2 ≤ t.end
+  pub integer : number_of t.kind ≡ an_integer → value 0 (bytes (byte_at text) t.start (t.end - t.start)) ≤ 9223372036854775807
 
 -- the content of a field that is one token
 unfoldable pub content_of : Bytes → piece.Token → Bytes
 content_of text t =
-    pick (eqb t.kind an_integer) (eight (value 0 (bytes (byte_at text) t.start (t.end - t.start))))
-    (pick (eqb t.kind a_string) (bytes (byte_at text) (t.start + 1) (t.end - 1 - (t.start + 1)))
-    (pick (eqb t.kind true_word) (1 ∷ [])
-    (pick (eqb t.kind false_word) (0 ∷ []) (bytes (byte_at text) t.start (t.end - t.start)))))
+    pick (eqb (number_of t.kind) an_integer) (eight (value 0 (bytes (byte_at text) t.start (t.end - t.start))))
+    (pick (eqb (number_of t.kind) a_string) (bytes (byte_at text) (t.start + 1) (t.end - 1 - (t.start + 1)))
+    (pick (eqb (number_of t.kind) true_word) (1 ∷ [])
+    (pick (eqb (number_of t.kind) false_word) (0 ∷ []) (bytes (byte_at text) t.start (t.end - t.start)))))
 
 -- where a token stands in a text
 pub record Holds (text : Bytes) (t : piece.Token) : Type 0 where
   pub order : t.start ≤ t.end
   pub within : t.end ≤ end_of text
-  pub string : t.kind ≡ a_string → t.start + 2 ≤ t.end
-  pub integer : t.kind ≡ an_integer → value 0 (bytes (byte_at text) t.start (t.end - t.start)) ≤ 9223372036854775807
+  pub string : number_of t.kind ≡ a_string → t.start + 2 ≤ t.end
+  pub integer : number_of t.kind ≡ an_integer → value 0 (bytes (byte_at text) t.start (t.end - t.start)) ≤ 9223372036854775807
 
 -- a field of one token put
 pub record PutToken (tag : ℕ) (text : Bytes) (t : piece.Token) (to : ℕ) (old out : Bytes) (p : Part) : Type 0 where
@@ -164,14 +164,14 @@ pub record Named (text : Bytes) (name : piece.Token) (to : ℕ) (v : Part) (old 
   pub behind : v.to ≤ p.to
   pub most : p.to ≤ v.to + (name.end - name.start)
   pub lengths : length out ≡ length old
-  pub puts : (x : Node) (rest : Row) (left : ℕ) (base : Bytes) → length old ≡ length base → name.kind ≡ a_name → Shaped x → PutNode text rest x left to base old v → Put text rest (written (named (content_of text name) x)) (Node.levels (named (content_of text name) x)) left to base out p
+  pub puts : (x : Node) (rest : Row) (left : ℕ) (base : Bytes) → length old ≡ length base → number_of name.kind ≡ a_name → Shaped x → PutNode text rest x left to base old v → Put text rest (written (named (content_of text name) x)) (Node.levels (named (content_of text name) x)) left to base out p
 
 -- a call, an index or an infix operator behind what was put
 pub record Continues (text : Bytes) (t : piece.Token) (to : ℕ) (v : Part) (left : ℕ) (old out : Bytes) (p : Part) : Type 0 where
   pub bounds : Bounds text v.at v.to 0 left old out p
   pub ahead : t.end ≤ end_of text → t.end ≤ p.at
   pub deep : left ≤ v.levels → left < p.levels
-  pub puts : (x : Node) (xs : Nodes) (rest : Row) (base : Bytes) → length old ≡ length base → PutNode text (row_at text v.at) x left to base old v → InsideRow t.kind (tight_of t.kind) (row_at text t.end) rest xs → PutNode text rest (node (continued_tag t.kind) (x then xs)) left to base out p
+  pub puts : (x : Node) (xs : Nodes) (rest : Row) (base : Bytes) → length old ≡ length base → PutNode text (row_at text v.at) x left to base old v → InsideRow (number_of t.kind) (tight_of (number_of t.kind)) (row_at text t.end) rest xs → PutNode text rest (node (continued_tag (number_of t.kind)) (x then xs)) left to base out p
 
 -- a whole tree put at the start of an output
 pub record PutsTree (text old out : Bytes) (p : Part) : Type 0 where

@@ -7,13 +7,13 @@ ghost use Rattle.definition.specs.Tag.{tag_name, tag_operator};
 ghost use Rattle.text.specs.Node.{larger as largerOf};
 ghost use Rattle.text.specs.Parse.{NamesRow, ParametersRow};
 ghost use Rattle.text.specs.Shape.{separating as separatingOf, operand_tag};
-ghost use Rattle.text.specs.Kind.{ended as endedKind};
+ghost use Rattle.text.specs.Kind.{number_of};
+ghost use Rattle.text.specs.declared.kind.Kind.TheVariants as kinds;
 ghost use Rattle.text.specs.Parts.{end_of, head_of, Sees, Holds, content_of, PutToken, Ready, Writes, WritesNode, Skips, Passes, Named, joined_of, moved_on, closed_of};
 
-use crate::kind;
-use crate::put::{make_room, put, put_bytes, put_eight, put_head};
-use crate::scan::{Ahead, Token, next_token, text_end, value};
-use crate::shape::{operand_tag, separating};
+use crate::kind::Kind;
+use crate::put::{make_room, put, put_head};
+use crate::scan::{Token, next_token, text_end, value};
 use definition::tag;
 
 // The offset behind it in the text and in the output, its levels of fields, and its tag if it is one field.
@@ -34,13 +34,13 @@ pub struct Groups {
 
 // No token: the text has ended.
 fn no_token(text: &[u8]) -> Token
-    ensures { result ≡ record { kind = endedKind; start = end_of text.now; end = end_of text.now } }
+    ensures { result ≡ record { kind = kinds.Ended; start = end_of text.now; end = end_of text.now } }
 {
     let end = text_end(text);
     Token {
-        kind: kind::ENDED,
+        kind: Kind::Ended,
         start: end,
-        end: end,
+        end,
     }
 }
 
@@ -49,67 +49,64 @@ pub fn token_at(text: &[u8], at: usize) -> Token
     requires { at ≤ end_of text.now }
     ensures { Sees text.now at result }
 {
-    match next_token(text, at) {
-        Ahead::Found(t) => t,
-        Ahead::Large(_) => no_token(text),
-        Ahead::Broken(_) => no_token(text),
-        Ahead::Finished(_) => no_token(text),
+    next_token(text, at).unwrap_or(no_token(text))
+}
+
+impl Part {
+    // Nothing was put.
+    pub fn empty(at: usize, to: usize) -> Part
+        ensures { result ≡ record { at = at; to = to; levels = 0; tag = 0 } }
+    {
+        Part {
+            at,
+            to,
+            levels: 0,
+            tag: 0,
+        }
     }
-}
 
-// The larger of two numbers.
-fn larger(m: usize, n: usize) -> usize
-    ensures { result ≡ largerOf m n }
-{
-    if m <= n { n } else { m }
-}
-
-// Nothing was put.
-pub fn empty_part(at: usize, to: usize) -> Part
-    ensures { result ≡ record { at = at; to = to; levels = 0; tag = 0 } }
-{
-    Part {
-        at: at,
-        to: to,
-        levels: 0,
-        tag: 0,
+    // More levels than are left; no more is read.
+    pub fn deep(text: &[u8], to: usize, left: usize) -> Part
+        requires { left ≤ 64 }
+        ensures { result ≡ record { at = end_of text.now; to = to; levels = left + 1; tag = 0 } }
+    {
+        Part {
+            at: text_end(text),
+            to,
+            levels: left + 1,
+            tag: 0,
+        }
     }
-}
 
-// More levels than are left; no more is read.
-pub fn deep(text: &[u8], to: usize, left: usize) -> Part
-    requires { left ≤ 64 }
-    ensures { result ≡ record { at = end_of text.now; to = to; levels = left + 1; tag = 0 } }
-{
-    Part {
-        at: text_end(text),
-        to: to,
-        levels: left + 1,
-        tag: 0,
+    // A part and the one behind it.
+    pub fn joined(self, next: Part) -> Part
+        ensures { result ≡ joined_of self next }
+    {
+        Part {
+            at: next.at,
+            to: next.to,
+            levels: self.levels.max(next.levels),
+            tag: 0,
+        }
     }
-}
 
-// A part and the one behind it.
-pub fn joined(first: Part, second: Part) -> Part
-    ensures { result ≡ joined_of first second }
-{
-    Part {
-        at: second.at,
-        to: second.to,
-        levels: larger(first.levels, second.levels),
-        tag: 0,
+    // The same further on in the text.
+    pub fn moved_on(self, at: usize) -> Part
+        ensures { result ≡ moved_on self at }
+    {
+        Part { at, ..self }
     }
-}
 
-// The same further on in the text.
-pub fn moved_on(part: Part, at: usize) -> Part
-    ensures { result ≡ moved_on part at }
-{
-    Part {
-        at: at,
-        to: part.to,
-        levels: part.levels,
-        tag: part.tag,
+    // The same behind a `;`, if one stands there.
+    pub fn past_semicolon(self, text: &[u8]) -> Part
+        requires { self.at ≤ end_of text.now }
+        ensures { Passes text.now self result }
+    {
+        let token = token_at(text, self.at);
+        if token.kind == Kind::Semicolon {
+            return self.moved_on(token.end);
+        }
+        self
     }
 }
 
@@ -124,7 +121,7 @@ pub fn close(output: &mut [u8], to: usize, tag: u8, inside: Part) -> Part
         at: inside.at,
         to: inside.to,
         levels: 1 + inside.levels,
-        tag: tag,
+        tag,
     }
 }
 
@@ -137,38 +134,25 @@ pub fn skip_groups(text: &[u8], from: usize) -> Groups
     let mut opened = 0;
     loop {
         let token = token_at(text, at);
-        if token.kind != kind::OPEN_PAREN {
-            return Groups {
-                at: at,
-                opened: opened,
-            };
+        match token.kind {
+            Kind::OpenParen => {
+                at = token.end;
+                opened += 1;
+            }
+            _ => return Groups { at, opened },
         }
-        at = token.end;
-        opened += 1;
     }
 }
 
 // Where an item stands: behind the token between it and the one before.
 pub fn item_start(token: Token, at: usize) -> usize
-    ensures { result ≡ pick (separatingOf token.kind) token.end at }
+    ensures { result ≡ pick (separatingOf (number_of token.kind)) token.end at }
 {
-    if separating(token.kind) {
+    if token.kind.separates() {
         token.end
     } else {
         at
     }
-}
-
-// The same behind a `;`, if one stands there.
-pub fn past_semicolon(text: &[u8], part: Part) -> Part
-    requires { part.at ≤ end_of text.now }
-    ensures { Passes text.now part result }
-{
-    let token = token_at(text, part.at);
-    if token.kind == kind::SEMICOLON {
-        return moved_on(part, token.end);
-    }
-    part
 }
 
 // The bytes that a token denotes, or a flag.
@@ -178,23 +162,14 @@ fn put_content(text: &[u8], output: &mut [u8], token: Token, to: usize) -> usize
     ensures stored { output.new ≡ sets output.old to (content_of text.now token) }
     ensures most { length (content_of text.now token) ≤ 8 + (token.end - token.start) }
 {
-    let k = token.kind;
-    match k {
-        kind::INTEGER => put_eight(output, to, value(text, token.start, token.end)),
-        kind::STRING => put_bytes(output, to, text, token.start + 1, token.end - 1),
-        kind::TRUE => put_flag(output, to, 1),
-        kind::FALSE => put_flag(output, to, 0),
-        _ => put_bytes(output, to, text, token.start, token.end),
+    let Token { kind, start, end } = token;
+    match kind {
+        Kind::Integer => put(output, to, &value(text, start, end).unwrap().to_be_bytes()),
+        Kind::String => put(output, to, &text[start + 1..end - 1]),
+        Kind::True => put(output, to, &[1]),
+        Kind::False => put(output, to, &[0]),
+        _ => put(output, to, &text[start..end]),
     }
-}
-
-fn put_flag(output: &mut [u8], to: usize, b: u8) -> usize
-    requires { to < 1048576 }
-    ensures behind { result ≡ to + 1 }
-    ensures stored { output.new ≡ sets output.old to (b ∷ []) }
-{
-    put(output, to, b);
-    to + 1
 }
 
 // A field of such content.
@@ -208,16 +183,16 @@ fn put_field(text: &[u8], output: &mut [u8], tag: u8, token: Token, to: usize) -
         at: token.end,
         to: end,
         levels: 1,
-        tag: tag,
+        tag,
     }
 }
 
 // An operand that is one token.
 pub fn put_leaf(text: &[u8], output: &mut [u8], token: Token, to: usize) -> Part
     requires { Holds text.now token × (to < 1000000) }
-    ensures { PutToken (operand_tag token.kind) text.now token to output.old output.new result }
+    ensures { PutToken (operand_tag (number_of token.kind)) text.now token to output.old output.new result }
 {
-    put_field(text, output, operand_tag(token.kind), token, to)
+    put_field(text, output, token.kind.operand_tag(), token, to)
 }
 
 // A name's field.
@@ -236,7 +211,7 @@ pub fn put_empty_name(output: &mut [u8], at: usize, to: usize) -> Part
 {
     put_head(output, to, tag::NAME as u8, to + 3);
     Part {
-        at: at,
+        at,
         to: to + 3,
         levels: 1,
         tag: tag::NAME as u8,
@@ -249,10 +224,10 @@ pub fn put_operator(output: &mut [u8], at: usize, to: usize, b: u8) -> Part
     ensures part { result ≡ record { at = at; to = to + 4; levels = 1; tag = tag_operator } }
     ensures stored { output.new ≡ sets output.old to (field tag_operator (b ∷ [])) }
 {
-    put(output, to + 3, b);
+    put(output, to + 3, &[b]);
     put_head(output, to, tag::OPERATOR as u8, to + 4);
     Part {
-        at: at,
+        at,
         to: to + 4,
         levels: 1,
         tag: tag::OPERATOR as u8,
@@ -265,16 +240,13 @@ fn put_names(text: &[u8], output: &mut [u8], at: usize, to: usize) -> Part
     ensures writes { (left : ℕ) → Writes NamesRow text.now at to 0 left output.old output.new result }
     ensures flat { result.levels ≤ 1 }
 {
-    let mut so_far = empty_part(at, to);
+    let mut so_far = Part::empty(at, to);
     loop {
         let token = token_at(text, so_far.at);
-        if token.kind == kind::NAME {
-            so_far = joined(so_far, put_name(text, output, token, so_far.to));
-        } else {
-            so_far = moved_on(so_far, token.end);
-            if token.kind != kind::COMMA {
-                return so_far;
-            }
+        match token.kind {
+            Kind::Name => so_far = so_far.joined(put_name(text, output, token, so_far.to)),
+            Kind::Comma => so_far = so_far.moved_on(token.end),
+            _ => return so_far.moved_on(token.end),
         }
     }
 }
@@ -305,9 +277,7 @@ pub fn named(text: &[u8], output: &mut [u8], name: Token, to: usize, value: Part
     put_name(text, output, name, to + 3);
     put_head(output, to, tag::FUNCTION as u8, value.to + by);
     Part {
-        at: value.at,
         to: value.to + by,
-        levels: value.levels,
-        tag: value.tag,
+        ..value
     }
 }

@@ -1,20 +1,16 @@
 // Passes 2 and 3: the tree that a script denotes, put into an output; an output of no bytes measures. Calls nest by the levels of the tree.
-ghost use Rattle.std.specs.Prelude.{◌≡◌, ◌+◌, ◌-◌, ◌≤◌, ◌<◌, eqb, false};
-ghost use Rattle.text.specs.Shape.{ends_at, ending as endingOf};
+ghost use Rattle.std.specs.Prelude.{◌≡◌, ◌+◌, ◌-◌, ◌≤◌, ◌<◌};
+ghost use Rattle.text.specs.Kind.{number_of};
 ghost use Rattle.text.specs.Parse.{ExpressionRow, OperandRow, InsideRow, ListRow, IfRow, ElseRow, FunctionRow, BlockRow, StatementsRow, StatementRow, ClauseRow, LetRow};
 ghost use Rattle.text.specs.Parts.{end_of, Sees, Ready, Writes, WritesNode, Spares, Continues, PutsTree};
 
-use crate::kind;
+use crate::kind::Kind;
 use crate::part::{
-    Part, close, deep, empty_part, item_start, joined, moved_on, named, past_semicolon,
-    put_empty_name, put_leaf, put_name, put_operator, put_parameters, skip_groups, token_at,
+    Part, close, item_start, named, put_empty_name, put_leaf, put_name, put_operator,
+    put_parameters, skip_groups, token_at,
 };
 use crate::put::make_room;
 use crate::scan::Token;
-use crate::shape::{
-    closes_group, closing, continued_tag, ending, ends_at, is_leaf, is_list, operand_tag,
-    operator_of, statement_tag, tightness,
-};
 use definition::tag;
 
 // The level of a prefix operator: only calls and indices are tighter.
@@ -36,18 +32,18 @@ fn write_expression(
     ensures spares { Spares text.now at to result }
 {
     if left == 0 {
-        return deep(text, to, 0);
+        return Part::deep(text, to, 0);
     }
     let first = skip_groups(text, at);
     let mut opened = first.opened;
     let mut so_far = write_operand(text, output, first.at, to, left);
     loop {
         let token = token_at(text, so_far.at);
-        if closes_group(opened, token.kind) {
+        if token.kind.closes_group(opened) {
             opened -= 1;
-            so_far = moved_on(so_far, token.end);
+            so_far = so_far.moved_on(token.end);
         } else {
-            if ends_at(opened, least, token.kind) {
+            if token.kind.ends_at(opened, least) {
                 return so_far;
             }
             so_far = write_continued(text, output, token, to, so_far, left);
@@ -70,7 +66,7 @@ fn write_continued(
     ensures { Continues text.now token to before left output.old output.new result }
 {
     if left <= before.levels {
-        return deep(text, before.to, left);
+        return Part::deep(text, before.to, left);
     }
     make_room(output, to, before.to, 3);
     let rest = write_inside(
@@ -78,10 +74,10 @@ fn write_continued(
         output,
         token,
         before.to + 3,
-        tightness(token.kind),
+        token.kind.tightness(),
         left - 1,
     );
-    close(output, to, continued_tag(token.kind), joined(before, rest))
+    close(output, to, token.kind.continued_tag(), before.joined(rest))
 }
 
 // A primary or a prefix operator with its operand; a level is left.
@@ -92,14 +88,14 @@ fn write_operand(text: &[u8], output: &mut [u8], at: usize, to: usize, left: usi
     ensures spares { Spares text.now at to result }
 {
     let token = token_at(text, at);
-    if token.kind == kind::ENDED {
-        return empty_part(token.end, to);
+    match token.kind {
+        Kind::Ended => Part::empty(token.end, to),
+        kind if kind.is_leaf() => put_leaf(text, output, token, to),
+        kind => {
+            let inside = write_inside(text, output, token, to + 3, PREFIX_LEVEL, left - 1);
+            close(output, to, kind.operand_tag(), inside)
+        }
     }
-    if is_leaf(token.kind) {
-        return put_leaf(text, output, token, to);
-    }
-    let inside = write_inside(text, output, token, to + 3, PREFIX_LEVEL, left - 1);
-    close(output, to, operand_tag(token.kind), inside)
 }
 
 // What an operator, a bracket, `if` or `fn` has inside its field, behind the left operand if there is one.
@@ -114,20 +110,18 @@ fn write_inside(
 ) -> Part
     requires ready { Ready 139990 text.now token.end to left }
     requires least_bound { least ≤ 6 }
-    ensures { Writes (InsideRow token.kind least) text.now token.end to 9 left output.old output.new result }
+    ensures { Writes (InsideRow (number_of token.kind) least) text.now token.end to 9 left output.old output.new result }
 {
-    if token.kind == kind::IF {
-        return write_if(text, output, token.end, to, left);
+    match token.kind {
+        Kind::If => write_if(text, output, token.end, to, left),
+        Kind::Fn => write_function(text, output, token.end, to, left),
+        kind if kind.begins_list() => write_list(text, output, token.end, to, left),
+        kind => {
+            let first = put_operator(output, token.end, to, kind.operator());
+            let operand = write_expression(text, output, first.at, first.to, least, left);
+            first.joined(operand)
+        }
     }
-    if token.kind == kind::FN {
-        return write_function(text, output, token.end, to, left);
-    }
-    if is_list(token.kind) {
-        return write_list(text, output, token.end, to, left);
-    }
-    let first = put_operator(output, token.end, to, operator_of(token.kind));
-    let operand = write_expression(text, output, first.at, first.to, least, left);
-    joined(first, operand)
 }
 
 // Items, keys and values up to the token that closes them, and that token.
@@ -136,11 +130,11 @@ fn write_list(text: &[u8], output: &mut [u8], at: usize, to: usize, left: usize)
     requires { Ready 139990 text.now at to left }
     ensures { Writes ListRow text.now at to 0 left output.old output.new result }
 {
-    let mut so_far = empty_part(at, to);
+    let mut so_far = Part::empty(at, to);
     loop {
         let token = token_at(text, so_far.at);
-        if closing(token.kind) {
-            return moved_on(so_far, token.end);
+        if token.kind.closes_list() {
+            return so_far.moved_on(token.end);
         }
         let item = write_expression(
             text,
@@ -150,7 +144,7 @@ fn write_list(text: &[u8], output: &mut [u8], at: usize, to: usize, left: usize)
             0,
             left,
         );
-        so_far = joined(so_far, item);
+        so_far = so_far.joined(item);
     }
 }
 
@@ -165,7 +159,7 @@ fn write_if(text: &[u8], output: &mut [u8], at: usize, to: usize, left: usize) -
     let token2 = token_at(text, condition.at);
     let branch = write_block(text, output, token2.end, condition.to, left);
     let other = write_else(text, output, branch.at, branch.to, left);
-    joined(condition, joined(branch, other))
+    condition.joined(branch.joined(other))
 }
 
 // The other block, if there is one.
@@ -175,10 +169,10 @@ fn write_else(text: &[u8], output: &mut [u8], at: usize, to: usize, left: usize)
     ensures { Writes ElseRow text.now at to 3 left output.old output.new result }
 {
     let token = token_at(text, at);
-    if token.kind != kind::ELSE {
-        return empty_part(at, to);
+    match token.kind {
+        Kind::Else => write_block(text, output, token.end, to, left),
+        _ => Part::empty(at, to),
     }
-    write_block(text, output, token.end, to, left)
 }
 
 // The empty name, the parameters and the block behind `fn`.
@@ -190,7 +184,7 @@ fn write_function(text: &[u8], output: &mut [u8], at: usize, to: usize, left: us
     let name = put_empty_name(output, at, to);
     let names = put_parameters(text, output, name.at, name.to);
     let block = write_block(text, output, names.at, names.to, left);
-    joined(name, joined(names, block))
+    name.joined(names.joined(block))
 }
 
 // A block in its braces.
@@ -200,12 +194,12 @@ fn write_block(text: &[u8], output: &mut [u8], at: usize, to: usize, left: usize
     ensures { WritesNode BlockRow text.now at to 3 left output.old output.new result }
 {
     if left == 0 {
-        return deep(text, to, 0);
+        return Part::deep(text, to, 0);
     }
     let token = token_at(text, at);
     let inside = write_statements(text, output, token.end, to + 3, left - 1);
     let token2 = token_at(text, inside.at);
-    close(output, to, tag::BLOCK as u8, moved_on(inside, token2.end))
+    close(output, to, tag::BLOCK as u8, inside.moved_on(token2.end))
 }
 
 // Statements up to `}` or the text's end.
@@ -214,14 +208,14 @@ fn write_statements(text: &[u8], output: &mut [u8], at: usize, to: usize, left: 
     requires { Ready 140000 text.now at to left }
     ensures { Writes StatementsRow text.now at to 0 left output.old output.new result }
 {
-    let mut so_far = empty_part(at, to);
+    let mut so_far = Part::empty(at, to);
     loop {
         let token = token_at(text, so_far.at);
-        if ending(token.kind) {
+        if token.kind.ends_statements() {
             return so_far;
         }
         let next = write_one(text, output, token, so_far.at, so_far.to, left);
-        so_far = joined(so_far, next);
+        so_far = so_far.joined(next);
     }
 }
 
@@ -240,11 +234,11 @@ fn write_one(
     ensures onward { at < result.at }
 {
     if left == 0 {
-        return deep(text, to, 0);
+        return Part::deep(text, to, 0);
     }
     let inside = write_clause(text, output, token, at, to + 3, left - 1);
-    let whole = close(output, to, statement_tag(token.kind), inside);
-    past_semicolon(text, whole)
+    let whole = close(output, to, token.kind.statement_tag(), inside);
+    whole.past_semicolon(text)
 }
 
 // What a statement has inside.
@@ -261,13 +255,11 @@ fn write_clause(
     ensures writes { Writes ClauseRow text.now at to 0 left output.old output.new result }
     ensures spares { Spares text.now at to result }
 {
-    if token.kind == kind::LET {
-        return write_let(text, output, token.end, to, left);
+    match token.kind {
+        Kind::Let => write_let(text, output, token.end, to, left),
+        Kind::Return => write_expression(text, output, token.end, to, 0, left),
+        _ => write_expression(text, output, at, to, 0, left),
     }
-    if token.kind == kind::RETURN {
-        return write_expression(text, output, token.end, to, 0, left);
-    }
-    write_expression(text, output, at, to, 0, left)
 }
 
 // The name and the value behind `let`; a function takes the name.
@@ -280,7 +272,7 @@ fn write_let(text: &[u8], output: &mut [u8], at: usize, to: usize, left: usize) 
     let first = put_name(text, output, name, to);
     let token = token_at(text, name.end);
     let value = write_expression(text, output, token.end, first.to, 0, left);
-    joined(first, named(text, output, name, first.to, value))
+    first.joined(named(text, output, name, first.to, value))
 }
 
 // The whole tree.

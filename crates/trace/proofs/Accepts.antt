@@ -11,7 +11,7 @@ use borrow.Author.Tests.{le-leb, lt-leb, ne_eqb}
 use Rattle.definition.specs.Basic.{Bytes, pick}
 use Rattle.definition.specs.Limit.{session_size}
 use Rattle.definition.specs.Number
-use Rattle.definition.specs.Number.{refusal}
+use Rattle.definition.specs.Number.{refusal, number_of}
 use Rattle.definition.specs.Tag.{tag_main, tag_pool}
 use Rattle.definition.specs.Field.{field}
 use Rattle.definition.specs.Bytecode.{Image, encode, pool_bytes, image_bytes}
@@ -22,8 +22,8 @@ use Rattle.definition.specs.Session.{Session, word_list, names_bytes, session_by
 use Rattle.definition.specs.Decode.{decoded, read_session}
 use Rattle.definition.specs.Compile.{Outcome, Step, image_of, session_of, turned_down, finish, translate, enough, compile}
 use Rattle.definition.specs.Call.{Lent, Called, cleared, refused_call, answered, request, call}
-use Rattle.definition.specs.declared.Refusal.{Refusal}
-use Rattle.definition.specs.declared.Answer.TheVariants.{Length, Refused}
+use Rattle.definition.specs.declared.reason.Refusal.{Refusal}
+use Rattle.std.specs.Prelude.{Ok, Err}
 use Rattle.definition.specs.Valid.{AreBytes, ValidSession}
 use Rattle.definition.proofs.Sessions.{write_session, session_length}
 use Rattle.definition.proofs.Steps.{compile-valid}
@@ -43,7 +43,7 @@ use Rattle.trace.proofs.Grown.{Grew, walk_grew}
 use Rattle.trace.proofs.Older.{Older, older}
 
 -- a call that wrote no records: all is as the call with records leaves it
-pub untraced-call : {tree : Bytes} {l : Lent} {room : ℕ} {q : Refusal} {l' : Lent} → ((rs : List Record) → length rs ≡ room → call_records tree l rs ≡ unrecorded rs (record { answer = Refused q; lent = l' })) → Traces tree l room (record { answer = Refused q; count = 0 }) l'
+pub untraced-call : {tree : Bytes} {l : Lent} {room : ℕ} {q : Refusal} {l' : Lent} → ((rs : List Record) → length rs ≡ room → call_records tree l rs ≡ unrecorded rs (record { answer = Err q; lent = l' })) → Traces tree l room (record { answer = Err q; count = 0 }) l'
 unfolding log_of
 untraced-call h =
     record {
@@ -75,8 +75,8 @@ module _ (tree : Bytes) (l : Lent) {o : Outlook} (look : LooksAhead tree (take s
   few_call (Seen.refused r n c p) room h rs e =
       p rs ∙ sym (ap (λ (x : Called). unrecorded rs (record { answer = few_of x.answer; lent = with_output l.output x.lent })) (c []) ∙ ap (λ a. unrecorded rs (record { answer = a; lent = (refused_call r l).lent })) (same r n))
     where
-      same : (r : Refusal) → (r.number ≡ Number.output_short → ⊥) → few_of (Refused r) ≡ Refused r
-      same r n = rw (ne_eqb r.number Number.output_short n)
+      same : (r : Refusal) → (number_of r.reason ≡ number_of Number.output_short → ⊥) → few_of (Err r) ≡ Err r
+      same r n = rw (ne_eqb (number_of r.reason) (number_of Number.output_short) n)
   few_call (Seen.walked z m b k s a t w y c p) room h rs e =
       let n : length rs < length s.records = omega (arith, counted s z b w (look.count z m b k a t)) in
       p rs ∙ ap (λ x. recorded l rs (pick x (traced s.records (finish (length l.output) z (Res.on tt s.state))) (untraced (turned_down z (refusal Number.few_records 0))))) (lt-leb (length s.records) (length rs) n)
@@ -88,7 +88,7 @@ module _ (tree : Bytes) (l : Lent) {o : Outlook} (look : LooksAhead tree (take s
     enough_records z m b k s a t w = omega (arith, counted s z b w (look.count z m b k a t))
 
     -- refused
-    pub enough-refused : Seen tree l → (q : Refusal) → (call tree l).answer ≡ Refused q → (rs : List Record) → length rs ≡ room → call_records tree l rs ≡ unrecorded rs (call tree l)
+    pub enough-refused : Seen tree l → (q : Refusal) → (call tree l).answer ≡ Err q → (rs : List Record) → length rs ≡ room → call_records tree l rs ≡ unrecorded rs (call tree l)
     enough-refused (Seen.refused r n c p) q f rs e = p rs ∙ sym (ap (unrecorded rs) (c l.output))
     enough-refused (Seen.walked z m b k s a t w y c p) q f rs e =
         p rs ∙ ap (λ x. recorded l rs (pick x (traced s.records (finish (length l.output) z (Res.on tt s.state))) (untraced (turned_down z (refusal Number.few_records 0))))) (le-leb (length s.records) (length rs) (omega (arith, enough_records z m b k s a t w)))
@@ -115,7 +115,7 @@ pub record AcceptedBy (tree : Bytes) (l : Lent) : Type 0 where
   pub called : call tree l ≡ answered l (session_of state.state) (Outcome.accepted (image_of state.state))
   pub recorded : (rs : List Record) → length state.records ≤ length rs → call_records tree l rs ≡ record { called = call tree l; count = length (reverse state.records); records = over_records (reverse state.records) rs }
 
-pub accepted_by : (tree : Bytes) (l : Lent) → enough (request l tree) ≡ true → Seen tree l → (n : ℕ) → (call tree l).answer ≡ Length n → AcceptedBy tree l
+pub accepted_by : (tree : Bytes) (l : Lent) → enough (request l tree) ≡ true → Seen tree l → (n : ℕ) → (call tree l).answer ≡ Ok n → AcceptedBy tree l
 accepted_by tree l big (Seen.refused r x c p) n f = let v = sym f ∙ ap (λ (y : Called). y.answer) (c l.output) in let no : ◌≡◌ {A = ℕ} 0 1 = cc in absurd (omega arith)
 accepted_by tree l big (Seen.walked z m b k s a t w y c p) n f = go (leb (length (image_bytes (image_of s.state))) (length l.output)) refl
   where

@@ -15,11 +15,10 @@ use Rattle.definition.specs.Decode.{Decoded, decoded, malformed, list_in, words_
 use Rattle.field.proofs.Reading.{names-read}
 use Rattle.bytecode.specs.Checked.{layout_answer, session_answer}
 use Rattle.bytecode.specs.declared.SessionLayout.{SessionLayout}
-use Rattle.bytecode.specs.declared.Layout.TheVariants.{Broken}
+use Rattle.std.specs.Prelude.{None, Err}
 use Rattle.session.proofs.Sessions.{front_length}
 use Rattle.tree.specs.Check.{verdict}
-use Rattle.tree.specs.declared.Checked.TheVariants.{Refused}
-use Rattle.definition.specs.declared.Refusal.{Refusal}
+use Rattle.definition.specs.declared.reason.Refusal.{Refusal}
 use Rattle.symbol_table.specs.Contract.{HasItems}
 use Rattle.compiler.specs.Stage.{words_end, Opened}
 use Rattle.compiler.proofs.Started.{opened_names, opened_after}
@@ -79,13 +78,13 @@ module _ {e : Bytes} {l : SessionLayout} (x : Opened e l) where
       }
 
 -- where the tree does not read, or the session, nothing is asked
-pub tree_refused : {tree e : Bytes} {o : Outlook} {r : Refusal} → verdict (read_tree tree) ≡ Refused r → LooksAhead tree e o
+pub tree_refused : {tree e : Bytes} {o : Outlook} {r : Refusal} → verdict (read_tree tree) ≡ Err r → LooksAhead tree e o
 tree_refused {tree} h = record { older = λ z m b k _ t. absurd (no b k t); count = λ z m b k _ t. absurd (no b k t) }
   where
     no : (b : Stmts) (k : ℕ) → read_tree tree ≡ Parsed.parsed b k → ⊥
     no b k t = let c = sym (ap verdict t) ∙ h in let z : ◌≡◌ {A = ℕ} 0 1 = cc in omega arith
 
-pub no-session : {tree e : Bytes} {o : Outlook} → layout_answer Broken ≡ session_answer (read_session e) → LooksAhead tree e o
+pub no-session : {tree e : Bytes} {o : Outlook} → layout_answer None ≡ session_answer (read_session e) → LooksAhead tree e o
 no-session {tree} {e} h = record { older = λ z m b k s _. absurd (no z m s); count = λ z m b k s _. absurd (no z m s) }
   where
     no : (z : Session) (m : ℕ) → read_session e ≡ decoded z m → ⊥

@@ -9,7 +9,7 @@ use lib.Dec.{T, eqb}
 use Rattle.definition.specs.Basic.{Bytes}
 use Rattle.definition.specs.Limit.{session_size, code_size, table_size}
 use Rattle.definition.specs.Number
-use Rattle.definition.specs.Number.{refusal, is_one_of, tree_numbers, walk_numbers}
+use Rattle.definition.specs.Number.{refusal, is_one_of, tree_numbers, walk_numbers, number_of}
 use Rattle.definition.specs.Syntax.{Stmts}
 use Rattle.definition.specs.Tree.{Parsed, read_tree}
 use Rattle.definition.specs.Walk.{Res, walk_stmts}
@@ -18,8 +18,8 @@ use Rattle.definition.specs.Session.{six, Session, word_list}
 use Rattle.definition.specs.Decode.{Decoded, decoded, malformed, read_session}
 use Rattle.definition.specs.Compile.{Outcome, Step, start, turned_down, finish, translate, enough, compile}
 use Rattle.definition.specs.Call.{Lent, cleared, refused_call, answered, in_session, request, call}
-use Rattle.definition.specs.declared.Refusal.{Refusal}
-use Rattle.definition.specs.declared.Answer.TheVariants.{Refused}
+use Rattle.definition.specs.declared.reason.Refusal.{Refusal}
+use Rattle.std.specs.Prelude.{Err}
 use Rattle.definition.proofs.Basic.{pick_true}
 use Rattle.definition.proofs.Numbers.{each, of_each}
 use Rattle.definition.proofs.ReadPlaces.{PlacedParsed, read-places}
@@ -39,30 +39,30 @@ with_output o l = record { session = l.session; output = o; code = l.code; table
 
 -- How a call ends once its buffers are large enough: a refusal that is not 15, whatever the output and the records; or the walk's end
 pub data Seen (tree : Bytes) (l : Lent) : Type 0 where
-  refused : (r : Refusal) → (r.number ≡ Number.output_short → ⊥) → ((o : Bytes) → call tree (with_output o l) ≡ refused_call r (with_output o l)) → ((rs : List Record) → call_records tree l rs ≡ unrecorded rs (refused_call r l)) → Seen tree l
+  refused : (r : Refusal) → (number_of r.reason ≡ number_of Number.output_short → ⊥) → ((o : Bytes) → call tree (with_output o l) ≡ refused_call r (with_output o l)) → ((rs : List Record) → call_records tree l rs ≡ unrecorded rs (refused_call r l)) → Seen tree l
   walked : (z : Session) (m : ℕ) (b : Stmts) (k : ℕ) (s : Logged) → read_session (take session_size l.session) ≡ decoded z m → read_tree tree ≡ Parsed.parsed b k
       → walk_stmts naming b (names (word_list z.words) [] z.globals []) ≡ Res.on tt (names_of s) → walk_stmts machine b (start z) ≡ Res.on tt s.state
       → ((o : Bytes) → call tree (with_output o l) ≡ answered (with_output o l) (finish (length o) z (Res.on tt s.state)).session (finish (length o) z (Res.on tt s.state)).outcome)
       → ((rs : List Record) → call_records tree l rs ≡ recorded l rs (finish_records (length rs) (length l.output) z (Res.on tt s))) → Seen tree l
 
 -- numbers of a list without 15
-other_number : (xs : List ℕ) → T (each (λ k. not (eqb k Number.output_short)) xs) → (n : ℕ) → T (is_one_of xs n) → n ≡ Number.output_short → ⊥
-other_number xs h n t e = subst (λ k. T (not (eqb k Number.output_short))) e (of_each (λ k. not (eqb k Number.output_short)) xs h n t)
+other_number : (xs : List ℕ) → T (each (λ k. not (eqb k (number_of Number.output_short))) xs) → (n : ℕ) → T (is_one_of xs n) → n ≡ number_of Number.output_short → ⊥
+other_number xs h n t e = subst (λ k. T (not (eqb k (number_of Number.output_short)))) e (of_each (λ k. not (eqb k (number_of Number.output_short))) xs h n t)
 
 -- a tree's refusals
-tree-number : {bound : ℕ} {p : Parsed Stmts} → PlacedParsed bound p → (r : Refusal) → p ≡ Parsed.refused r → r.number ≡ Number.output_short → ⊥
+tree-number : {bound : ℕ} {p : Parsed Stmts} → PlacedParsed bound p → (r : Refusal) → p ≡ Parsed.refused r → number_of r.reason ≡ number_of Number.output_short → ⊥
 tree-number (PlacedParsed.parsed h) r e = let z : ◌≡◌ {A = ℕ} 0 1 = cc in absurd (omega arith)
-tree-number (PlacedParsed.refused n q h k) r e = let same : refusal n q ≡ r = cc in subst (λ (x : Refusal). x.number ≡ Number.output_short → ⊥) same (other_number tree_numbers tt n h)
+tree-number (PlacedParsed.refused n q h k) r e = let same : refusal n q ≡ r = cc in subst (λ (x : Refusal). number_of x.reason ≡ number_of Number.output_short → ⊥) same (other_number tree_numbers tt (number_of n) h)
 
 -- a walk's refusals
-walk-number : {bound : ℕ} {p : Parsed Stmts} → PlacedParsed bound p → (b : Stmts) (n : ℕ) → p ≡ Parsed.parsed b n → (z : Session) (r : Refusal) (s : State) → walk_stmts machine b (start z) ≡ Res.stop r s → r.number ≡ Number.output_short → ⊥
+walk-number : {bound : ℕ} {p : Parsed Stmts} → PlacedParsed bound p → (b : Stmts) (n : ℕ) → p ≡ Parsed.parsed b n → (z : Session) (r : Refusal) (s : State) → walk_stmts machine b (start z) ≡ Res.stop r s → number_of r.reason ≡ number_of Number.output_short → ⊥
 walk-number {bound} (PlacedParsed.parsed {b = b₁} h) b n e z r s q =
     let same : b₁ ≡ b = cc in
     stopped (subst (λ x. Refuses bound (walk_stmts machine x (start z))) same (refuses_stmts (machine_local bound) b₁ h (start z))) q
   where
-    stopped : {x : Res State (Unit {0})} → Refuses bound x → x ≡ Res.stop r s → r.number ≡ Number.output_short → ⊥
+    stopped : {x : Res State (Unit {0})} → Refuses bound x → x ≡ Res.stop r s → number_of r.reason ≡ number_of Number.output_short → ⊥
     stopped (Refuses.on) q = let z : ◌≡◌ {A = ℕ} 0 1 = cc in absurd (omega arith)
-    stopped (Refuses.stop {r = r₁} w) q = let same : r₁ ≡ r = cc in subst (λ (x : Refusal). x.number ≡ Number.output_short → ⊥) same (other_number walk_numbers tt r₁.number w.number)
+    stopped (Refuses.stop {r = r₁} w) q = let same : r₁ ≡ r = cc in subst (λ (x : Refusal). number_of x.reason ≡ number_of Number.output_short → ⊥) same (other_number walk_numbers tt (number_of r₁.reason) w.number)
 walk-number (PlacedParsed.refused m q h k) b n e z r s w = let y : ◌≡◌ {A = ℕ} 0 1 = cc in absurd (omega arith)
 
 -- what goes on goes on alike
@@ -89,7 +89,7 @@ module _ (tree : Bytes) (l : Lent) (big : enough (request l tree) ≡ true) wher
   -- with records
   records_enough : (rs : List Record) → call_records tree l rs ≡ in_session_records l rs tree (read_session front)
   unfolding call_records
-  records_enough rs = pick_true (in_session_records l rs tree (read_session front)) (unrecorded rs (record { answer = Refused (refusal Number.short_buffer 0); lent = l })) big
+  records_enough rs = pick_true (in_session_records l rs tree (read_session front)) (unrecorded rs (record { answer = Err (refusal Number.short_buffer 0); lent = l })) big
 
   compile-records : (room : ℕ) (z : Session) → compile_records room z (request l tree) ≡ translate_records room (length l.output) z (read_tree tree)
   unfolding compile_records
@@ -143,7 +143,7 @@ module _ (tree : Bytes) (l : Lent) (c₁ : Bytes) (t₁ : List ℕ) (lc : length
     where
       go : (z : Session) (o : Outcome) → answered used z o ≡ answered l z o
       go z (Outcome.accepted m) = λ i. record { answer = (answered l z (Outcome.accepted m)).answer; lent = record { session = (answered l z (Outcome.accepted m)).lent.session; output = (answered l z (Outcome.accepted m)).lent.output; code = kc i; table = kt i } }
-      go z (Outcome.refused r) = λ i. record { answer = Refused r; lent = record { session = l.session; output = l.output; code = kc i; table = kt i } }
+      go z (Outcome.refused r) = λ i. record { answer = Err r; lent = record { session = l.session; output = l.output; code = kc i; table = kt i } }
 
   same_request : request used tree ≡ request l tree
   same_request = λ i. record { code = lc i; table = lt i; session = length l.session; output = length l.output; tree = tree }

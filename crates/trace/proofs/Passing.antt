@@ -19,11 +19,13 @@ use Rattle.tree.specs.At.{LetAt, InfixAt, FunctionAt}
 use Rattle.tree.specs.Reads.{Some, ReadsExpr, ReadsBlock}
 use Rattle.tree.proofs.Parts.{expr_is}
 use Rattle.symbol_table.specs.Layout.{base, symbol_of, tables_of, globals_of, globals_in}
-use Rattle.symbol_table.specs.Contract.{resolved_of, defined_of, Resolves, Defines}
-use Rattle.symbol_table.specs.declared.Lookup.{Lookup}
-use Rattle.symbol_table.specs.declared.Lookup.TheVariants.{Found}
-use Rattle.symbol_table.specs.declared.Definition.{Definition}
-use Rattle.symbol_table.specs.declared.Definition.TheVariants.{Global, Local, GlobalsFull, LocalsFull}
+use Rattle.symbol_table.specs.Contract.{Lookup, Definition, resolved_of, defined_of, Resolves, Defines}
+use Rattle.symbol_table.specs.declared.Found.{Found}
+use Rattle.symbol_table.specs.declared.LookupError.{LookupError}
+use Rattle.symbol_table.specs.declared.LookupError.TheVariants.{Undefined, Full}
+use Rattle.symbol_table.specs.declared.Slot.TheVariants.{Global, Local}
+use Rattle.symbol_table.specs.declared.DefineError.TheVariants.{GlobalsFull, LocalsFull}
+use Rattle.std.specs.Prelude.{Ok, Err}
 use Rattle.trace.proofs.Front.{few_crossed}
 use Rattle.records.specs.Records.{record_of}
 use Rattle.records.specs.Naming.{Names, names, looked_up, look_up, placed_name, define_name, naming}
@@ -40,35 +42,35 @@ pub within_area : {tree before : Bytes} {level : ℕ} {t : List ℕ} {l : Bytes}
 within_area s = omega (arith, s.area, s.depth)
 
 module _ {tree before : Bytes} {level at : ℕ} {t t' : List ℕ} {l : Bytes} {n size : ℕ} (s : Standing tree before level t l n size) where
-  module _ {code far : ℕ} {answer : Lookup} (found : answer ≡ Found code far) (x : Resolves (words_in before) tree before level at answer t t') where
+  module _ {symbol : Found} {answer : Lookup} (found : answer ≡ Ok symbol) (x : Resolves (words_in before) tree before level at answer t t') where
     -- a symbol that was found has a small code
-    pub found_code : code < 2048
-    found_code = code_small code (small (subst SmallResolved (sym (ap (λ a. resolved_of a (tables_of tree level t')) (sym found) ∙ x.resolved)) (lookup_small (words_in before) tree before level t (content tree at) s.symbols)))
+    pub found_code : symbol.code < 2048
+    found_code = code_small symbol.code (small (subst SmallResolved (sym (ap (λ a. resolved_of a (tables_of tree level t')) (sym found) ∙ x.resolved)) (lookup_small (words_in before) tree before level t (content tree at) s.symbols)))
       where
         small : {y : Symbol} {ts : List Table} → SmallResolved (Resolved.found y ts) → Small y
         small (SmallResolved.found h) = h
 
     -- and no more functions are crossed than are open
-    far_is : far ≡ crossed (content tree at) (tables_of tree level t)
+    far_is : symbol.crossed ≡ crossed (content tree at) (tables_of tree level t)
     far_is = rw found at x.crossed
 
-    pub found_far : far < 32
+    pub found_far : symbol.crossed < 32
     found_far = omega (arith, far_is, few_crossed tree (content tree at) t level, s.depth)
 
     -- its record is logged
-    pub found_passes : {l' : Bytes} → log_of l' (n + 1) ≡ record_of at far (symbol_of code) ∷ log_of l n → Passes tree before level Anything (λ _. look_up at (content tree at)) 4 t t' l l' n (n + 1)
+    pub found_passes : {l' : Bytes} → log_of l' (n + 1) ≡ record_of at symbol.crossed (symbol_of symbol.code) ∷ log_of l n → Passes tree before level Anything (λ _. look_up at (content tree at)) 4 t t' l l' n (n + 1)
     unfolding look_up globals_of
     found_passes {l'} e =
         record {
           step = λ _ _. subst (λ y. Follows (names_at tree before level t' l' (n + 1)) (looked_up at (crossed (content tree at) (tables_of tree level t)) (names_at tree before level t l n) y))
               (ap (λ a. resolved_of a (tables_of tree level t')) (sym found) ∙ x.resolved)
-              (λ i. names (words_in before) (tables_of tree level t') (globals_of tree before (x.globals i)) ((e ∙ ap (λ k. record_of at k (symbol_of code) ∷ log_of l n) far_is) i));
+              (λ i. names (words_in before) (tables_of tree level t') (globals_of tree before (x.globals i)) ((e ∙ ap (λ k. record_of at k (symbol_of symbol.code) ∷ log_of l n) far_is) i));
           good = x.good;
           room = omega arith;
         }
 
   -- a lookup that finds nothing
-  pub refused_passes : {answer : Lookup} (y : Lookup) → answer ≡ y → ((ts : List Table) → Follows (names_at tree before level t' l n) (looked_up at (crossed (content tree at) (tables_of tree level t)) (names_at tree before level t l n) (resolved_of y ts)))
+  refused_passes : {answer : Lookup} (y : Lookup) → answer ≡ y → ((ts : List Table) → Follows (names_at tree before level t' l n) (looked_up at (crossed (content tree at) (tables_of tree level t)) (names_at tree before level t l n) (resolved_of y ts)))
       → Resolves (words_in before) tree before level at answer t t' → Passes tree before level Anything (λ _. look_up at (content tree at)) 4 t t' l l n n
   unfolding look_up
   refused_passes y e f x =
@@ -77,6 +79,10 @@ module _ {tree before : Bytes} {level at : ℕ} {t t' : List ℕ} {l : Bytes} {n
         good = x.good;
         room = omega arith;
       }
+
+  pub nothing_passes : {answer : Lookup} (e : LookupError) → answer ≡ Err e → Resolves (words_in before) tree before level at answer t t' → Passes tree before level Anything (λ _. look_up at (content tree at)) 4 t t' l l n n
+  nothing_passes Undefined e x = refused_passes (Err Undefined) e (λ ts. tt) x
+  nothing_passes Full e x = refused_passes (Err Full) e (λ ts. tt) x
 
 -- a test of the tag's kind
 pub parent_tag : {t u : ℕ} {r b : Bool} → t ≡ u → r ≡ is_parent t → r ≡ b → is_parent u ≡ b
@@ -147,10 +153,10 @@ module _ {tree : Bytes} {at : ℕ} where
 
 -- a definition, and then a walk
 define_follows : (u : Names) (p : ℕ) (s : Names) (d : Definition) (gs : List Bytes) (ts : List Table) (k : Go Names) → Follows u (k (names s.words ts gs s.records)) → Follows u (bind (placed_name p s (defined_of d gs ts)) (λ _. k))
-define_follows u p s (Global i) gs ts k h = h
-define_follows u p s (Local i) gs ts k h = h
-define_follows u p s GlobalsFull gs ts k h = tt
-define_follows u p s LocalsFull gs ts k h = tt
+define_follows u p s (Ok (Global i)) gs ts k h = h
+define_follows u p s (Ok (Local i)) gs ts k h = h
+define_follows u p s (Err GlobalsFull) gs ts k h = tt
+define_follows u p s (Err LocalsFull) gs ts k h = tt
 
 -- what is asked for its value
 pub defined_stands : {tree before : Bytes} {level : ℕ} (at : ℕ) {end : ℕ} {t t₁ : List ℕ} {l : Bytes} {n : ℕ} {d : Definition} → end ≡ after tree at → length t₁ ≡ length t → Standing tree before level t l n (3 + len tree at)

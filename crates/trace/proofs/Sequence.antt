@@ -7,7 +7,7 @@ use mathlib.Core.Path.{◌≡◌, refl, subst, ◌∙◌}
 use lib.ListN.{length}
 use Rattle.definition.specs.Basic.{Bytes, pick}
 use Rattle.definition.specs.Walk.{Res, bind, Go}
-use Rattle.definition.specs.declared.Refusal.{Refusal}
+use Rattle.definition.specs.declared.reason.Refusal.{Refusal}
 use Rattle.field.specs.Layout.{after, len}
 use Rattle.tree.specs.Reads.{Some}
 use Rattle.tree.proofs.Rows.{First}

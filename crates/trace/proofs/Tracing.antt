@@ -11,20 +11,19 @@ use borrow.Author.Tests.{le-leb}
 use Rattle.definition.specs.Basic.{Bytes, pick, both}
 use Rattle.definition.specs.Limit.{session_size, code_size, table_size, tree_limit}
 use Rattle.definition.specs.Number
-use Rattle.definition.specs.Number.{refusal}
+use Rattle.definition.specs.Number.{refusal, number_of}
 use Rattle.definition.specs.Tree.{read_tree}
 use Rattle.definition.specs.Walk.{Res, walk_stmts}
 use Rattle.definition.specs.Decode.{words_in}
 use Rattle.definition.specs.Compile.{enough}
 use Rattle.definition.specs.Call.{Lent, Called, cleared, request, call}
 use Rattle.definition.specs.Valid.{AreBytes}
-use Rattle.definition.specs.declared.Refusal.{Refusal}
-use Rattle.definition.specs.declared.Answer.{Answer}
-use Rattle.definition.specs.declared.Answer.TheVariants.{Length, Refused}
+use Rattle.definition.specs.declared.reason.Refusal.{Refusal}
+use Rattle.definition.specs.Answer.{Answer}
+use Rattle.std.specs.Prelude.{Ok, Err}
 use Rattle.definition.proofs.Basic.{both_intro, pick_false}
 use Rattle.field.specs.Layout.{after}
-use Rattle.tree.specs.Check.{verdict}
-use Rattle.tree.specs.declared.Checked.TheVariants.{Good}
+use Rattle.tree.specs.Check.{Good, verdict}
 use Rattle.walk.proofs.Tree.{tree_short}
 use Rattle.compiler.specs.Promise.{Compiles}
 use Rattle.compiler.specs.Stage.{lent_of, Long, Lengths}
@@ -71,11 +70,11 @@ cleared-length n a = omega (arith, length-append (replicate n 0) (drop n a), len
 
 -- Few records
 
-few_refuses : (a : Answer) → (q : Refusal) × (few_of a ≡ Refused q)
-few_refuses (Length n) = (refusal Number.few_records 0, refl)
-few_refuses (Refused r) = go (eqb r.number Number.output_short)
+few_refuses : (a : Answer) → (q : Refusal) × (few_of a ≡ Err q)
+few_refuses (Ok n) = (refusal Number.few_records 0, refl)
+few_refuses (Err r) = go (eqb (number_of r.reason) (number_of Number.output_short))
   where
-    go : (b : Bool) → (q : Refusal) × (pick b (Refused (refusal Number.few_records 0)) (Refused r) ≡ Refused q)
+    go : (b : Bool) → (q : Refusal) × (pick {A = Answer} b (Err (refusal Number.few_records 0)) (Err r) ≡ Err q)
     go true = (refusal Number.few_records 0, refl)
     go false = (r, refl)
 
@@ -88,7 +87,7 @@ pub few_traces : {tree e o c : Bytes} {t : List ℕ} {e' o₀ c' : Bytes} {t' : 
 few_traces {tree} {e} {o} {c} {t} {e'} {o₀} {c'} {t'} {a} {r} long x z d k look room h =
     let l = lent_of e o c t in
     let q = few_refuses a in
-    let s : r ≡ Refused q.0 = d ∙ q.1 in
+    let s : r ≡ Err q.0 = d ∙ q.1 in
     rw (s, no_bytes o₀ o z)
     (untraced-call (λ rs j. few_call tree l look (seen tree l (long_big tree o long)) room h rs j ∙ (λ i. unrecorded rs (record { answer = (ap few_of (sym x.answer) ∙ q.1) i; lent = with_output o (sym x.lent i) }))))
 
@@ -98,12 +97,12 @@ module _ {tree e o c : Bytes} {t : List ℕ} {e₁ o₁ c₁ : Bytes} {t₁ : Li
   abbrev l : Lent
   l = lent_of e o c t
 
-  pub refused_traces : {q : Refusal} → a ≡ Refused q → (k : Outlook) → LooksAhead tree (take session_size e) k → (room : ℕ) → k.count ≤ room → Traces tree l room (record { answer = a; count = 0 }) (lent_of e₁ o₁ c₁ t₁)
+  pub refused_traces : {q : Refusal} → a ≡ Err q → (k : Outlook) → LooksAhead tree (take session_size e) k → (room : ℕ) → k.count ≤ room → Traces tree l room (record { answer = a; count = 0 }) (lent_of e₁ o₁ c₁ t₁)
   refused_traces {q} f k look room h =
       rw f
       (untraced-call (λ rs j. enough-refused tree l look room h (seen tree l (long_big tree o long)) q (sym x.answer ∙ f) rs j ∙ (λ i. unrecorded rs (record { answer = (sym x.answer ∙ f) i; lent = sym x.lent i }))))
 
-  module _ {n : ℕ} (f : a ≡ Length n) (bytes : AreBytes (take session_size e)) where
+  module _ {n : ℕ} (f : a ≡ Ok n) (bytes : AreBytes (take session_size e)) where
     accepted : AcceptedBy tree l
     accepted = accepted_by tree l (long_big tree o long) (seen tree l (long_big tree o long)) n (sym x.answer ∙ f)
 
@@ -174,8 +173,8 @@ used_long h uc ut = record { session = h.session; code = omega (arith, h.code, u
 
 -- buffers that are too short
 pub short_traces : {tree e o c : Bytes} {t : List ℕ} {room : ℕ} → both (leb code_size (length c)) (both (leb table_size (length t)) (leb session_size (length e))) ≡ false
-    → Traces tree (lent_of e o c t) room (record { answer = Refused (refusal Number.short_buffer 0); count = 0 }) (lent_of e o c t)
+    → Traces tree (lent_of e o c t) room (record { answer = Err (refusal Number.short_buffer 0); count = 0 }) (lent_of e o c t)
 unfolding call_records
 short_traces {tree} {e} {o} {c} {t} h =
     let l = lent_of e o c t in
-    untraced-call (λ rs j. pick_false _ (unrecorded rs (record { answer = Refused (refusal Number.short_buffer 0); lent = l })) h)
+    untraced-call (λ rs j. pick_false _ (unrecorded rs (record { answer = Err (refusal Number.short_buffer 0); lent = l })) h)

@@ -11,9 +11,8 @@ use Rattle.definition.specs.Tree.{Parsed, read_tree}
 use Rattle.definition.specs.Walk.{Res, walk_stmts}
 use Rattle.definition.specs.Decode.{words_in}
 use Rattle.definition.specs.SymbolTable.{Table}
-use Rattle.tree.specs.Check.{verdict}
+use Rattle.tree.specs.Check.{Good, verdict}
 use Rattle.tree.specs.Reads.{Some}
-use Rattle.tree.specs.declared.Checked.TheVariants.{Good}
 use Rattle.tree.proofs.Stands.{tree_stands}
 use Rattle.walk.proofs.Tree.{tree_short}
 use Rattle.symbol_table.specs.Layout.{tables_of, globals_in}

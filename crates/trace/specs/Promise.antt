@@ -1,8 +1,8 @@
 -- What a compile call with records gives before the records are filled: the answer, and the records in a log.
-use Rattle.std.specs.Prelude.{ℕ, ◌+◌, ◌*◌, ◌≤◌, ◌≡◌, List, [], reverse, length, take, eqb}
+use Rattle.std.specs.Prelude.{ℕ, ◌+◌, ◌*◌, ◌≤◌, ◌≡◌, List, [], reverse, length, take, eqb, Ok, Err}
 use Rattle.definition.specs.Basic.{Bytes, pick}
 use Rattle.definition.specs.Number
-use Rattle.definition.specs.Number.{refusal}
+use Rattle.definition.specs.Number.{refusal, number_of}
 use Rattle.definition.specs.Syntax.{Stmts}
 use Rattle.definition.specs.Tree.{read_tree, Parsed}
 use Rattle.definition.specs.Walk.{Res, on, stop, walk_stmts}
@@ -14,8 +14,7 @@ use Rattle.records.specs.Naming.{Names, names, naming}
 use Rattle.definition.specs.Limit.{code_size}
 use Rattle.definition.specs.Call.{Lent, cleared}
 use Rattle.records.specs.Call.{over_records, call_records}
-use Rattle.definition.specs.declared.Answer.{Answer}
-use Rattle.definition.specs.declared.Answer.TheVariants.{Length, Refused}
+use Rattle.definition.specs.Answer.{Answer}
 use Rattle.records.specs.declared.Record.{Record}
 use Rattle.trace.specs.Log.{log_of}
 use Rattle.trace.specs.declared.CallTrace.{CallTrace}
@@ -23,18 +22,18 @@ use Rattle.trace.specs.declared.Outlook.{Outlook}
 
 -- the code area once its log is cleared: after a refusal it has none
 abbrev pub without_log : Answer → Bytes → Bytes
-without_log (Length n) c = cleared code_size c
-without_log (Refused r) c = c
+without_log (Ok n) c = cleared code_size c
+without_log (Err r) c = c
 
 -- the code area has room for it
 abbrev pub LogFits : Answer → Bytes → Type 0
-LogFits (Length n) c = code_size ≤ length c
-LogFits (Refused r) c = Unit {0}
+LogFits (Ok n) c = code_size ≤ length c
+LogFits (Err r) c = Unit {0}
 
 -- the answer to a call whose output was taken away since there are few records: the walk's refusal, or else 18
 abbrev pub few_of : Answer → Answer
-few_of (Length n) = Refused (refusal Number.few_records 0)
-few_of (Refused r) = pick (eqb r.number Number.output_short) (Refused (refusal Number.few_records 0)) (Refused r)
+few_of (Ok n) = Err (refusal Number.few_records 0)
+few_of (Err r) = pick (eqb (number_of r.reason) (number_of Number.output_short)) (Err (refusal Number.few_records 0)) (Err r)
 
 -- the number of a walk's records, where it goes on
 abbrev pub Counts : Res Names (Unit {0}) → ℕ → Type 0

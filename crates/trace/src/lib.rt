@@ -8,24 +8,22 @@ ghost use Rattle.std.specs.Prelude.{◌≡◌, ℕ, ◌+◌, ◌<◌, ◌≤◌,
 ghost use Rattle.definition.specs.Limit.{session_size, code_size, table_size};
 ghost use Rattle.field.specs.Layout.{after};
 ghost use Rattle.definition.specs.Tree.{read_tree};
-ghost use Rattle.tree.specs.Check.{verdict};
-ghost use Rattle.tree.specs.declared.Checked.TheVariants.{Good};
+ghost use Rattle.tree.specs.Check.{Good, verdict};
 ghost use Rattle.compiler.specs.Stage.{lent_of, Long, Lengths};
 ghost use Rattle.trace.specs.Pass.{PassesTree};
 ghost use Rattle.trace.specs.Promise.{without_log, LogFits, few_of, LooksAhead, HasOlder, Used, Traces};
 
-use bytecode::{Layout, read_layout};
+use bytecode::read_layout;
 use compiler::{clear_code, clear_table, compile, long_enough};
 use definition::limit::{CODE_SIZE, SESSION_SIZE, TABLE_SIZE};
-use definition::{Answer, Refusal, number};
+use definition::{Reason, Refusal};
 use field::after_at;
 use pass::name_tree;
-use tree::Checked;
 
 // What a call with records gives: the answer, and how many records are in the log.
 #[derive(Clone, Copy)]
 pub struct CallTrace {
-    pub answer: Answer,
+    pub answer: Result<usize, Refusal>,
     pub count: usize,
 }
 
@@ -37,13 +35,13 @@ pub struct Outlook {
 }
 
 // Clears the log of a call that was not refused.
-pub fn clear_log(code: &mut [u8], answer: Answer)
+pub fn clear_log(code: &mut [u8], answer: Result<usize, Refusal>)
     requires { LogFits answer code.old }
     ensures { code.new ≡ without_log answer code.old }
 {
     match answer {
-        Answer::Length(_) => clear_code(code),
-        Answer::Refused(_) => {}
+        Ok(_) => clear_code(code),
+        Err(_) => {}
     }
 }
 
@@ -52,8 +50,8 @@ fn look_ahead(session: &[u8], tree: &[u8], code: &mut [u8], table: &mut [u32]) -
     requires { Lengths session.now code.old table.old }
     ensures { LooksAhead tree.now session.now result }
 {
-    if let Layout::Sound(layout) = read_layout(session) {
-        if let Checked::Good = tree::check(tree) {
+    if let Some(layout) = read_layout(session) {
+        if let Ok(()) = tree::check(tree) {
             let from = layout.words_end + 3;
             let end = layout.names_end;
             let count = name_tree(session, tree, table, code, from, end);
@@ -78,21 +76,20 @@ fn log_names(session: &[u8], tree: &[u8], code: &mut [u8], table: &mut [u32], na
 }
 
 // The answer of a call with few records, from that without an output: 18 comes in the place of 15.
-fn few(answer: Answer) -> Answer
+fn few(answer: Result<usize, Refusal>) -> Result<usize, Refusal>
     ensures { result ≡ few_of answer }
 {
-    let refused = Answer::Refused(Refusal {
-        number: number::FEW_RECORDS,
+    let refused = Err(Refusal {
+        reason: Reason::FewRecords,
         place: 0,
     });
     match answer {
-        Answer::Length(_) => refused,
-        Answer::Refused(r) => {
-            if r.number == number::OUTPUT_SHORT {
-                refused
-            } else {
-                answer
+        Ok(_) => refused,
+        Err(r) => {
+            if r.reason == Reason::OutputShort {
+                return refused;
             }
+            answer
         }
     }
 }
@@ -163,11 +160,11 @@ fn trace_enough(
 {
     let answer = compile(session, tree, output, code, table);
     match answer {
-        Answer::Refused(_) => CallTrace {
+        Err(_) => CallTrace {
             answer: answer,
             count: 0,
         },
-        Answer::Length(_) => {
+        Ok(_) => {
             let count = log_lent(session, tree, code, table, names);
             clear_table(table);
             CallTrace {
@@ -213,8 +210,8 @@ pub fn compile_log(
         return trace_lent(session, tree, output, code, table, room);
     }
     CallTrace {
-        answer: Answer::Refused(Refusal {
-            number: number::SHORT_BUFFER,
+        answer: Err(Refusal {
+            reason: Reason::ShortBuffer,
             place: 0,
         }),
         count: 0,

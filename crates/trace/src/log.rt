@@ -25,6 +25,7 @@ pub fn put_entry(log: &mut [u8], n: usize, at: usize, code: usize, crossed: usiz
 }
 
 // The record of a symbol's code.
+// Kept: the bounds are the symbol table's, as numbers of 32 bits; a match would want guards, and be no plainer.
 fn record_of(offset: usize, code: usize, crossed: usize) -> Record
     ensures { result ≡ record_of offset crossed (symbol_of code) }
 {

@@ -4,8 +4,7 @@ ghost use Rattle.definition.specs.Limit.{session_size, code_size, table_size};
 ghost use Rattle.definition.specs.Walk.{walk_stmt, walk_expr};
 ghost use Rattle.field.specs.Layout.{Whole, len, content};
 ghost use Rattle.tree.specs.At.{LetAt, InfixAt, FunctionAt};
-ghost use Rattle.tree.specs.Check.{verdict};
-ghost use Rattle.tree.specs.declared.Checked.TheVariants.{Good};
+ghost use Rattle.tree.specs.Check.{Good, verdict};
 ghost use Rattle.definition.specs.Tree.{read_tree};
 ghost use Rattle.tree.specs.Reads.{Some, ReadsExpr, ReadsBlock};
 ghost use Rattle.symbol_table.specs.Contract.{HasWords, HasItems};
@@ -16,7 +15,7 @@ use super::log::put_entry;
 use definition::limit::{ARGUMENTS_LIMIT, NESTING_LIMIT};
 use definition::tag;
 use field::{after_at, wide};
-use symbol_table::{Lookup, define, enter, resolve_name, start_from};
+use symbol_table::{define, enter, resolve_name, start_from};
 use tree::count_fields;
 
 // The operator whose right side is walked first.
@@ -26,15 +25,18 @@ const LESS_THAN: u8 = 8;
 fn has_children(t: usize) -> bool
     ensures { result ≡ is_parent t }
 {
-    (t == tag::EXPR_STMT)
-        | (t == tag::BLOCK)
-        | (t == tag::RETURN)
-        | (t == tag::PREFIX)
-        | (t == tag::IF)
-        | (t == tag::CALL)
-        | (t == tag::ARRAY)
-        | (t == tag::INDEX)
-        | (t == tag::HASH)
+    matches!(
+        t,
+        tag::EXPR_STMT
+            | tag::BLOCK
+            | tag::RETURN
+            | tag::PREFIX
+            | tag::IF
+            | tag::CALL
+            | tag::ARRAY
+            | tag::INDEX
+            | tag::HASH
+    )
 }
 
 // Looks an Identifier up, and logs its record. How many there are then.
@@ -52,12 +54,11 @@ fn log_identifier(
     ensures { Passes tree.now names.now level Anything (λ _. look_up at (content tree.now at)) 4 table.old table.new log.old log.new n result }
 {
     match resolve_name(tree, names, table, level, at) {
-        Lookup::Found(code, crossed) => {
-            put_entry(log, n, at, code as usize, crossed);
+        Ok(found) => {
+            put_entry(log, n, at, found.code as usize, found.crossed);
             n + 1
         }
-        Lookup::Undefined => n,
-        Lookup::Full => n,
+        Err(_) => n,
     }
 }
 
@@ -97,6 +98,7 @@ fn name_field(
 }
 
 // Logs the records of the fields from an offset up to an end.
+// Kept: an iterator of offsets would stand for this loop alone here, and be no plainer.
 #[cycle(pass)]
 fn name_row(
     tree: &[u8],
@@ -138,7 +140,7 @@ fn name_let(
     ensures { Passes tree.now names.now level (LetAt tree.now (ReadsExpr tree.now) at) (walk_stmt naming) (3 + len tree.now at) table.old table.new log.old log.new n result }
 {
     let end = after_at(tree, at);
-    define(tree, table, level, at + 3);
+    let _ = define(tree, table, level, at + 3);
     name_row(tree, names, table, log, level, at + 3, end, n)
 }
 

@@ -9,19 +9,18 @@ use Rattle.definition.specs.Basic.{pick, both}
 use Rattle.definition.specs.Limit.{level_limit}
 use Rattle.definition.specs.Field.{Head, fits, head}
 use Rattle.definition.specs.Tree.{Read, seq, read, fault, met, head_at, Parsed, judged}
-use Rattle.definition.specs.declared.Refusal.{Refusal}
+use Rattle.definition.specs.declared.reason.Refusal.{Refusal}
 use Rattle.definition.proofs.ReadShape.{judged-seq, judged-met}
 use Rattle.definition.proofs.ReadShape as reading
 use Rattle.definition.proofs.Basic.{both_true}
 use Rattle.tree.specs.Grammar.{Kind, good_head, good_own}
-use Rattle.tree.specs.Check.{verdict, and_then, bad_tree, too_deep, next, good_field}
-use Rattle.tree.specs.declared.Checked.{Checked}
-use Rattle.tree.specs.declared.Checked.TheVariants.{Good, Refused}
+use Rattle.tree.specs.Check.{Checked, Good, verdict, and_then, bad_tree, too_deep, next, good_field}
+use Rattle.std.specs.Prelude.{Err}
 
 -- both are right, the reading up to `n`, which is not past `end`; or both refuse alike
 pub data Same {A : Type 0} (n end : ℕ) : Parsed A → Checked → Type 0 where
   good : {a : A} {m : ℕ} → m ≡ n → n ≤ end → Same n end (Parsed.parsed a m) Good
-  bad : {r : Refusal} → Same n end (Parsed.refused r) (Refused r)
+  bad : {r : Refusal} → Same n end (Parsed.refused r) (Err r)
 
 -- a reading and a check
 pub record Agrees {A : Type 0} (n end : ℕ) (x : Read A) (c : Checked) : Type 0 where

@@ -10,9 +10,7 @@ use Rattle.definition.specs.Tag.{tag_expr_stmt, tag_return, tag_identifier, tag_
 use Rattle.definition.specs.Syntax.{Stmt, Stmts, Else, Expr, Exprs}
 use Rattle.definition.specs.Tree.{Read, expr_tag, stmt_tag, stmts_of, exprs_of, names_of, read_name, read_operator, read_params, expr_body, stmt_body}
 use Rattle.tree.specs.Grammar.{Kind, Statement, Block, Expression, Name, Params, Operator, Nothing, is_leaf, child_kind, least_of}
-use Rattle.tree.specs.Check.{bad_tree, check_children}
-use Rattle.tree.specs.declared.Checked.{Checked}
-use Rattle.tree.specs.declared.Checked.TheVariants.{Good}
+use Rattle.tree.specs.Check.{Checked, Good, bad_tree, check_children}
 use Rattle.tree.proofs.Agrees.{Agrees, agrees_good}
 use Rattle.tree.proofs.Checking.{Reads, Rest, must, may, over, item, rest-map, every, pairs}
 use Rattle.tree.proofs.Table.{between}

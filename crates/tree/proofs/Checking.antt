@@ -10,8 +10,7 @@ use Rattle.definition.specs.Tag.{tag_hash}
 use Rattle.definition.specs.Syntax.{Expr, Exprs}
 use Rattle.definition.specs.Tree.{Read, seq, read, fault, child, last, many, pair_of, pairs_of}
 use Rattle.tree.specs.Grammar.{Kind, Expression, Nothing, child_kind, least_of, enough_of}
-use Rattle.tree.specs.Check.{and_then, bad_tree, next, ended, check_children}
-use Rattle.tree.specs.declared.Checked.{Checked}
+use Rattle.tree.specs.Check.{Checked, and_then, bad_tree, next, ended, check_children}
 use Rattle.tree.proofs.Agrees.{Agrees, agrees_good, agrees_fault, agrees_seq, agrees_map, agrees_read, agrees_assoc}
 
 module _ (byte : ℕ → ℕ) (check : Kind → ℕ → ℕ → Checked) (t parent end : ℕ) where

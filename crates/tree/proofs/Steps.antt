@@ -8,13 +8,15 @@ use borrow.Author.Tests.{leb-true, le-leb, eqb-true, ne_eqb}
 use Rattle.definition.specs.Basic.{pick}
 use Rattle.definition.specs.Tag.{tag_call}
 use Rattle.definition.specs.Field.{fits, head}
-use Rattle.definition.specs.declared.Refusal.{Refusal}
+use Rattle.definition.specs.declared.reason.Refusal.{Refusal}
 use Rattle.definition.proofs.Basic.{both_true}
 use Rattle.tree.specs.Grammar.{Kind, either, is_leaf, child_kind, enough_of}
-use Rattle.tree.specs.Kinds.{may_end, kinds_of, first_of, turn_of, ends_before}
-use Rattle.tree.specs.Check.{and_then, bad_tree, too_deep, outcome_of, next, good_field, good_numbered, ended, check_children, check_inside, check_field, check_all}
-use Rattle.tree.specs.declared.Checked.{Checked}
-use Rattle.tree.specs.declared.Checked.TheVariants.{Good, Refused}
+use Rattle.tree.specs.Kinds.{may_end, kinds_of}
+use Rattle.tree.specs.declared.grammar.Wanted.{Wanted}
+use mathlib.Core.List.{List}
+use lib.ListN.{get_or}
+use Rattle.tree.specs.Check.{Checked, Good, and_then, bad_tree, too_deep, outcome_of, next, good_field, good_wanted, ended, check_children, check_inside, check_field, check_all}
+use Rattle.std.specs.Prelude.{Err}
 use Rattle.tree.proofs.Checking.{children_ended, children_more}
 use Rattle.tree.proofs.Turns.{Turned, turned-start, turned_again, turned_first}
 use Rattle.tree.proofs.Numbered.{kind_ends, numbered, good_some}
@@ -33,10 +35,10 @@ deep_number at =
     rw (ne_eqb (2 * at + 2) 0 (λ z. omega arith), m, d)
 
 -- a number that is not 0 is a refusal's
-refusal-of : (n : ℕ) → (n ≡ 0 → ⊥) → (r : Refusal) × (outcome_of n ≡ Refused r)
+refusal-of : (n : ℕ) → (n ≡ 0 → ⊥) → (r : Refusal) × (outcome_of n ≡ Err r)
 refusal-of n some = rw (ne_eqb n 0 some) (by (eqb (n % 2) 1))
   where
-    by : (b : Bool) → (r : Refusal) × (pick b (bad_tree (n / 2)) (too_deep (n / 2 - 1)) ≡ Refused r)
+    by : (b : Bool) → (r : Refusal) × (pick b (bad_tree (n / 2)) (too_deep (n / 2 - 1)) ≡ Err r)
     by true = (_, refl)
     by false = (_, refl)
 
@@ -88,8 +90,7 @@ abbrev pub from : (ℕ → ℕ) → ℕ → ℕ → ℕ → ℕ → ℕ → Chec
 from byte levels parent end k at = check_children byte (λ kind at₁ end₁. check_field byte levels kind at₁ end₁) (byte parent) parent (end - (parent + 3) - k) k at end
 
 -- after some children the loop stands at `at`, the kinds are those of the next, and what is left decides
-pub record Left (byte : ℕ → ℕ) (levels parent end at kinds : ℕ) : Type 0 where
-  pub k : ℕ
+pub record Left (byte : ℕ → ℕ) (levels parent end at k : ℕ) (kinds : List Wanted) : Type 0 where
   pub start : parent + 3 + k ≤ at
   pub finish : at ≤ end
   pub turned : Turned (byte parent) k kinds
@@ -102,84 +103,83 @@ left_none byte levels parent end t e = sym (rw (e, t) (children_ended byte (λ k
 
 module _ {byte : ℕ → ℕ} {levels parent end : ℕ} where
   -- at the start
-  pub left_holds : {kinds : ℕ} → parent + 3 ≤ end → byte parent < 256 → kinds ≡ kinds_of (byte parent) → (byte parent ≡ tag_call → parent + 3 ≡ end → ⊥) → Left byte levels parent end (parent + 3) kinds
+  pub left_holds : {kinds : List Wanted} → parent + 3 ≤ end → byte parent < 256 → kinds ≡ kinds_of (byte parent) → (byte parent ≡ tag_call → parent + 3 ≡ end → ⊥) → Left byte levels parent end (parent + 3) 0 kinds
   left_holds h small e some =
       let z : end - (parent + 3) - 0 ≡ end - (parent + 3) = omega arith in
-      record { k = 0; start = omega arith; finish = h; turned = turned-start small e; called = λ t l. absurd (some t l); decides = rw z refl }
+      record { start = omega arith; finish = h; turned = turned-start small e; called = λ t l. absurd (some t l); decides = rw z refl }
 
-  module _ {at kinds : ℕ} (l : Left byte levels parent end at kinds) where
+  module _ {at k : ℕ} {kinds : List Wanted} (d : Wanted) (l : Left byte levels parent end at k kinds) where
     -- what the next child must be
     abbrev kind : Kind
-    kind = child_kind (byte parent) l.k
+    kind = child_kind (byte parent) k
 
     -- at the end
-    left_ended : at ≡ end → ended (byte parent) parent l.k ≡ check_all byte levels parent end
-    left_ended e = sym (l.decides ∙ rw e (children_ended byte (λ kind₁ at₁ end₁. check_field byte levels kind₁ at₁ end₁) (byte parent) parent end (end - (parent + 3) - l.k) l.k))
+    left_ended : at ≡ end → ended (byte parent) parent k ≡ check_all byte levels parent end
+    left_ended e = sym (l.decides ∙ rw e (children_ended byte (λ kind₁ at₁ end₁. check_field byte levels kind₁ at₁ end₁) (byte parent) parent end (end - (parent + 3) - k) k))
 
     -- whether there are enough
-    left_enough_of : at ≡ end → ends_before (first_of kinds) ≡ enough_of (byte parent) l.k
-    left_enough_of e = rw (turned_first l.turned, kind_ends (may_end (byte parent) l.k) kind) (by (eqb (byte parent) tag_call) refl)
+    left_enough_of : at ≡ end → (get_or kinds (k % 4) d).ends ≡ enough_of (byte parent) k
+    left_enough_of e = rw (turned_first d l.turned, kind_ends (may_end (byte parent) k) kind) (by (eqb (byte parent) tag_call) refl)
       where
-        by : (b : Bool) → eqb (byte parent) tag_call ≡ b → either b (enough_of (byte parent) l.k) ≡ enough_of (byte parent) l.k
-        by true q = let t = eqb-true (byte parent) tag_call q in rw (t, le-leb 1 l.k (l.called t e))
+        by : (b : Bool) → eqb (byte parent) tag_call ≡ b → either b (enough_of (byte parent) k) ≡ enough_of (byte parent) k
+        by true q = let t = eqb-true (byte parent) tag_call q in rw (t, le-leb 1 k (l.called t e))
         by false q = refl
 
     -- there, a child is missing
-    pub left_missing : at ≡ end → ends_before (first_of kinds) ≡ false → bad_tree parent ≡ check_all byte levels parent end
+    pub left_missing : at ≡ end → (get_or kinds (k % 4) d).ends ≡ false → bad_tree parent ≡ check_all byte levels parent end
     left_missing e b = sym (ap (λ b. pick b Good (bad_tree parent)) (sym (left_enough_of e) ∙ b)) ∙ left_ended e
 
     -- or none is
-    pub left_enough : at ≡ end → ends_before (first_of kinds) ≡ true → Good ≡ check_all byte levels parent end
+    pub left_enough : at ≡ end → (get_or kinds (k % 4) d).ends ≡ true → Good ≡ check_all byte levels parent end
     left_enough e b = sym (ap (λ b. pick b Good (bad_tree parent)) (sym (left_enough_of e) ∙ b)) ∙ left_ended e
 
     -- the test of a field is that of the kind
-    left_good : good_numbered byte (first_of kinds) at end ≡ good_field byte kind at end
-    left_good = ap (λ n. good_numbered byte n at end) (turned_first l.turned) ∙ numbered byte (may_end (byte parent) l.k) kind at end
+    left_good : good_wanted byte (get_or kinds (k % 4) d) at end ≡ good_field byte kind at end
+    left_good = ap (λ n. good_wanted byte n at end) (turned_first d l.turned) ∙ numbered byte (may_end (byte parent) k) kind at end
 
     -- a good field is whole
-    pub left_fits : good_numbered byte (first_of kinds) at end ≡ true → next byte at ≤ end
+    pub left_fits : good_wanted byte (get_or kinds (k % 4) d) at end ≡ true → next byte at ≤ end
     left_fits g = good_fits byte kind at end (sym left_good ∙ g)
 
     module _ (n : at ≡ end → ⊥) where
       -- the child at `at`, and those after it
-      child_then : check_all byte levels parent end ≡ and_then (check_field byte levels kind at end) (from byte levels parent end (l.k + 1) (next byte at))
+      child_then : check_all byte levels parent end ≡ and_then (check_field byte levels kind at end) (from byte levels parent end (k + 1) (next byte at))
       child_then =
-          let e : end - (parent + 3) - l.k ≡ suc (end - (parent + 3) - (l.k + 1)) = omega (arith, l.start, l.finish) in
-          l.decides ∙ rw e (children_more byte (λ kind₁ at₁ end₁. check_field byte levels kind₁ at₁ end₁) (byte parent) parent end (end - (parent + 3) - (l.k + 1)) l.k at n)
+          let e : end - (parent + 3) - k ≡ suc (end - (parent + 3) - (k + 1)) = omega (arith, l.start, l.finish) in
+          l.decides ∙ rw e (children_more byte (λ kind₁ at₁ end₁. check_field byte levels kind₁ at₁ end₁) (byte parent) parent end (end - (parent + 3) - (k + 1)) k at n)
 
       -- it is refused
-      child-refused : {r : Refusal} → Refused r ≡ check_field byte levels kind at end → Refused r ≡ check_all byte levels parent end
-      child-refused e = sym (child_then ∙ ap (λ d. and_then d (from byte levels parent end (l.k + 1) (next byte at))) (sym e))
+      child-refused : {r : Refusal} → Err r ≡ check_field byte levels kind at end → Err r ≡ check_all byte levels parent end
+      child-refused e = sym (child_then ∙ ap (λ d. and_then d (from byte levels parent end (k + 1) (next byte at))) (sym e))
 
       -- its tag, length or own bytes are wrong
-      pub left_bad : good_numbered byte (first_of kinds) at end ≡ false → bad_tree at ≡ check_all byte levels parent end
+      pub left_bad : good_wanted byte (get_or kinds (k % 4) d) at end ≡ false → bad_tree at ≡ check_all byte levels parent end
       left_bad g = child-refused (field_bad byte levels kind at end (sym left_good ∙ g))
 
       -- it is too deep
-      pub left_deep : good_numbered byte (first_of kinds) at end ≡ true → levels ≡ 0 → too_deep at ≡ check_all byte levels parent end
+      pub left_deep : good_wanted byte (get_or kinds (k % 4) d) at end ≡ true → levels ≡ 0 → too_deep at ≡ check_all byte levels parent end
       left_deep g z = child-refused (field_deep byte levels kind at end (sym left_good ∙ g) z)
 
-      module _ (g : good_numbered byte (first_of kinds) at end ≡ true) (nz : levels ≡ 0 → ⊥) where
+      module _ (g : good_wanted byte (get_or kinds (k % 4) d) at end ≡ true) (nz : levels ≡ 0 → ⊥) where
         -- something is wrong inside
         pub left_found : {found : ℕ} → is_leaf (byte at) ≡ false → outcome_of found ≡ check_all byte (levels - 1) at (next byte at) → (found ≡ 0 → ⊥) → outcome_of found ≡ check_all byte levels parent end
         left_found {found} leaf e some = let r = refusal-of found some in r.1 ∙ child-refused (sym r.1 ∙ e ∙ field_children byte levels kind at end (sym left_good ∙ g) nz leaf)
 
         -- it is good
-        left_next : Good ≡ check_field byte levels kind at end → Left byte levels parent end (next byte at) (turn_of kinds)
+        left_next : Good ≡ check_field byte levels kind at end → Left byte levels parent end (next byte at) (k + 1) kinds
         left_next e =
             record {
-              k = l.k + 1;
               start = omega (arith, l.start);
               finish = left_fits g;
               turned = turned_again l.turned (good_some byte kind at end (sym left_good ∙ g));
               called = λ _ _. omega arith;
-              decides = child_then ∙ ap (λ d. and_then d (from byte levels parent end (l.k + 1) (next byte at))) (sym e);
+              decides = child_then ∙ ap (λ d. and_then d (from byte levels parent end (k + 1) (next byte at))) (sym e);
             }
 
         -- it has no children
-        pub left_leaf : is_leaf (byte at) ≡ true → Left byte levels parent end (next byte at) (turn_of kinds)
+        pub left_leaf : is_leaf (byte at) ≡ true → Left byte levels parent end (next byte at) (k + 1) kinds
         left_leaf leaf = left_next (field_leaf byte levels kind at end (sym left_good ∙ g) nz leaf)
 
         -- its children are good
-        pub left_children : is_leaf (byte at) ≡ false → outcome_of 0 ≡ check_all byte (levels - 1) at (next byte at) → Left byte levels parent end (next byte at) (turn_of kinds)
+        pub left_children : is_leaf (byte at) ≡ false → outcome_of 0 ≡ check_all byte (levels - 1) at (next byte at) → Left byte levels parent end (next byte at) (k + 1) kinds
         left_children leaf e = left_next (e ∙ field_children byte levels kind at end (sym left_good ∙ g) nz leaf)

@@ -1,7 +1,7 @@
--- The kinds of a tag's next four children, turned with each child: the first of them is what the next child must be.
-use Prim.Native.Nat.{ℕ, zero, suc, ◌+◌, ◌*◌, ◌/◌, ◌%◌, ◌≤◌, ◌<◌}
-use native.Mathlib.Nat.{mod-lt, div-lt_iff_lt-mul}
-use native.Mathlib.Numerals.{add-one}
+-- What is wanted of a tag's first four children comes again with each four.
+use Prim.Native.Nat.{ℕ, zero, suc, ◌+◌, ◌%◌, ◌≤◌, ◌<◌}
+use mathlib.Core.List.{List}
+use lib.ListN.{get_or}
 use native.Mathlib.Omega.{arith}
 use mathlib.Core.Bool.{Bool, true, false}
 use mathlib.Core.Path.{◌≡◌, refl, sym, ap, ◌∙◌}
@@ -9,81 +9,63 @@ use lib.Dec.{eqb}
 use borrow.Author.Tests.{eqb-true, ne_eqb, le-leb}
 use Rattle.definition.specs.Basic.{both}
 use Rattle.definition.specs.Tag.{tag_call}
-use Rattle.definition.proofs.Basic.{both_left, both_right, both_true}
+use Rattle.definition.proofs.Basic.{both_true}
 use Rattle.tree.specs.Grammar.{either, child_kind, least_of, enough_of}
-use Rattle.tree.specs.Kinds.{kind_number, may_end, marked, wanted, kinds_of, first_of, turn_of}
+use Rattle.tree.specs.Kinds.{may_end, marked, wanted, kinds_of}
+use Rattle.tree.specs.declared.grammar.Wanted.{Wanted}
+use Rattle.tree.proofs.Numbered.{kind_marked}
 use Rattle.tree.proofs.Table.{all_below, passes}
 
--- the kind of child k as a number
-abbrev pub kind_at : ℕ → ℕ → ℕ
-kind_at t k = kind_number (child_kind t k)
+-- what child k must be, but for whether the content may end before it
+abbrev pub kind_at : ℕ → ℕ → Wanted
+kind_at t k = marked false (child_kind t k)
 
--- so many turns
-pub turns : ℕ → ℕ → ℕ
-turns zero n = n
-turns (suc k) n = turns k (turn_of n)
+-- the same tags, and the same fewest bytes
+alike : Wanted → Wanted → Bool
+alike v w = both (eqb v.low w.low) (both (eqb v.high w.high) (eqb v.least w.least))
 
--- one more
-turns-turn : (k n : ℕ) → turns k (turn_of n) ≡ turn_of (turns k n)
-unfolding turns
-turns-turn zero n = refl
-turns-turn (suc k) n = turns-turn k (turn_of n)
-
--- a turn of 64 bits has 64 bits
-pub turn-fits : (kinds : ℕ) → kinds < 0x10000000000000000 → turn_of kinds < 0x10000000000000000
-turn-fits kinds h = sum (kinds / 0x10000) (kinds % 0x10000) ((div-lt_iff_lt-mul {k = 0x10000} {x = kinds} {y = 0x1000000000000} (omega arith)).1 h) (mod-lt kinds (omega arith))
-  where
-    sum : (high low : ℕ) → high < 0x1000000000000 → low < 0x10000 → high + low * 0x1000000000000 < 0x10000000000000000
-    sum high low h l = omega arith
-
--- after k turns the kind of child k comes first
-turn_right : ℕ → ℕ → Bool
-turn_right t k = eqb (first_of (turns k (kinds_of t))) (wanted t k)
-
--- so for the first four children, and after four turns the number is what it was
-turns_right : ℕ → Bool
-turns_right t = both (all_below 4 (turn_right t)) (eqb (turns 4 (kinds_of t)) (kinds_of t))
-
--- where a fourth child may stand, all have one kind, and none must be there but a call's first and a key's value
+-- where a fourth child may stand, all are wanted alike, and none must be there but a call's first and a key's value
 repeats_right : ℕ → Bool
-repeats_right t = either (eqb (kind_at t 3) 63) (both (all_below 3 (λ k. eqb (kind_at t k) (kind_at t 3))) (either (eqb t tag_call) (eqb (least_of t) 0)))
+repeats_right t = either (eqb (kind_at t 3).low 63) (both (all_below 3 (λ k. alike (kind_at t k) (kind_at t 3))) (either (eqb t tag_call) (eqb (least_of t) 0)))
 
--- both hold of each tag, computed
-turns-right : all_below 256 turns_right ≡ true
-unfolding turn_right turns_right turns wanted kinds_of
-turns-right = refl
-
+-- that holds of each tag, computed
 repeats-right : all_below 256 repeats_right ≡ true
-unfolding repeats_right
+unfolding repeats_right alike
 repeats-right = refl
 
--- what the first says of a child
-in_turn : {t : ℕ} (k : ℕ) → t < 256 → k < 4 → first_of (turns k (kinds_of t)) ≡ wanted t k
-unfolding turn_right turns_right
-in_turn {t} k h l = eqb-true (first_of (turns k (kinds_of t))) (wanted t k) (passes 4 (turn_right t) k (both_left (all_below 4 (turn_right t)) _ (passes 256 turns_right t turns-right h)) l)
+-- what is wanted alike
+record Alike (v w : Wanted) : Type 0 where
+  low : v.low ≡ w.low
+  high : v.high ≡ w.high
+  least : v.least ≡ w.least
 
--- and of four turns
-round : {t : ℕ} → t < 256 → turns 4 (kinds_of t) ≡ kinds_of t
-unfolding turns_right
-round {t} h = eqb-true (turns 4 (kinds_of t)) (kinds_of t) (both_right (all_below 4 (turn_right t)) _ (passes 256 turns_right t turns-right h))
+alike_is : (v w : Wanted) → alike v w ≡ true → Alike v w
+unfolding alike
+alike_is v w e =
+    let a = both_true (eqb v.low w.low) _ e in
+    let b = both_true (eqb v.high w.high) _ a.1 in
+    record { low = eqb-true v.low w.low a.0; high = eqb-true v.high w.high b.0; least = eqb-true v.least w.least b.1 }
 
--- what the second says of a tag
+alike_self : (w : Wanted) → Alike w w
+alike_self w = record { low = refl; high = refl; least = refl }
+
+-- what it says of a tag
 record Repeats (t : ℕ) : Type 0 where
-  same : (k : ℕ) → k < 3 → kind_at t k ≡ kind_at t 3
+  same : (k : ℕ) → k < 3 → Alike (kind_at t k) (kind_at t 3)
   none : either (eqb t tag_call) (eqb (least_of t) 0) ≡ true
 
-repeats : (t : ℕ) → t < 256 → (kind_at t 3 ≡ 63 → ⊥) → Repeats t
+repeats : (t : ℕ) → t < 256 → ((kind_at t 3).low ≡ 63 → ⊥) → Repeats t
 unfolding repeats_right
 repeats t h some =
-    let tests = both_true _ _ (rw (ne_eqb (kind_at t 3) 63 some) at (passes 256 repeats_right t repeats-right h)) in
-    record { same = λ k l. eqb-true (kind_at t k) (kind_at t 3) (passes 3 (λ k. eqb (kind_at t k) (kind_at t 3)) k tests.0 l); none = tests.1 }
+    let tests = both_true _ _ (rw (ne_eqb (kind_at t 3).low 63 some) at (passes 256 repeats_right t repeats-right h)) in
+    record { same = λ k l. alike_is (kind_at t k) (kind_at t 3) (passes 3 (λ k. alike (kind_at t k) (kind_at t 3)) k tests.0 l); none = tests.1 }
 
--- one kind of all children
-kind_same : {t : ℕ} → Repeats t → (k : ℕ) → kind_at t k ≡ kind_at t 3
+-- all children are wanted alike
+kind_same : {t : ℕ} → Repeats t → (k : ℕ) → Alike (kind_at t k) (kind_at t 3)
 kind_same r zero = r.same 0 (omega arith)
 kind_same r (suc zero) = r.same 1 (omega arith)
 kind_same r (suc (suc zero)) = r.same 2 (omega arith)
-kind_same r (suc (suc (suc k))) = refl
+kind_same r (suc (suc (suc k))) = alike_self _
 
 -- and the content may end before one as before the fourth after it
 end_same : {t : ℕ} → Repeats t → (k : ℕ) → may_end t (suc (suc (suc (suc k)))) ≡ may_end t k
@@ -98,43 +80,46 @@ end_same {t} r k = by (eqb t tag_call) r.none
 -- so what is wanted comes again
 wanted_again : {t : ℕ} → Repeats t → (k : ℕ) → wanted t k ≡ wanted t (suc (suc (suc (suc k))))
 unfolding wanted
-wanted_again {t} r k = rw (end_same r k, kind_same r k)
+wanted_again {t} r k =
+    let a = kind_same r k in
+    kind_marked (may_end t k) (child_kind t k)
+    ∙ (λ i. record { low = a.low i; high = a.high i; least = a.least i; ends = sym (end_same r k) i })
+    ∙ sym (kind_marked (may_end t (suc (suc (suc (suc k))))) (child_kind t (suc (suc (suc (suc k))))))
 
--- the first kind after k turns, where a fourth child may stand if there are four already
-first_wanted : (t k : ℕ) → t < 256 → (4 ≤ k → kind_at t 3 ≡ 63 → ⊥) → first_of (turns k (kinds_of t)) ≡ wanted t k
-unfolding turns
-first_wanted t zero h some = in_turn 0 h (omega arith)
-first_wanted t (suc zero) h some = in_turn 1 h (omega arith)
-first_wanted t (suc (suc zero)) h some = in_turn 2 h (omega arith)
-first_wanted t (suc (suc (suc zero))) h some = in_turn 3 h (omega arith)
-first_wanted t (suc (suc (suc (suc k)))) h some =
-    ap (λ n. first_of (turns k n)) (round h)
-    ∙ first_wanted t k h (λ _. some (omega arith))
+-- the first four, and what comes again, where a fourth child may stand if there are four already
+first_wanted : (t k : ℕ) (d : Wanted) → t < 256 → (4 ≤ k → (kind_at t 3).low ≡ 63 → ⊥) → get_or (kinds_of t) (k % 4) d ≡ wanted t k
+unfolding kinds_of
+first_wanted t zero d h some = refl
+first_wanted t (suc zero) d h some = refl
+first_wanted t (suc (suc zero)) d h some = refl
+first_wanted t (suc (suc (suc zero))) d h some = refl
+first_wanted t (suc (suc (suc (suc k)))) d h some =
+    let m : suc (suc (suc (suc k))) % 4 ≡ k % 4 = omega arith in
+    ap (λ n. get_or (kinds_of t) n d) m
+    ∙ first_wanted t k d h (λ _. some (omega arith))
     ∙ wanted_again (repeats t h (some (omega arith))) k
 
--- a number after k children: what the next child must be, and those after it
-pub record Turned (t k kinds : ℕ) : Type 0 where
+-- what is wanted of a tag's children, after k of them
+pub record Turned (t k : ℕ) (kinds : List Wanted) : Type 0 where
   pub small : t < 256
-  pub is : kinds ≡ turns k (kinds_of t)
-  pub some : 4 ≤ k → kind_at t 3 ≡ 63 → ⊥
+  pub is : kinds ≡ kinds_of t
+  pub some : 4 ≤ k → (kind_at t 3).low ≡ 63 → ⊥
 
 -- before the first child
-pub turned-start : {t kinds : ℕ} → t < 256 → kinds ≡ kinds_of t → Turned t 0 kinds
-unfolding turns
+pub turned-start : {t : ℕ} {kinds : List Wanted} → t < 256 → kinds ≡ kinds_of t → Turned t 0 kinds
 turned-start h e = record { small = h; is = e; some = λ l. absurd (omega arith) }
 
 -- after one more
-pub turned_again : {t k kinds : ℕ} → Turned t k kinds → (kind_at t k ≡ 63 → ⊥) → Turned t (k + 1) (turn_of kinds)
-unfolding turns
-turned_again {t} {k} r some = record { small = r.small; is = ap turn_of r.is ∙ sym (turns-turn k (kinds_of t)) ∙ ap (λ j. turns j (kinds_of t)) (sym (add-one k)); some = λ l. fourth k (omega arith) some }
+pub turned_again : {t k : ℕ} {kinds : List Wanted} → Turned t k kinds → ((kind_at t k).low ≡ 63 → ⊥) → Turned t (k + 1) kinds
+turned_again {t} {k} r some = record { small = r.small; is = r.is; some = λ l. fourth k (omega arith) some }
   where
-    fourth : (j : ℕ) → 3 ≤ j → (kind_at t j ≡ 63 → ⊥) → kind_at t 3 ≡ 63 → ⊥
+    fourth : (j : ℕ) → 3 ≤ j → ((kind_at t j).low ≡ 63 → ⊥) → (kind_at t 3).low ≡ 63 → ⊥
     fourth zero l n = absurd (omega arith)
     fourth (suc zero) l n = absurd (omega arith)
     fourth (suc (suc zero)) l n = absurd (omega arith)
     fourth (suc (suc (suc j))) l n = n
 
--- the kind of the next child, and whether the content may end before it
-pub turned_first : {t k kinds : ℕ} → Turned t k kinds → first_of kinds ≡ marked (may_end t k) (kind_at t k)
+-- what the next child must be, and whether the content may end before it
+pub turned_first : {t k : ℕ} {kinds : List Wanted} (d : Wanted) → Turned t k kinds → get_or kinds (k % 4) d ≡ marked (may_end t k) (child_kind t k)
 unfolding wanted
-turned_first {t} {k} r = ap first_of r.is ∙ first_wanted t k r.small r.some
+turned_first {t} {k} d r = ap (λ l. get_or l (k % 4) d) r.is ∙ first_wanted t k d r.small r.some

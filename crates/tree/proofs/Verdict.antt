@@ -15,9 +15,7 @@ use Rattle.definition.specs.Field.{Head, tagged, fits, bytes, head}
 use Rattle.definition.specs.Tree.{Read, seq, read, fault, literal, plain, met, expr_tag, stmt_tag, expr_len, stmts_of, names_of, head_at, one_byte, read_name, read_operator, read_params, expr_body, stmt_body, read_stmt, read_block, read_expr, read_program, read_tree, judged}
 use Rattle.definition.proofs.Basic.{both_true}
 use Rattle.tree.specs.Grammar.{Kind, Statement, Block, Expression, Name, Params, Operator, Nothing, good_head, good_own}
-use Rattle.tree.specs.Check.{verdict, bad_tree, next, check_children, check_content, check_inside, check_field, check_all}
-use Rattle.tree.specs.declared.Checked.{Checked}
-use Rattle.tree.specs.declared.Checked.TheVariants.{Good}
+use Rattle.tree.specs.Check.{Checked, Good, verdict, bad_tree, next, check_children, check_content, check_inside, check_field, check_all}
 use Rattle.tree.proofs.Agrees.{Agrees, agrees_good, agrees_fault, agrees_within, agrees_read, agrees_verdict, Inside, deep, room, agrees_met, agrees_field}
 use Rattle.tree.proofs.Checking.{Reads}
 use Rattle.tree.proofs.Numbered.{own_other}

@@ -1,5 +1,5 @@
 -- The tree check as the code does it: by the grammar, up to the first refusal, with nothing built.
-use Rattle.std.specs.Prelude.{ℕ, zero, suc, ◌+◌, ◌-◌, ◌/◌, ◌%◌, Bool, eqb}
+use Rattle.std.specs.Prelude.{ℕ, zero, suc, ◌+◌, ◌-◌, ◌/◌, ◌%◌, Bool, eqb, Result, Ok, Err}
 use Rattle.definition.specs.Basic.{pick, both}
 use Rattle.definition.specs.Number
 use Rattle.definition.specs.Number.{refusal}
@@ -7,26 +7,34 @@ use Rattle.definition.specs.Field.{fits, head}
 use Rattle.definition.specs.Tree.{Parsed}
 use Rattle.tree.specs.Grammar.{Kind, good_head, good_own, is_leaf, child_kind, enough_of}
 use Rattle.tree.specs.Kinds.{good_tag, good_content}
-use Rattle.tree.specs.declared.Checked.{Checked}
-use Rattle.tree.specs.declared.Checked.TheVariants.{Good, Refused}
+use Rattle.tree.specs.declared.grammar.Wanted.{Wanted}
+use Rattle.definition.specs.declared.reason.Refusal.{Refusal}
+
+-- what the check of a tree, of a field or of its children comes to
+abbrev pub Checked : Type 0
+Checked = Result (Unit {0}) Refusal
+
+-- nothing is refused
+abbrev pub Good : Checked
+Good = Ok tt
 
 -- what reading comes to, without what was read
 abbrev pub verdict : {A : Type 0} → Parsed A → Checked
 verdict (Parsed.parsed a n) = Good
-verdict (Parsed.refused r) = Refused r
+verdict (Parsed.refused r) = Err r
 
 -- a check, and then another
 abbrev pub and_then : Checked → Checked → Checked
-and_then Good c = c
-and_then (Refused r) c = Refused r
+and_then (Ok _) c = c
+and_then (Err r) c = Err r
 
 -- a check that refuses 3 at a place
 abbrev pub bad_tree : ℕ → Checked
-bad_tree p = Refused (refusal Number.bad_tree p)
+bad_tree p = Err (refusal Number.bad_tree p)
 
 -- a check that refuses 4 at a place
 abbrev pub too_deep : ℕ → Checked
-too_deep p = Refused (refusal Number.too_deep p)
+too_deep p = Err (refusal Number.too_deep p)
 
 -- what a number says of a check: 0 that it is good, else twice the place, and 1 more or 2 more
 abbrev pub outcome_of : ℕ → Checked
@@ -45,9 +53,9 @@ module _ (byte : ℕ → ℕ) where
   abbrev pub good_field : Kind → ℕ → ℕ → Bool
   good_field kind at end = both (fits at end (head byte at)) (both (good_head kind (head byte at)) (good_own (byte at) (byte (at + 3))))
 
-  -- the same of a kind that is a number
-  abbrev pub good_numbered : ℕ → ℕ → ℕ → Bool
-  good_numbered kind at end = both (fits at end (head byte at)) (both (good_tag kind (byte at)) (good_content kind (byte at) (head byte at).len (byte (at + 3))))
+  -- the same of a field that is wanted
+  abbrev pub good_wanted : Wanted → ℕ → ℕ → Bool
+  good_wanted w at end = both (fits at end (head byte at)) (both (good_tag w (byte at)) (good_content w (byte at) (head byte at).len (byte (at + 3))))
 
   module _ (check : Kind → ℕ → ℕ → Checked) where
     -- the children of the field of a tag at `parent`, from child k on, which stands at `at`; there are no more than `fuel`

@@ -2,9 +2,8 @@
 #![tactic(auto)]
 
 use definition::limit::{LEVEL_LIMIT, TREE_LIMIT};
-use definition::number::{BAD_TREE, TOO_DEEP};
-use definition::{Refusal, tag};
-use field::{length_at, wide};
+use definition::{Reason, Refusal, tag};
+use field::{after_at, length_at};
 
 mod grammar;
 
@@ -13,36 +12,19 @@ ghost use Rattle.definition.specs.Basic.{byte_at};
 ghost use Rattle.definition.specs.Limit.{tree_limit};
 ghost use Rattle.definition.specs.Tree.{read_tree};
 ghost use Rattle.tree.specs.Reads.{Some, InRow, Counted};
-ghost use Rattle.tree.specs.Check.{verdict, bad_tree, too_deep, outcome_of, next, good_numbered, check_all};
+ghost use Rattle.tree.specs.Check.{verdict, bad_tree, too_deep, outcome_of, good_wanted, check_all};
 
-use grammar::{child_kinds, first_kind, good_content, good_tag, is_leaf, may_end, turn};
+use grammar::{Wanted, child_kinds, good_content, good_tag, is_leaf};
 
-// What the check of a tree, of a field or of its children comes to.
-#[derive(Clone, Copy)]
-pub enum Checked {
-    Good,
-    Refused(Refusal),
-}
-
-// The check refuses with a number at a place.
-fn refused(number: usize, place: usize) -> Checked
-    ensures { result ≡ Checked.Refused (record { number = number; place = place }) }
+// A refusal for a reason at a place.
+fn refused(reason: Reason, place: usize) -> Result<(), Refusal>
+    ensures { result ≡ Err (record { reason = reason; place = place }) }
 {
-    Checked::Refused(Refusal {
-        number: number,
-        place: place,
-    })
-}
-
-// The offset after the field at `at`.
-fn after_at(tree: &[u8], at: usize) -> usize
-    requires { at + 2 < length tree.now }
-    ensures { result ≡ next (byte_at tree.now) at }
-{
-    at + 3 + length_at(tree, at)
+    Err(Refusal { reason, place })
 }
 
 // A refusal 3 at a place as a number; 0 stands for none.
+// Kept: a number comes back in a register; with Result and `?` the check of a tree takes 20 % more instructions.
 fn bad(at: usize) -> usize
     requires { at ≤ tree_limit }
     ensures { outcome_of result ≡ bad_tree at }
@@ -59,22 +41,22 @@ fn deep(at: usize) -> usize
 }
 
 // What a number says.
-fn outcome(n: usize) -> Checked
+fn outcome(n: usize) -> Result<(), Refusal>
     ensures { result ≡ outcome_of n }
 {
     if n == 0 {
-        return Checked::Good;
+        return Ok(());
     }
     if n % 2 == 1 {
-        return refused(BAD_TREE, n / 2);
+        return refused(Reason::BadTree, n / 2);
     }
-    refused(TOO_DEEP, n / 2 - 1)
+    refused(Reason::TooDeep, n / 2 - 1)
 }
 
-// Whether a whole field of a kind stands at `at`, before `end`: its tag, its length and its own bytes.
-fn good_field(tree: &[u8], kind: usize, at: usize, end: usize) -> bool
+// Whether a whole field that is wanted stands at `at`, before `end`: its tag, its length and its own bytes.
+fn good_field(tree: &[u8], wanted: Wanted, at: usize, end: usize) -> bool
     requires { (at ≤ end) × (end ≤ length tree.now) }
-    ensures { result ≡ good_numbered (byte_at tree.now) kind at end }
+    ensures { result ≡ good_wanted (byte_at tree.now) wanted at end }
 {
     if end < at + 3 {
         return false;
@@ -83,11 +65,11 @@ fn good_field(tree: &[u8], kind: usize, at: usize, end: usize) -> bool
     if end < at + 3 + len {
         return false;
     }
-    let t = wide(tree[at]);
-    if !good_tag(kind, t) {
+    let t = usize::from(tree[at]);
+    if !good_tag(wanted, t) {
         return false;
     }
-    good_content(tree, kind, t, at + 3, len)
+    good_content(tree, wanted, t, at + 3, len)
 }
 
 // The children of the field at `parent`, whose content goes up to `end`, in order; then whether one is missing. The answer is a refusal's number.
@@ -95,52 +77,49 @@ fn check_children(tree: &[u8], levels: usize, parent: usize, end: usize) -> usiz
     requires { (parent + 3 ≤ end) × (end ≤ length tree.now) × (end ≤ tree_limit) }
     ensures { outcome_of result ≡ check_all (byte_at tree.now) levels parent end }
 {
-    let t = wide(tree[parent]);
+    let t = usize::from(tree[parent]);
     let mut at = parent + 3;
     if (at == end) && (t == tag::CALL) {
         return bad(parent);
     }
-    let mut kinds = child_kinds(t);
+    let kinds = child_kinds(t);
+    let mut k = 0;
     while at != end {
-        if !good_field(tree, first_kind(kinds), at, end) {
+        if !good_field(tree, kinds[k % 4], at, end) {
             return bad(at);
         }
         if levels == 0 {
             return deep(at);
         }
         let next = after_at(tree, at);
-        if !is_leaf(wide(tree[at])) {
+        if !is_leaf(usize::from(tree[at])) {
             let found = check_children(tree, levels - 1, at, next);
             if found != 0 {
                 return found;
             }
         }
-        kinds = turn(kinds);
+        k += 1;
         at = next;
     }
-    if may_end(first_kind(kinds)) {
-        0
-    } else {
-        bad(parent)
-    }
+    if kinds[k % 4].ends { 0 } else { bad(parent) }
 }
 
 // A whole tree: one Program, as long as the tree.
-pub fn check(tree: &[u8]) -> Checked
+pub fn check(tree: &[u8]) -> Result<(), Refusal>
     ensures { result ≡ verdict (read_tree tree.now) }
 {
     let n = tree.len();
     if n < 3 {
-        return refused(BAD_TREE, 0);
+        return refused(Reason::BadTree, 0);
     }
     if TREE_LIMIT < n {
-        return refused(BAD_TREE, 0);
+        return refused(Reason::BadTree, 0);
     }
-    if wide(tree[0]) != tag::PROGRAM {
-        return refused(BAD_TREE, 0);
+    if usize::from(tree[0]) != tag::PROGRAM {
+        return refused(Reason::BadTree, 0);
     }
-    if after_at(tree, 0) != n {
-        return refused(BAD_TREE, 0);
+    if 3 + length_at(tree, 0) != n {
+        return refused(Reason::BadTree, 0);
     }
     outcome(check_children(tree, LEVEL_LIMIT - 1, 0, n))
 }
@@ -153,7 +132,7 @@ pub fn count_fields(tree: &[u8], from: usize, end: usize) -> usize
     let mut at = from;
     let mut n = 0;
     while at < end {
-        at = field::after_at(tree, at);
+        at = after_at(tree, at);
         n += 1;
     }
     n

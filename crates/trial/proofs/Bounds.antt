@@ -1,26 +1,25 @@
 -- Bounds of the answers: the globals and the steps, the numbers, the places.
 use Rattle.std.proofs.Common.{◌≡◌, ℕ, ◌+◌, ◌*◌, ◌<◌, ◌≤◌, Bool, true, false, eqb, ltb, leb, List, [], ◌∷◌, length, get_or, sym, refl, ap, ◌∙◌, arith, eqb-true}
-use mathlib.Core.Option.{Option, none, some}
+use Rattle.std.specs.Prelude.{Option, None as none, Some as some, Err}
 use Rattle.definition.specs.Basic.{Bytes, pick}
 use Rattle.definition.specs.Limit.{image_limit}
-use Rattle.definition.specs.Number.{refusal, short_buffer, output_short, bad_image}
+use Rattle.definition.specs.Number.{refusal, short_buffer, output_short, bad_image, bad_heights, number_of}
 use Rattle.definition.specs.Opcode.{Instr}
 use Rattle.definition.specs.Bytecode.{Code, size_of, Const, Image}
 use Rattle.definition.specs.Decode.{Decoded, decoded, malformed, read_image}
 use Rattle.definition.specs.Valid.{AreBytes}
 use Rattle.definition.specs.Trusted.{constant_at}
-use Rattle.definition.specs.declared.Answer.{Answer}
-use Rattle.definition.specs.declared.Answer.TheVariants.{Refused}
-use Rattle.definition.specs.declared.Refusal.{Refusal}
+use Rattle.definition.specs.Answer.{Answer}
+use Rattle.definition.specs.declared.reason.Refusal.{Refusal}
 use Rattle.definition.proofs.Basic.{chosen}
 use Rattle.definition.proofs.Images.{read-image, write-image}
 use Rattle.definition.proofs.Places.{Within}
 use Rattle.listing.specs.Reads.{ImageAt}
 use Rattle.listing.proofs.Images.{parts}
-use Rattle.heights.specs.Pass.{Marks, Passed, onwards, pass as checked, Verdict, judged, bad_heights, heights_answer, verdict_answer}
+use Rattle.heights.specs.Pass.{Marks, Passed, onwards, pass as checked, Verdict, judged, heights_answer, verdict_answer}
 use Rattle.heights.proofs.Bounds.{heights_numbers, heights_within}
 use Rattle.heights.proofs.Whole.{image_short}
-use Rattle.trial.specs.Stop
+use Rattle.definition.specs.Number
 use Rattle.trial.specs.Value.{Value, Globals, combined, changed}
 use Rattle.trial.specs.Run.{Action, push, combine, change, constant, pop, jump_not_truthy, jump, get_global, set_global, return_value, other, action_of, integer_in, or_else, Frame, frame, Run, top, below, given, acted, come_to, pass, trial_of, trial, unset_globals}
 use Rattle.trial.specs.Output.{named_globals}
@@ -30,14 +29,15 @@ use Rattle.trial.proofs.Passes.{trial-steps}
 use Rattle.trial.proofs.Running.{few}
 use Rattle.trial.proofs.Scanning.{refused_more, refused_none}
 use Rattle.trial.proofs.Calling.{names_few}
+use Rattle.definition.specs.declared.reason.Reason.{Reason}
 
 -- a run that stops does so with a number of its own, before a position
 data Stops (n : ℕ) : Run → Type 0 where
   on : {f : Frame} → Stops n (Run.on f)
   returned : {g : Globals} {k : ℕ} → Stops n (Run.returned g k)
-  stopped : {k p : ℕ} → 0 < k → k < 30 → p < n → Stops n (Run.stopped k p)
+  stopped : {k : Reason} {p : ℕ} → 0 < number_of k → number_of k < 30 → p < n → Stops n (Run.stopped k p)
 
-given_stops : {n : ℕ} (f : Frame) (to k : ℕ) (st : List Value) (o : Option Value) → 0 < k → k < 30 → f.at < n → Stops n (given f to k st o)
+given_stops : {n : ℕ} (f : Frame) (to : ℕ) (k : Reason) (st : List Value) (o : Option Value) → 0 < number_of k → number_of k < 30 → f.at < n → Stops n (given f to k st o)
 given_stops f to k st (some v) a b h = Stops.on
 given_stops f to k st none a b h = Stops.stopped a b h
 
@@ -52,7 +52,7 @@ acted_stops pool k next f jump h = Stops.on
 acted_stops pool k next f get_global h = given_stops f _ _ _ (get_or f.globals k none) (omega arith) (omega arith) h
 acted_stops pool k next f set_global h = Stops.on
 acted_stops pool k next f return_value h = Stops.returned
-acted_stops pool k next f other h = Stops.stopped {k = Stop.not_runnable} {p = f.at} (omega arith) (omega arith) h
+acted_stops pool k next f other h = Stops.stopped {k = Number.not_runnable} {p = f.at} (omega arith) (omega arith) h
 
 come_stops : {n m : ℕ} (pool : List Const) (p : ℕ) (i : Instr) {s : Run} → n ≤ m → p < m → Stops n s → Stops m (come_to pool p i s)
 come_stops {m = m} pool p i l h (Stops.on {f}) = chosen (Stops m) (eqb f.at p) (λ e. let q = eqb-true f.at p e in acted_stops pool i.a _ f (action_of i) (omega arith)) (λ _. Stops.on)
@@ -80,7 +80,7 @@ refused_within pool f (i ∷ c) {p} e = go (first_refused pool f c) (λ q d. ref
 -- small outcomes
 pub data Small : Outcome → Type 0 where
   ran : {n : ℕ} {g : Globals} {k : ℕ} → n ≤ 1024 → k < 65536 → Small (Outcome.ran n g k)
-  refused : {r : Refusal} → 0 < r.number → r.number < 30 → r.place ≤ 65536 → Small (Outcome.refused r)
+  refused : {r : Refusal} → 0 < (number_of r.reason) → (number_of r.reason) < 30 → r.place ≤ 65536 → Small (Outcome.refused r)
 
 -- of a sound image whose chunks pass
 module _ (hs : List ℕ) (m : Image) {ns : List ℕ} (e : judged hs m m.pool ≡ Verdict.tops ns) (short : 3 + size_of m.code < 65536) where
@@ -100,11 +100,11 @@ module _ (hs : List ℕ) (m : Image) {ns : List ℕ} (e : judged hs m m.pool ≡
       position Passed.failed {p} q = let z : ◌≡◌ {A = ℕ} 0 1 = cc in absurd (omega arith)
 
       go : (o : Option ℕ) → refused_with hs m ≡ o → Small (taken_outcome o m room)
-      go (some p) q = let l = position (checked hs 0 (size_of m.code) m.code) q in Small.refused {r = refusal Stop.not_runnable (3 + p)} (omega arith) (omega arith) (omega arith)
+      go (some p) q = let l = position (checked hs 0 (size_of m.code) m.code) q in Small.refused {r = refusal Number.not_runnable (3 + p)} (omega arith) (omega arith) (omega arith)
       go none q = chosen Small (leb (9 * named_globals m.code) room) (λ _. trial_small (names_few hs m e q)) (λ _. Small.refused {r = refusal output_short 0} (omega arith) (omega arith) (omega arith))
 
 -- a refusal of the check of heights
-refused-place : {a : Answer} {k p : ℕ} {lengths : ℕ} → Within lengths heights_numbers image_limit a → a ≡ Refused (refusal k p) → p ≤ image_limit
+refused-place : {a : Answer} {k : Reason} {p lengths : ℕ} → Within lengths heights_numbers image_limit a → a ≡ Err (refusal k p) → p ≤ image_limit
 refused-place {k = k} {p} (Within.wrote {n} h) e = let z : ◌≡◌ {A = ℕ} 0 1 = cc in absurd (omega arith)
 refused-place {k = k} {p} (Within.refused {r} b) e = let q : r.place ≡ p = ap (λ (r : Refusal). r.place) (let i : r ≡ refusal k p = cc in i) in omega (arith, b.place)
 

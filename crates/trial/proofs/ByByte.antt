@@ -1,8 +1,7 @@
 -- What holds of the instructions byte by byte.
-use Rattle.std.proofs.Common.{◌≡◌, ℕ, zero, suc, ◌+◌, ◌<◌, ◌≤◌, true, false, ltb, List, get_or, sym, refl, ap, ◌∙◌, arith, le-ltb, lt-ltb}
+use Rattle.std.proofs.Common.{◌≡◌, ℕ, zero, suc, ◌+◌, ◌<◌, Bool, true, false, ltb, ltb-true, ltb-false, max, List, get_or, sym, refl, ap, ◌∙◌, arith, le-ltb}
 use Rattle.definition.specs.Basic.{pick}
 use Rattle.definition.specs.Bytecode.{Const}
-use Rattle.definition.proofs.Basic.{pick_true, pick_false}
 use Rattle.heights.proofs.Laws.{contrary}
 use Rattle.trial.specs.Value.{boolean, null, Infix, Prefix}
 use Rattle.trial.specs.Run.{Action, push, combine, change, constant, pop, jump_not_truthy, jump, get_global, set_global, return_value, other, actions, runnable_as}
@@ -148,21 +147,16 @@ module _ (n k op : ℕ) where
       (λ x y. refl)
       (λ m h x y. refl) op
 
-  named_get : op ≡ 0x10 → names_as n k (get_or actions op other) ≡ pick (ltb k n) n (suc k)
-  named_get e = ap (λ o. names_as n k (get_or actions o other)) e
+  -- the greater of what was named and one more
+  more : max n (k + 1) ≡ pick (ltb k n) n (suc k)
+  more = go (ltb k n) refl
+    where
+      go : (t : Bool) → ltb k n ≡ t → max n (k + 1) ≡ pick t n (suc k)
+      go true e = omega (arith, ltb-true)
+      go false e = omega (arith, ltb-false)
 
-  named_set : op ≡ 0x11 → names_as n k (get_or actions op other) ≡ pick (ltb k n) n (suc k)
-  named_set e = ap (λ o. names_as n k (get_or actions o other)) e
+  pub names_get : op ≡ 0x10 → max n (k + 1) ≡ names_as n k (get_or actions op other)
+  names_get e = more ∙ sym (ap (λ o. names_as n k (get_or actions o other)) e)
 
-  -- fewer than before, or more
-  pub get_within : op ≡ 0x10 → k < n → n ≡ names_as n k (get_or actions op other)
-  get_within e h = sym (named_get e ∙ pick_true n (suc k) (lt-ltb k n h))
-
-  pub get_more : op ≡ 0x10 → n ≤ k → k + 1 ≡ names_as n k (get_or actions op other)
-  get_more e h = let q : k + 1 ≡ suc k = omega arith in q ∙ sym (named_get e ∙ pick_false n (suc k) (le-ltb k n h))
-
-  pub set_within : op ≡ 0x11 → k < n → n ≡ names_as n k (get_or actions op other)
-  set_within e h = sym (named_set e ∙ pick_true n (suc k) (lt-ltb k n h))
-
-  pub set_more : op ≡ 0x11 → n ≤ k → k + 1 ≡ names_as n k (get_or actions op other)
-  set_more e h = let q : k + 1 ≡ suc k = omega arith in q ∙ sym (named_set e ∙ pick_false n (suc k) (le-ltb k n h))
+  pub names_set : op ≡ 0x11 → max n (k + 1) ≡ names_as n k (get_or actions op other)
+  names_set e = more ∙ sym (ap (λ o. names_as n k (get_or actions o other)) e)

@@ -1,52 +1,39 @@
 -- The whole call: what each test of it says of the outcome.
-use Rattle.std.proofs.Common.{◌≡◌, ℕ, zero, suc, ◌+◌, ◌-◌, ◌*◌, ◌<◌, ◌≤◌, true, leb, List, [], ◌∷◌, ◌++◌, length, get_or, drop, replicate, sym, refl, ap, ◌∙◌, arith, le-ltb, lt-ltb, le-leb}
-use mathlib.Core.Option.{Option, none, some}
+use Rattle.std.proofs.Common.{◌≡◌, ℕ, ◌+◌, ◌-◌, ◌*◌, ◌<◌, ◌≤◌, true, leb, List, [], ◌∷◌, ◌++◌, length, drop, replicate, sym, refl, ap, ◌∙◌, arith, le-ltb, lt-ltb, le-leb}
+use Rattle.std.specs.Prelude.{Option, None as none, Some as some, Result, Ok, Err}
 use lib.ListN.{length-replicate}
 use borrow.Author.Tests.{lt-leb}
 use Rattle.definition.specs.Basic.{Bytes, byte_at, pick}
-use Rattle.definition.specs.Number.{refusal, short_buffer, output_short, bad_image}
+use Rattle.definition.specs.Number.{refusal, short_buffer, output_short, bad_image, bad_heights}
 use Rattle.definition.specs.Opcode.{Instr}
 use Rattle.definition.specs.Bytecode.{size_of, Const, Image}
 use Rattle.definition.specs.Decode.{Decoded, decoded, malformed, read_image}
 use Rattle.definition.specs.Call.{cleared}
 use Rattle.definition.specs.Trusted.{Stands}
-use Rattle.definition.specs.declared.Refusal.{Refusal}
+use Rattle.definition.specs.declared.reason.Refusal.{Refusal}
 use Rattle.definition.proofs.Basic.{pick_true, pick_false}
 use Rattle.bytecode.specs.Checked.{image_answer}
-use Rattle.bytecode.specs.declared.ImageCheck.{ImageCheck}
-use Rattle.bytecode.specs.declared.ImageCheck.TheVariants.{Refused as Wrong}
 use Rattle.listing.specs.Reads.{CodeAt, ImageAt}
 use Rattle.listing.proofs.Lines.{code-size}
 use Rattle.heights.specs.Judgement.{Kind, Reaches, ChunkOf, Passes}
-use Rattle.heights.specs.Pass.{Passing, Passed, onwards, pass, Verdict, judged, bad_heights, Top, lastly}
+use Rattle.heights.specs.Pass.{Passing, Passed, onwards, pass, Verdict, judged, Top, lastly}
 use Rattle.heights.specs.Marks.{marks_from, ChunkReady, PassEnds}
 use Rattle.heights.specs.Chunks.{pool_answer}
-use Rattle.heights.specs.declared.image.PoolCheck.{PoolCheck}
-use Rattle.heights.specs.declared.image.PoolCheck.TheVariants.{Tops as PoolTops, Fails as PoolFails}
-use Rattle.heights.specs.declared.chunk.ChunkCheck.{ChunkCheck}
+use Rattle.heights.specs.declared.chunk.ChunkTop.{ChunkTop}
+use Rattle.heights.proofs.Tables.{one_element}
 use Rattle.heights.proofs.Accepts.{IsHeld, pass_holds, arrives}
 use Rattle.heights.proofs.Refuses.{passing}
 use Rattle.heights.proofs.Verdicts.{Right, judged_right}
-use Rattle.trial.specs.Stop
+use Rattle.definition.specs.Number
 use Rattle.trial.specs.Value.{Globals}
 use Rattle.trial.specs.Run.{runnable, Trial, trial}
 use Rattle.trial.specs.Output.{named_globals}
 use Rattle.trial.specs.Cells.{Keeping, work_size, stack_limit}
 use Rattle.trial.specs.Machine.{Safe, EndsAs}
 use Rattle.trial.specs.Call.{first_refused, refused_with, Outcome, trial_outcome, taken_outcome, judged_outcome, image_outcome, run_outcome, outcome_answer, outcome_into, work_after, scan_answer, ScanReady}
-use Rattle.trial.specs.declared.RunAnswer.{RunAnswer}
-use Rattle.trial.specs.declared.scan.Scanned.{Scanned}
-use Rattle.trial.specs.declared.scan.Scanned.TheVariants.{Names, Refuses}
-use Rattle.trial.specs.declared.machine.Ended.{Ended}
-use Rattle.trial.specs.declared.machine.Ended.TheVariants.{Ran as EndRan, Stopped}
+use Rattle.trial.specs.declared.Ran.{Ran}
 use Rattle.trial.proofs.CodeLoop.{one_image, main_parts}
 use Rattle.trial.proofs.Scanning.{all_taken, taken_runs, taken-low, named_small}
-
--- nothing arrives where all is zero
-zeros : (n k : ℕ) → ◌≡◌ {A = ℕ} (get_or (replicate n 0) k 0) 0
-zeros zero k = refl
-zeros (suc n) zero = refl
-zeros (suc n) (suc k) = zeros n k
 
 -- main can be gone over
 pub marks_ready : (b : Bytes) {end pool : ℕ} → ScanReady b end pool → ChunkReady (replicate 65536 0) b 3 end
@@ -56,12 +43,12 @@ marks_ready b {end} h =
       code = record { code = h.image.code; is = p.code };
       room = omega (arith, length-replicate {A = ℕ} 65536 0, p.code.within, h.short);
       short = omega (arith, p.code.within, h.short);
-      blank = record { zero = λ k _. zeros 65536 k };
+      blank = record { zero = λ k _. one_element 0 65536 k };
     }
 
 -- with the marks of the pass
-pub marked : (b : Bytes) (hs : List ℕ) {end : ℕ} (m : Image) (c : CodeAt b 3 end m.code) {k : ChunkCheck} {l : List ℕ} → PassEnds hs 0 (end - 3) 3 m.code k l → (s : Passing) → pass hs 0 (size_of m.code) m.code ≡ Passed.passed s
-    → {r : Scanned} → r ≡ scan_answer (first_refused m.pool (marks_from l 3) m.code) (named_globals m.code) → r ≡ scan_answer (refused_with hs m) (named_globals m.code)
+pub marked : (b : Bytes) (hs : List ℕ) {end : ℕ} (m : Image) (c : CodeAt b 3 end m.code) {k : Option ChunkTop} {l : List ℕ} → PassEnds hs 0 (end - 3) 3 m.code k l → (s : Passing) → pass hs 0 (size_of m.code) m.code ≡ Passed.passed s
+    → {r : Result ℕ Refusal} → r ≡ scan_answer (first_refused m.pool (marks_from l 3) m.code) (named_globals m.code) → r ≡ scan_answer (refused_with hs m) (named_globals m.code)
 marked b hs {end} m c {l = l} p s e q =
     let z : size_of m.code ≡ end - 3 = (let t = code-size (byte_at b) end 3 (end - 3) c.reads in omega (arith, c.order)) in
     let f = p.after s (ap (λ n. pass hs 0 n m.code) (sym z) ∙ e) in
@@ -117,13 +104,13 @@ module _ (hs : List ℕ) (m : Image) {ns : List ℕ} (e : judged hs m m.pool ≡
     names_few = named_small m.pool arrived.state.marks m.code none_refused
 
 -- what the scan found
-pub names_found : (o : Option ℕ) {k n : ℕ} {r : Scanned} → r ≡ scan_answer o k → r ≡ Names n → (o ≡ none) × (n ≡ k)
+pub names_found : (o : Option ℕ) {k n : ℕ} {r : Result ℕ Refusal} → r ≡ scan_answer o k → r ≡ Ok n → (o ≡ none) × (n ≡ k)
 names_found none {k} {n} {r} e f = (refl, cc)
 names_found (some p) {k} {n} {r} e f = let z : ◌≡◌ {A = ℕ} 0 1 = cc in absurd (omega arith)
 
-pub refusal_found : (o : Option ℕ) (k : ℕ) {n : ℕ} {r : Scanned} → r ≡ scan_answer o k → r ≡ Refuses n → (m : Image) (room : ℕ) → taken_outcome o m room ≡ Outcome.refused (refusal Stop.not_runnable n)
-refusal_found none k {n} {r} e f m room = let z : ◌≡◌ {A = ℕ} 0 1 = cc in absurd (omega arith)
-refusal_found (some p) k {n} {r} e f m room = let q : 3 + p ≡ n = cc in ap (λ n. Outcome.refused (refusal Stop.not_runnable n)) q
+pub refusal_found : (o : Option ℕ) (k : ℕ) {q : Refusal} {r : Result ℕ Refusal} → r ≡ scan_answer o k → r ≡ Err q → (m : Image) (room : ℕ) → taken_outcome o m room ≡ Outcome.refused q
+refusal_found none k {q} {r} e f m room = let z : ◌≡◌ {A = ℕ} 0 1 = cc in absurd (omega arith)
+refusal_found (some p) k {q} {r} e f m room = let i : refusal Number.not_runnable (3 + p) ≡ q = cc in ap Outcome.refused i
 
 -- the output is too short
 pub room_short : {o : Option ℕ} (m : Image) (room : ℕ) {n : ℕ} → o ≡ none → n ≡ named_globals m.code → room < 9 * n → taken_outcome o m room ≡ Outcome.refused (refusal output_short 0)
@@ -134,12 +121,12 @@ module _ {o : Option ℕ} (m : Image) (room : ℕ) {n : ℕ} (e : o ≡ none) (q
   pub enough_room : taken_outcome o m room ≡ trial_outcome (named_globals m.code) (trial m)
   enough_room = ap (λ o. taken_outcome o m room) e ∙ pick_true _ _ (le-leb (9 * named_globals m.code) room (omega (arith, q)))
 
-  pub ended-stopped : {k p : ℕ} {w : List ℕ} {r : Ended} → EndsAs w r (trial m) → r ≡ Stopped k p → taken_outcome o m room ≡ Outcome.refused (refusal k p)
-  ended-stopped {k} {p} {w} h f = enough_room ∙ go h f
+  pub ended-stopped : {q : Refusal} {w : List ℕ} {r : Result ℕ Refusal} → EndsAs w r (trial m) → r ≡ Err q → taken_outcome o m room ≡ Outcome.refused q
+  ended-stopped {q} {w} h f = enough_room ∙ go h f
     where
-      go : {t : Trial} {r : Ended} → EndsAs w r t → r ≡ Stopped k p → trial_outcome (named_globals m.code) t ≡ Outcome.refused (refusal k p)
+      go : {t : Trial} {r : Result ℕ Refusal} → EndsAs w r t → r ≡ Err q → trial_outcome (named_globals m.code) t ≡ Outcome.refused q
       go (EndsAs.ran {g} {n = i} s) f = let z : ◌≡◌ {A = ℕ} 0 1 = cc in absurd (omega arith)
-      go (EndsAs.stopped {k = i} {p = j}) f = let a : i ≡ k = cc in let b : j ≡ p = cc in λ x. Outcome.refused (refusal (a x) (b x))
+      go (EndsAs.stopped {k = i} {p = j}) f = let a : refusal i j ≡ q = cc in ap Outcome.refused a
 
   -- the globals of a run that ended well
   pub record Globals-of (w : List ℕ) (steps : ℕ) : Type 0 where
@@ -147,10 +134,10 @@ module _ {o : Option ℕ} (m : Image) (room : ℕ) {n : ℕ} (e : o ≡ none) (q
     pub keeping : Keeping w globals
     pub is : taken_outcome o m room ≡ Outcome.ran n globals steps
 
-  pub ended-ran : {steps : ℕ} {w : List ℕ} {r : Ended} → EndsAs w r (trial m) → r ≡ EndRan steps → Globals-of w steps
+  pub ended-ran : {steps : ℕ} {w : List ℕ} {r : Result ℕ Refusal} → EndsAs w r (trial m) → r ≡ Ok steps → Globals-of w steps
   ended-ran {steps} {w} h f = let g = go h f in record { globals = g.0; keeping = g.1; is = enough_room ∙ ap (trial_outcome (named_globals m.code)) g.2 ∙ ap (λ n. Outcome.ran n g.0 steps) (sym q) }
     where
-      go : {t : Trial} {r : Ended} → EndsAs w r t → r ≡ EndRan steps → (g : Globals) × Keeping w g × (t ≡ Trial.ran g steps)
+      go : {t : Trial} {r : Result ℕ Refusal} → EndsAs w r t → r ≡ Ok steps → (g : Globals) × Keeping w g × (t ≡ Trial.ran g steps)
       go (EndsAs.ran {g} {n = i} s) f = let a : i ≡ steps = cc in (g, s, ap (Trial.ran g) a)
       go (EndsAs.stopped {k = i} {p = j}) f = let z : ◌≡◌ {A = ℕ} 0 1 = cc in absurd (omega arith)
 
@@ -159,36 +146,36 @@ module _ (hs : List ℕ) (room : ℕ) {b : Bytes} {m : Image} (h : ImageAt b m) 
   same_outcome : (n : Image) → ImageAt b n → taken_outcome (refused_with hs n) n room ≡ o
   same_outcome n i = ap (λ (m : Image). taken_outcome (refused_with hs m) m room) (one_image i h) ∙ e
 
-  pub answered : {r : RunAnswer} → r ≡ outcome_answer o → (n : Image) → ImageAt b n → r ≡ outcome_answer (taken_outcome (refused_with hs n) n room)
+  pub answered : {r : Result Ran Refusal} → r ≡ outcome_answer o → (n : Image) → ImageAt b n → r ≡ outcome_answer (taken_outcome (refused_with hs n) n room)
   answered q n i = q ∙ sym (ap outcome_answer (same_outcome n i))
 
   pub written : (out : Bytes) {x : Bytes} → x ≡ outcome_into o out → (n : Image) → ImageAt b n → x ≡ outcome_into (taken_outcome (refused_with hs n) n room) out
   written out q n i = q ∙ sym (ap (λ o. outcome_into o out) (same_outcome n i))
 
 -- the whole image
-pub wrong_image : (b : Bytes) {x : ImageCheck} {q : Refusal} → x ≡ image_answer (read_image b) → x ≡ Wrong q → (hs : List ℕ) (room : ℕ) → image_outcome (read_image b) hs room ≡ Outcome.refused q
+pub wrong_image : (b : Bytes) {x : Result ℕ Refusal} {q : Refusal} → x ≡ image_answer (read_image b) → x ≡ Err q → (hs : List ℕ) (room : ℕ) → image_outcome (read_image b) hs room ≡ Outcome.refused q
 wrong_image b {x} {q} e f hs room = go (read_image b) (sym e ∙ f)
   where
-    go : (d : Decoded Image) → image_answer d ≡ Wrong q → image_outcome d hs room ≡ Outcome.refused q
+    go : (d : Decoded Image) → image_answer d ≡ Err q → image_outcome d hs room ≡ Outcome.refused q
     go (decoded m n) i = let z : ◌≡◌ {A = ℕ} 0 1 = cc in absurd (omega arith)
     go (malformed p) i = let a : refusal bad_image p ≡ q = cc in ap Outcome.refused a
 
-module _ (b : Bytes) {m : Image} (i : ImageAt b m) (hs : List ℕ) (room : ℕ) {r : PoolCheck} (e : r ≡ pool_answer (judged hs m m.pool)) where
-  pub chunk_failing : {place : ℕ} → r ≡ PoolFails place → image_outcome (read_image b) hs room ≡ Outcome.refused (refusal bad_heights place)
+module _ (b : Bytes) {m : Image} (i : ImageAt b m) (hs : List ℕ) (room : ℕ) {r : Result ℕ ℕ} (e : r ≡ pool_answer (judged hs m m.pool)) where
+  pub chunk_failing : {place : ℕ} → r ≡ Err place → image_outcome (read_image b) hs room ≡ Outcome.refused (refusal bad_heights place)
   chunk_failing {place} f = ap (λ d. image_outcome d hs room) i.reads ∙ go (judged hs m m.pool) (sym e ∙ f)
     where
-      go : (v : Verdict) → pool_answer v ≡ PoolFails place → judged_outcome v hs m room ≡ Outcome.refused (refusal bad_heights place)
+      go : (v : Verdict) → pool_answer v ≡ Err place → judged_outcome v hs m room ≡ Outcome.refused (refusal bad_heights place)
       go (Verdict.tops ns) q = let z : ◌≡◌ {A = ℕ} 0 1 = cc in absurd (omega arith)
       go (Verdict.fails p) q = let a : p ≡ place = cc in ap (λ p. Outcome.refused (refusal bad_heights p)) a
 
-  pub all_passing : {n : ℕ} → r ≡ PoolTops n → (ns : List ℕ) × (judged hs m m.pool ≡ Verdict.tops ns)
+  pub all_passing : {n : ℕ} → r ≡ Ok n → (ns : List ℕ) × (judged hs m m.pool ≡ Verdict.tops ns)
   all_passing {n} f = go (judged hs m m.pool) refl (sym e ∙ f)
     where
-      go : (v : Verdict) → judged hs m m.pool ≡ v → pool_answer v ≡ PoolTops n → (ns : List ℕ) × (judged hs m m.pool ≡ Verdict.tops ns)
+      go : (v : Verdict) → judged hs m m.pool ≡ v → pool_answer v ≡ Ok n → (ns : List ℕ) × (judged hs m m.pool ≡ Verdict.tops ns)
       go (Verdict.tops ns) q t = (ns, q)
       go (Verdict.fails p) q t = let z : ◌≡◌ {A = ℕ} 0 1 = cc in absurd (omega arith)
 
-  pub taken-image : {n : ℕ} → r ≡ PoolTops n → image_outcome (read_image b) hs room ≡ taken_outcome (refused_with hs m) m room
+  pub taken-image : {n : ℕ} → r ≡ Ok n → image_outcome (read_image b) hs room ≡ taken_outcome (refused_with hs m) m room
   taken-image f = ap (λ d. image_outcome d hs room) i.reads ∙ ap (λ v. judged_outcome v hs m room) (all_passing f).1
 
 -- the work area

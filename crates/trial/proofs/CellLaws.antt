@@ -1,69 +1,10 @@
--- Values in cells: what the operators make of them.
-use Rattle.std.proofs.Common.{◌≡◌, ℕ, ◌^◌, ◌<◌, Bool, true, false, eqb, List, [], ◌∷◌, get_or, ℤ, sym, refl, ap, ◌∙◌, subst, arith}
-use mathlib.Core.Option.{Option, none, some}
-use Rattle.definition.specs.Basic.{both}
-use Rattle.trial.specs.Value.{Value, integer, boolean, signed_of, truthy, equal, Infix, Prefix, combined, changed}
-use Rattle.trial.specs.Words.{integer_in}
-use Rattle.trial.specs.Cells.{word_from, Keeps}
-use Rattle.trial.specs.Machine.{InfixAt, PrefixAt}
-use Rattle.trial.specs.declared.arithmetic.Word.{Word}
-use Rattle.trial.specs.declared.arithmetic.Word.TheVariants.{Fits, Over}
-use Rattle.trial.proofs.Words.{equal_law}
-
--- a boolean
-pub keeps_yes : {b : Bool} → b ≡ true → Keeps 2 1 (some (boolean b))
-keeps_yes e = subst (λ b. Keeps 2 1 (some (boolean b))) (sym e) Keeps.yes
-
-pub keeps_no : {b : Bool} → b ≡ false → Keeps 2 0 (some (boolean b))
-keeps_no e = subst (λ b. Keeps 2 0 (some (boolean b))) (sym e) Keeps.no
-
--- a word that fits, and one that does not
-pub keeps_fits : {w : Word} {n : ℕ} → w ≡ Fits n → n < 2 ^ 64 → (x : Option ℕ) → w ≡ word_from x → Keeps 1 n (integer_in x)
-keeps_fits {w} {n} e h (some m) f = let k : m ≡ n = cc in subst (λ m. Keeps 1 n (some (integer (signed_of m)))) (sym k) (Keeps.number h)
-keeps_fits {w} {n} e h none f = let z : ◌≡◌ {A = ℕ} 0 1 = cc in absurd (omega arith)
-
-pub keeps_over : {w : Word} → w ≡ Over → (x : Option ℕ) → w ≡ word_from x → Keeps 0 0 (integer_in x)
-keeps_over {w} e (some m) f = let z : ◌≡◌ {A = ℕ} 0 1 = cc in absurd (omega arith)
-keeps_over e none f = Keeps.nothing
-
--- what is true
-pub truthy-number : {k w : ℕ} {a : Value} → Keeps k w (some a) → k ≡ 1 → true ≡ truthy a
-truthy-number (Keeps.number h) e = refl
-truthy-number Keeps.yes e = absurd (omega arith)
-truthy-number Keeps.no e = absurd (omega arith)
-truthy-number Keeps.empty e = absurd (omega arith)
-
-pub truthy_else : {k w : ℕ} {a : Value} → Keeps k w (some a) → (k ≡ 1 → ⊥) → eqb w 1 ≡ truthy a
-truthy_else (Keeps.number h) e = absurd (e refl)
-truthy_else Keeps.yes e = refl
-truthy_else Keeps.no e = refl
-truthy_else Keeps.empty e = refl
-
--- an integer is one of kind 1
-pub integer_kept : {k w : ℕ} {a : Value} → Keeps k w (some a) → k ≡ 1 → a ≡ integer (signed_of w)
-integer_kept (Keeps.number h) e = refl
-integer_kept Keeps.yes e = absurd (omega arith)
-integer_kept Keeps.no e = absurd (omega arith)
-integer_kept Keeps.empty e = absurd (omega arith)
-
--- one kind and one value
-pub equal_kept : {k l v w : ℕ} {a b : Value} → Keeps k v (some a) → Keeps l w (some b) → both (eqb k l) (eqb v w) ≡ equal a b
-equal_kept (Keeps.number {w = v} h) (Keeps.number {w = w} g) = sym (equal_law v w h g)
-equal_kept (Keeps.number h) Keeps.yes = refl
-equal_kept (Keeps.number h) Keeps.no = refl
-equal_kept (Keeps.number h) Keeps.empty = refl
-equal_kept Keeps.yes (Keeps.number g) = refl
-equal_kept Keeps.yes Keeps.yes = refl
-equal_kept Keeps.yes Keeps.no = refl
-equal_kept Keeps.yes Keeps.empty = refl
-equal_kept Keeps.no (Keeps.number g) = refl
-equal_kept Keeps.no Keeps.yes = refl
-equal_kept Keeps.no Keeps.no = refl
-equal_kept Keeps.no Keeps.empty = refl
-equal_kept Keeps.empty (Keeps.number g) = refl
-equal_kept Keeps.empty Keeps.yes = refl
-equal_kept Keeps.empty Keeps.no = refl
-equal_kept Keeps.empty Keeps.empty = refl
+-- Values: what the operators make of them, by the operators' bytes.
+use Rattle.std.proofs.Common.{◌≡◌, ℕ, zero, suc, ◌^◌, Bool, true, false, cond, List, [], ◌∷◌, get_or, ℤ, pos, negsuc, sym, refl, ap, ◌∙◌, subst}
+use Rattle.std.specs.Prelude.{Option, Some as some, None as none, MatchOption, IsSomeAnd, option_map, nat_lt, int_div}
+use Rattle.std.specs.Int.Signed.{mag}
+use Rattle.definition.specs.Basic.{pick}
+use Rattle.trial.specs.Value.{Value, integer, fitting, quotient, Infix}
+use Rattle.trial.specs.Machine.{InfixAt}
 
 -- the operators by their bytes
 abbrev infixes : List Infix
@@ -91,68 +32,29 @@ is_greater P InfixAt.equals a b c d e f p = absurd (e refl)
 is_greater P InfixAt.differs a b c d e f p = absurd (f refl)
 is_greater P InfixAt.greater a b c d e f p = p
 
--- the other operators take integers
-pub not_left : {k w : ℕ} {a : Value} → Keeps k w (some a) → (k ≡ 1 → ⊥) → {n : ℕ} {o : Infix} → InfixAt n o → (n ≡ 0x08 → ⊥) → (n ≡ 0x09 → ⊥) → (b : Value) → Keeps 0 0 (combined o a b)
-not_left (Keeps.number h) n i e f b = absurd (n refl)
-not_left Keeps.yes n InfixAt.add e f b = Keeps.nothing
-not_left Keeps.yes n InfixAt.sub e f b = Keeps.nothing
-not_left Keeps.yes n InfixAt.mul e f b = Keeps.nothing
-not_left Keeps.yes n InfixAt.div e f b = Keeps.nothing
-not_left Keeps.yes n InfixAt.greater e f b = Keeps.nothing
-not_left Keeps.yes n InfixAt.equals e f b = absurd (e refl)
-not_left Keeps.yes n InfixAt.differs e f b = absurd (f refl)
-not_left Keeps.no n InfixAt.add e f b = Keeps.nothing
-not_left Keeps.no n InfixAt.sub e f b = Keeps.nothing
-not_left Keeps.no n InfixAt.mul e f b = Keeps.nothing
-not_left Keeps.no n InfixAt.div e f b = Keeps.nothing
-not_left Keeps.no n InfixAt.greater e f b = Keeps.nothing
-not_left Keeps.no n InfixAt.equals e f b = absurd (e refl)
-not_left Keeps.no n InfixAt.differs e f b = absurd (f refl)
-not_left Keeps.empty n InfixAt.add e f b = Keeps.nothing
-not_left Keeps.empty n InfixAt.sub e f b = Keeps.nothing
-not_left Keeps.empty n InfixAt.mul e f b = Keeps.nothing
-not_left Keeps.empty n InfixAt.div e f b = Keeps.nothing
-not_left Keeps.empty n InfixAt.greater e f b = Keeps.nothing
-not_left Keeps.empty n InfixAt.equals e f b = absurd (e refl)
-not_left Keeps.empty n InfixAt.differs e f b = absurd (f refl)
+-- an integer that 64 bits hold, and a quotient that they hold: as the library's checked operations answer
+abbrev pub fit : ℤ → Option ℤ
+fit z = cond (nat_lt (mag z) (2 ^ 63)) (some z) none
 
--- on the right too
-pub not_right : {k w : ℕ} {b : Value} → Keeps k w (some b) → (k ≡ 1 → ⊥) → {n : ℕ} {o : Infix} → InfixAt n o → (n ≡ 0x08 → ⊥) → (n ≡ 0x09 → ⊥) → (z : ℤ) → Keeps 0 0 (combined o (integer z) b)
-not_right (Keeps.number h) n i e f z = absurd (n refl)
-not_right Keeps.yes n InfixAt.add e f z = Keeps.nothing
-not_right Keeps.yes n InfixAt.sub e f z = Keeps.nothing
-not_right Keeps.yes n InfixAt.mul e f z = Keeps.nothing
-not_right Keeps.yes n InfixAt.div e f z = Keeps.nothing
-not_right Keeps.yes n InfixAt.greater e f z = Keeps.nothing
-not_right Keeps.yes n InfixAt.equals e f z = absurd (e refl)
-not_right Keeps.yes n InfixAt.differs e f z = absurd (f refl)
-not_right Keeps.no n InfixAt.add e f z = Keeps.nothing
-not_right Keeps.no n InfixAt.sub e f z = Keeps.nothing
-not_right Keeps.no n InfixAt.mul e f z = Keeps.nothing
-not_right Keeps.no n InfixAt.div e f z = Keeps.nothing
-not_right Keeps.no n InfixAt.greater e f z = Keeps.nothing
-not_right Keeps.no n InfixAt.equals e f z = absurd (e refl)
-not_right Keeps.no n InfixAt.differs e f z = absurd (f refl)
-not_right Keeps.empty n InfixAt.add e f z = Keeps.nothing
-not_right Keeps.empty n InfixAt.sub e f z = Keeps.nothing
-not_right Keeps.empty n InfixAt.mul e f z = Keeps.nothing
-not_right Keeps.empty n InfixAt.div e f z = Keeps.nothing
-not_right Keeps.empty n InfixAt.greater e f z = Keeps.nothing
-not_right Keeps.empty n InfixAt.equals e f z = absurd (e refl)
-not_right Keeps.empty n InfixAt.differs e f z = absurd (f refl)
+abbrev pub divided : ℤ → ℤ → Option ℤ
+divided a (pos zero) = none
+divided a (pos (suc b)) = fit (int_div a (pos (suc b)))
+divided a (negsuc b) = fit (int_div a (negsuc b))
 
--- the operators of one operand
-pub is_bang : (P : Prefix → Type 0) {n : ℕ} {o : Prefix} → PrefixAt n o → n ≡ 0x0C → P Prefix.bang → P o
-is_bang P PrefixAt.minus e p = absurd (omega arith)
-is_bang P PrefixAt.bang e p = p
+-- as values
+pub fit_law : (z : ℤ) → option_map integer (fit z) ≡ fitting z
+fit_law z = go (nat_lt (mag z) (2 ^ 63))
+  where
+    go : (t : Bool) → option_map integer (cond t (some z) none) ≡ pick t (some (integer z)) none
+    go true = refl
+    go false = refl
 
-pub is_minus : (P : Prefix → Type 0) {n : ℕ} {o : Prefix} → PrefixAt n o → (n ≡ 0x0C → ⊥) → P Prefix.minus → P o
-is_minus P PrefixAt.minus e p = p
-is_minus P PrefixAt.bang e p = absurd (e refl)
+pub divided_law : (a b : ℤ) → option_map integer (divided a b) ≡ quotient a b
+divided_law a (pos zero) = refl
+divided_law a (pos (suc b)) = fit_law (int_div a (pos (suc b)))
+divided_law a (negsuc b) = fit_law (int_div a (negsuc b))
 
--- minus takes an integer
-pub not_negated : {k w : ℕ} {a : Value} → Keeps k w (some a) → (k ≡ 1 → ⊥) → Keeps 0 0 (changed Prefix.minus a)
-not_negated (Keeps.number h) n = absurd (n refl)
-not_negated Keeps.yes n = Keeps.nothing
-not_negated Keeps.no n = Keeps.nothing
-not_negated Keeps.empty n = Keeps.nothing
+pub mapped : (r : Option ℤ) (m : Option Value) → MatchOption r (m ≡ none) (λ x. IsSomeAnd m (λ y. y ≡ integer x)) → m ≡ option_map integer r
+mapped none m h = h
+mapped (some x) none h = absurd h
+mapped (some x) (some y) h = ap some h

@@ -6,16 +6,16 @@ use Rattle.definition.specs.Opcode.{Instr, size}
 use Rattle.definition.specs.Bytecode.{Code, size_of, Image}
 use Rattle.definition.specs.Decode.{decoded, read_instr}
 use Rattle.definition.specs.Trusted.{Stands}
-use Rattle.definition.specs.declared.Refusal.{Refusal}
-use Rattle.opcode.specs.Decoding.{instr_of, decode_answer, read_before}
+use Rattle.definition.specs.declared.reason.Refusal.{Refusal}
+use Rattle.opcode.specs.Decoding.{instr_of, decode_answer, read_before, found as instruction_found}
 use Rattle.opcode.specs.declared.Instruction.{Instruction}
-use Rattle.opcode.specs.declared.Decoded.{Decoded as Answer}
-use Rattle.opcode.specs.declared.Decoded.TheVariants.{Instr as Found, Refused}
+use Rattle.opcode.specs.declared.Decoded.{Decoded as ReadInstruction}
 use Rattle.listing.specs.Reads.{CodeAt, PoolAt, ImageAt}
 use Rattle.listing.proofs.Items.{Reading, begins, ends, Next, next, all_read}
 use Rattle.listing.proofs.Lines.{whole-read}
 use Rattle.listing.proofs.Images.{parts}
 use Rattle.opcode.proofs.Decoding.{before_within, answered, unanswered}
+use Rattle.std.specs.Prelude.{Result, Err}
 
 -- bytes read as one image
 pub one_image : {b : Bytes} {m n : Image} → ImageAt b m → ImageAt b n → m ≡ n
@@ -49,17 +49,17 @@ module _ (b : Bytes) (end : ℕ) {c : Code} (h : CodeAt b 3 end c) where
     pub code_ends : end ≤ at → code ≡ c
     code_ends g = ends (read_instr (byte_at b)) end (end - 3) 3 l.reading h.reads (omega (arith, l.order))
 
-    module _ (before : at < end) {r : Answer} (t₀ : r ≡ decode_answer (read_before b at end)) where
+    module _ (before : at < end) {r : Result ReadInstruction Refusal} (t₀ : r ≡ decode_answer (read_before b at end)) where
       e : r ≡ decode_answer (read_instr (byte_at b) at end)
       e = t₀ ∙ ap decode_answer (before_within b at end h.within)
 
       found : Next (read_instr (byte_at b)) end (end - 3) 3 l.reading h.reads
       found = next (read_instr (byte_at b)) end (end - 3) 3 l.reading h.reads (λ i. omega arith)
 
-      pub not_refused : {q : Refusal} → r ≡ Refused q → ⊥
+      pub not_refused : {q : Refusal} → r ≡ Err q → ⊥
       not_refused t = unanswered e found.found t
 
-      module _ {i : Instruction} {after : ℕ} (t : r ≡ Found i after) where
+      module _ {i : Instruction} {after : ℕ} (t : r ≡ instruction_found i after) where
         -- the instruction there
         pub record Turn : Type 0 where
           pub known : i.op < 30

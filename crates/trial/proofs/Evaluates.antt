@@ -1,8 +1,8 @@
 -- P13's claim: of a tree that a fresh session accepts, running its image gives the globals that evaluating the tree gives, or a stop of the same number.
 use Rattle.std.proofs.Common.{◌≡◌, ℕ, ◌*◌, ◌≤◌, Bool, true, false, T, ltb, leb, List, [], ◌∷◌, length, take, sym, refl, ap, ◌∙◌, subst, arith}
-use mathlib.Core.Option.{Option, none, some}
+use Rattle.std.specs.Prelude.{Option, None as none, Some as some, Ok, Err}
 use Rattle.definition.specs.Basic.{Bytes, pick}
-use Rattle.definition.specs.Number.{refusal, short_buffer, output_short}
+use Rattle.definition.specs.Number.{refusal, short_buffer, output_short, number_of}
 use Rattle.definition.specs.Opcode.{Instr}
 use Rattle.definition.specs.Bytecode.{Code, size_of, Const, Image, image_bytes}
 use Rattle.definition.specs.Session.{Words, begun}
@@ -14,8 +14,7 @@ use Rattle.definition.specs.Compile.{Request, Step, compile, steps}
 use Rattle.definition.specs.Call.{Called, call, request}
 use Rattle.definition.specs.Series.{Call, Start, lent}
 use Rattle.definition.specs.Valid.{All, ValidWords}
-use Rattle.definition.specs.declared.Answer.TheVariants.{Length, Refused}
-use Rattle.definition.specs.declared.Refusal.{Refusal}
+use Rattle.definition.specs.declared.reason.Refusal.{Refusal}
 use Rattle.definition.proofs.Series.{Gave, call_does, start_holds}
 use Rattle.heights.specs.Judgement.{Offers}
 use Rattle.heights.specs.Pass.{Verdict, judged}
@@ -31,11 +30,12 @@ use Rattle.trial.proofs.MainNames.{Runnable}
 use Rattle.trial.proofs.Trials.{call_agrees}
 use Rattle.trial.proofs.Passes.{trial-steps}
 use Rattle.trial.proofs.Calling.{work_long, main_safe, enough_room}
+use Rattle.definition.specs.Answer.{Answer}
 
 -- the end of a call: the globals, or the number of its refusal
 abbrev pub outcome_end : Outcome → End
 outcome_end (Outcome.ran n g k) = End.globals g
-outcome_end (Outcome.refused r) = End.stop r.number
+outcome_end (Outcome.refused r) = End.stop r.reason
 
 trial-end : (n : ℕ) (t : Trial) → outcome_end (trial_outcome n t) ≡ trial_end t
 trial-end n (Trial.ran g k) = refl
@@ -66,21 +66,21 @@ module _ (hs : List ℕ) (work room : ℕ) (long : work_size ≤ work) where
       ∙ call_agrees w c e (all_runnable m.pool m.code (λ i p q. s.runs q))
 
   -- the same on lent memory: the first call on a session that was made, with either call, and what it wrote
-  pub call_evaluates : {a : Bytes} {w : Words} → Start a w → (c : Call) (n : ℕ) → (call c.tree (lent a c)).answer ≡ Length n
+  pub call_evaluates : {a : Bytes} {w : Words} → Start a w → (c : Call) (n : ℕ) → (call c.tree (lent a c)).answer ≡ Ok n
       → (m : Image) → read_image (take n (call c.tree (lent a c)).lent.output) ≡ decoded m n → Offers hs m → refused_with hs m ≡ none → 9 * named_globals m.code ≤ room
       → outcome_end (run_outcome (take n (call c.tree (lent a c)).lent.output) hs work room) ≡ tree_end (read_tree c.tree)
   call_evaluates {a} {w} h c n e m i o r l = go (compile (begun w) (request (lent a c) c.tree)).outcome refl (call_does a (begun w) (start_holds h) c).gave e i
     where
-      same : {k n : ℕ} → Length k ≡ Length n → k ≡ n
+      same : {k n : ℕ} → ◌≡◌ {A = Answer} (Ok k) (Ok n) → k ≡ n
       same e = cc
 
       image_same : {k m : Image} {i n : ℕ} → decoded k i ≡ decoded m n → k ≡ m
       image_same e = cc
 
-      never : {s : Refusal} {n : ℕ} → Refused s ≡ Length n → ⊥
+      never : {s : Refusal} {n : ℕ} → ◌≡◌ {A = Answer} (Err s) (Ok n) → ⊥
       never e = let z : ◌≡◌ {A = ℕ} 0 1 = cc in omega arith
 
-      go : (y : Compile.Outcome) → (compile (begun w) (request (lent a c) c.tree)).outcome ≡ y → {x : Called} → Gave y x → x.answer ≡ Length n → read_image (take n x.lent.output) ≡ decoded m n → outcome_end (run_outcome (take n x.lent.output) hs work room) ≡ tree_end (read_tree c.tree)
+      go : (y : Compile.Outcome) → (compile (begun w) (request (lent a c) c.tree)).outcome ≡ y → {x : Called} → Gave y x → x.answer ≡ Ok n → read_image (take n x.lent.output) ≡ decoded m n → outcome_end (run_outcome (take n x.lent.output) hs work room) ≡ tree_end (read_tree c.tree)
       go (Compile.Outcome.accepted k) q {x} (Gave.accepted b t g) e i =
           let z : length (image_bytes k) ≡ n = same (sym b ∙ e) in
           let f : image_bytes k ≡ take n x.lent.output = sym t ∙ ap (λ n. take n x.lent.output) z in

@@ -1,7 +1,7 @@
 -- The pass over code is the machine that goes from instruction to instruction: what it executes, it executes where it stands; and where jumps
 -- go forward, it ends behind the code.
 use Rattle.std.proofs.Common.{◌≡◌, ℕ, ◌+◌, ◌<◌, ◌≤◌, eqb, List, [], ◌∷◌, get_or, sym, refl, subst, arith, eqb-true}
-use mathlib.Core.Option.{Option, none, some}
+use Rattle.std.specs.Prelude.{Option, None as none, Some as some}
 use borrow.Author.Tests.{eqb-false}
 use Rattle.definition.specs.Opcode.{Instr, size}
 use Rattle.definition.specs.Bytecode.{Code, size_of, Const}
@@ -9,6 +9,7 @@ use Rattle.definition.specs.Trusted.{Stands, constant_at}
 use Rattle.trial.specs.Value.{Value, Globals, truthy, combined, changed}
 use Rattle.trial.specs.Run.{Action, push, combine, change, constant, pop, jump_not_truthy, jump, get_global, set_global, return_value, other, action_of, integer_in, Frame, Run, top, below, given, acted, execute, come_to, pass, Executes}
 use Rattle.definition.proofs.Basic.{chosen}
+use Rattle.definition.specs.declared.reason.Reason.{Reason}
 
 -- one step more
 executes_more : {pool : List Const} {c : Code} {s : Run} {f : Frame} {i : Instr} → Executes pool c s (Run.on f) → Stands i f.at c → Executes pool c s (execute pool i f)
@@ -52,10 +53,10 @@ Onward p i other = Unit {0}
 data Past (p : ℕ) : Run → Type 0 where
   on : {f : Frame} → p ≤ f.at → Past p (Run.on f)
   returned : {g : Globals} {n : ℕ} → Past p (Run.returned g n)
-  stopped : {k q : ℕ} → Past p (Run.stopped k q)
+  stopped : {k : Reason} {q : ℕ} → Past p (Run.stopped k q)
 
 -- behind a value, or a stop
-given_past : {p : ℕ} (f : Frame) (to k : ℕ) (st : List Value) (o : Option Value) → p ≤ to → Past p (given f to k st o)
+given_past : {p : ℕ} (f : Frame) (to : ℕ) (k : Reason) (st : List Value) (o : Option Value) → p ≤ to → Past p (given f to k st o)
 given_past f to k st (some v) h = Past.on h
 given_past f to k st none h = Past.stopped
 
@@ -80,7 +81,7 @@ acted_past pool i f a h = go a h (omega arith)
 pub data Rests (c : Code) : Run → Type 0 where
   on : {f : Frame} → ((j : Instr) → Stands j f.at c → ⊥) → Rests c (Run.on f)
   returned : {g : Globals} {n : ℕ} → Rests c (Run.returned g n)
-  stopped : {k q : ℕ} → Rests c (Run.stopped k q)
+  stopped : {k : Reason} {q : ℕ} → Rests c (Run.stopped k q)
 
 -- an instruction stands before the code's end
 stands_before : {j : Instr} {c : Code} {q : ℕ} → Stands j q c → q < size_of c

@@ -7,7 +7,6 @@ pub mod Choices
 pub mod Trials
 pub mod RunHeights
 pub mod Words
-pub mod Leaves
 pub mod CellLaws
 pub mod ByByte
 pub mod Constants

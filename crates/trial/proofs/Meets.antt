@@ -1,6 +1,7 @@
 -- A run of code and the value of what it stands for: how the two meet, an instruction and a piece of code at a time.
 use Rattle.std.proofs.Common.{◌≡◌, ℕ, zero, suc, ◌+◌, false, eqb, List, [], ◌∷◌, ◌++◌, get_or, sym, refl, ap, ◌∙◌, subst, subst₂, arith}
-use mathlib.Core.Option.{Option, none, some}
+use Rattle.std.proofs.Math.Option.{none as missing, some as found}
+use Rattle.std.specs.Prelude.{Option, None as none, Some as some}
 use Rattle.definition.specs.Opcode.{Instr, plain, size}
 use Rattle.definition.specs.Bytecode.{Code, size_of, Const}
 use Rattle.definition.specs.Walk.{prefixes, infixes, less_than}
@@ -9,17 +10,18 @@ use Rattle.trial.specs.Run.{Action, combine, change, action_of, Frame, frame, Ru
 use Rattle.trial.specs.Evaluate.{Evaluated, and_then, or_stop, prefix_of, infix_of}
 use Rattle.definition.proofs.Emits.{size_of-append}
 use Rattle.trial.proofs.Passes.{comes, pass-append, pass-returned, pass-stopped}
+use Rattle.definition.specs.declared.reason.Reason.{Reason}
 
 -- a run comes to a position with the value on the stack and the same globals; or both return, or both stop with one number
 pub data Meets (to : ℕ) (st : List Value) : Run → Evaluated Value → Type 0 where
   on : {v : Value} {g : Globals} {n : ℕ} → Meets to st (Run.on (frame to (v ∷ st) g n)) (Evaluated.on v g)
   returned : {g : Globals} {n : ℕ} → Meets to st (Run.returned g n) (Evaluated.returned g)
-  stopped : {k p : ℕ} → Meets to st (Run.stopped k p) (Evaluated.stopped k)
+  stopped : {k : Reason} {p : ℕ} → Meets to st (Run.stopped k p) (Evaluated.stopped k)
 
 -- what a run that ended goes through
 pub record Keeps (F : Run → Run) : Type 0 where
   pub returned : (g : Globals) (n : ℕ) → F (Run.returned g n) ≡ Run.returned g n
-  pub stopped : (k p : ℕ) → F (Run.stopped k p) ≡ Run.stopped k p
+  pub stopped : (k : Reason) (p : ℕ) → F (Run.stopped k p) ≡ Run.stopped k p
 
 -- one after the other
 pub keeps_then : {F G : Run → Run} → Keeps F → Keeps G → Keeps (λ s. G (F s))
@@ -48,7 +50,7 @@ meets_after {to = to} {st} F f (Meets.returned {g} {n}) h = subst (λ s. Meets t
 meets_after {to = to} {st} F f (Meets.stopped {k} {p}) h = subst (λ s. Meets to st s (Evaluated.stopped k)) (sym (f.stopped k p)) Meets.stopped
 
 -- an instruction's value, or its stop
-pub gives_meets : (f : Frame) (to k : ℕ) (st : List Value) (o : Option Value) → Meets to st (given f to k st o) (or_stop k f.globals o)
+pub gives_meets : (f : Frame) (to : ℕ) (k : Reason) (st : List Value) (o : Option Value) → Meets to st (given f to k st o) (or_stop k f.globals o)
 gives_meets f to k st (some v) = Meets.on
 gives_meets f to k st none = Meets.stopped
 
@@ -90,11 +92,11 @@ module _ {pool : List Const} {at : ℕ} {st us : List Value} {g : Globals} {n : 
 -- Operators
 
 -- a byte's action, by an equation
-acts_as : {x y : ℕ} {a : Action} → some y ≡ some x → action_of (plain y) ≡ a → action_of (plain x) ≡ a
+acts_as : {x y : ℕ} {a : Action} → found y ≡ found x → action_of (plain y) ≡ a → action_of (plain x) ≡ a
 acts_as {x} {y} e h = let q : x ≡ y = cc in ap (λ z. action_of (plain z)) q ∙ h
 
 -- nothing is not something
-never : {A : Type 0} {x : ℕ} → none ≡ some x → A
+never : {A : Type 0} {x : ℕ} → missing ≡ found x → A
 never e = let z : ◌≡◌ {A = ℕ} 0 1 = cc in absurd (omega arith)
 
 -- the operator of a number, and the action of its byte
@@ -104,7 +106,7 @@ pub record PrefixAction (o x : ℕ) : Type 0 where
   pub acts : action_of (plain x) ≡ change operator
 
 -- of a prefix operator that was walked
-pub prefix_action : (o : ℕ) {x : ℕ} → get_or prefixes o none ≡ some x → PrefixAction o x
+pub prefix_action : (o : ℕ) {x : ℕ} → get_or prefixes o missing ≡ found x → PrefixAction o x
 prefix_action zero q = never q
 prefix_action (suc zero) q = never q
 prefix_action (suc (suc zero)) q = record { operator = minus; named = refl; acts = acts_as q refl }
@@ -118,7 +120,7 @@ pub record InfixAction (o x : ℕ) : Type 0 where
   pub acts : action_of (plain x) ≡ combine operator
 
 -- of an infix operator but `<`
-pub infix_action : (o : ℕ) {x : ℕ} → eqb o less_than ≡ false → get_or infixes o none ≡ some x → InfixAction o x
+pub infix_action : (o : ℕ) {x : ℕ} → eqb o less_than ≡ false → get_or infixes o missing ≡ found x → InfixAction o x
 infix_action zero s q = never q
 infix_action (suc zero) s q = record { operator = add; named = refl; acts = acts_as q refl }
 infix_action (suc (suc zero)) s q = record { operator = sub; named = refl; acts = acts_as q refl }

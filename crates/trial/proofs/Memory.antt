@@ -1,6 +1,6 @@
 -- The work area: what a store changes, and what it leaves.
 use Rattle.std.proofs.Common.{◌≡◌, ℕ, suc, ◌+◌, ◌-◌, ◌<◌, ◌≤◌, Bool, true, false, eqb, List, ◌∷◌, length, get_or, set, replicate, sym, refl, ap, ◌∙◌, subst, arith, length-set, get_or-set_other, get_or-set_same, lt-length-set, eqb-true}
-use mathlib.Core.Option.{Option, none, some}
+use Rattle.std.specs.Prelude.{Option, None as none, Some as some}
 use lib.ListN.{length-replicate, get_or-replicate}
 use borrow.Author.Tests.{eqb-false}
 use Rattle.definition.specs.Limit.{globals_limit}

@@ -1,6 +1,6 @@
 -- A pass over code: piece by piece, past what a jump left out, and no more steps than instructions.
 use Rattle.std.proofs.Common.{◌≡◌, ℕ, ◌+◌, ◌≤◌, eqb, List, [], ◌∷◌, ◌++◌, length, get_or, refl, ap, ◌∙◌, subst, arith, eq-eqb, ne_eqb}
-use mathlib.Core.Option.{Option, none, some}
+use Rattle.std.specs.Prelude.{Option, None as none, Some as some}
 use Rattle.definition.specs.Opcode.{Instr, instr, op_jump_not_truthy, op_jump}
 use Rattle.definition.specs.Bytecode.{Code, size_of, Const, Image}
 use Rattle.definition.specs.Trusted.{constant_at}
@@ -9,6 +9,7 @@ use Rattle.trial.specs.Run.{Action, push, combine, change, constant, pop, jump_n
 use Rattle.definition.proofs.Basic.{chosen, pick_true, pick_false}
 use Rattle.definition.proofs.Emits.{size_of-append}
 use Rattle.definition.proofs.Account.{after_jump, if_code}
+use Rattle.definition.specs.declared.reason.Reason.{Reason}
 
 module _ (pool : List Const) where
   -- the instruction that the run stands before
@@ -38,7 +39,7 @@ module _ (pool : List Const) where
   pass-returned at (i ∷ c) g n = ap (come_to pool (at + size_of c) i) (pass-returned at c g n)
 
   -- so does one that stopped
-  pub pass-stopped : (at : ℕ) (c : Code) (k p : ℕ) → pass pool at c (Run.stopped k p) ≡ Run.stopped k p
+  pub pass-stopped : (at : ℕ) (c : Code) (k : Reason) (p : ℕ) → pass pool at c (Run.stopped k p) ≡ Run.stopped k p
   unfolding pass
   pass-stopped at [] k p = refl
   pass-stopped at (i ∷ c) k p = ap (come_to pool (at + size_of c) i) (pass-stopped at c k p)
@@ -72,10 +73,10 @@ module _ (pool : List Const) where
 pub data Within (k : ℕ) : Run → Type 0 where
   on : {f : Frame} → f.steps ≤ k → Within k (Run.on f)
   returned : {g : Globals} {n : ℕ} → n ≤ k → Within k (Run.returned g n)
-  stopped : {m p : ℕ} → Within k (Run.stopped m p)
+  stopped : {m : Reason} {p : ℕ} → Within k (Run.stopped m p)
 
 -- an instruction is one
-given_within : {k : ℕ} (f : Frame) (to m : ℕ) (st : List Value) (o : Option Value) → f.steps + 1 ≤ k → Within k (given f to m st o)
+given_within : {k : ℕ} (f : Frame) (to : ℕ) (m : Reason) (st : List Value) (o : Option Value) → f.steps + 1 ≤ k → Within k (given f to m st o)
 given_within f to m st (some v) h = Within.on h
 given_within f to m st none h = Within.stopped
 

@@ -1,17 +1,19 @@
 -- The instructions that put a value, and those that do not: what the definition makes of each.
-use Rattle.std.proofs.Common.{◌≡◌, ℕ, zero, suc, ◌+◌, ◌-◌, ◌<◌, ◌≤◌, Bool, true, false, T, eqb, List, ◌∷◌, get_or, set, sym, refl, ap, ◌∙◌, subst, arith}
-use mathlib.Core.Option.{Option, none, some}
+use Rattle.std.proofs.Common.{◌≡◌, ℕ, zero, suc, ◌+◌, ◌-◌, ◌<◌, ◌≤◌, Bool, true, false, T, List, ◌∷◌, get_or, set, sym, refl, ap, ◌∙◌, subst, arith}
+use Rattle.std.specs.Prelude.{Option, None as none, Some as some, Ok, Err}
 use Rattle.definition.specs.Basic.{pick}
 use Rattle.definition.specs.Opcode.{instr, size}
 use Rattle.definition.specs.Bytecode.{Const}
 use Rattle.definition.specs.Effect.{taken, takes, gives, falls, flow_of}
-use Rattle.trial.specs.Value.{Value, integer, boolean, null, Infix, Prefix, truthy}
-use Rattle.trial.specs.Run.{Action, actions, integer_in, is_some, Frame, frame, Run, top, below, moved, given, acted, execute}
+use Rattle.trial.specs.Value.{Value, Infix, Prefix, truthy}
+use Rattle.trial.specs.Run.{Action, actions, Frame, frame, Run, top, below, moved, given, acted, execute}
 use Rattle.trial.specs.Cells.{Keeps, Stacked, kinds_at, stack_at, stack_kinds_at}
-use Rattle.trial.specs.Machine.{InfixAt, PrefixAt, Produces, Runs, product, reason_of, Framed, After}
+use Rattle.trial.specs.Machine.{InfixAt, PrefixAt, Produces, Runs, product, reason_of, KeptAt, goes_on, Framed, After}
 use Rattle.trial.specs.declared.machine.State.{State}
-use Rattle.trial.specs.declared.machine.Stepped.TheVariants.{On, Returned, Stopped}
-use Rattle.trial.proofs.Memory.{keeps_as, top_kept, below_kept, push_globals, push_stack, set-globals, set_stack}
+use Rattle.std.specs.declared.ops.ControlFlow.TheVariants.{Continue, Break}
+use Rattle.definition.specs.Number.{refusal}
+use Rattle.trial.proofs.Memory.{below_kept, push_globals, push_stack, set-globals, set_stack}
+use Rattle.definition.specs.declared.reason.Reason.{Reason}
 
 -- an operator's action, and what it takes
 pub infix_action : {n : ℕ} {o : Infix} → InfixAt n o → get_or actions n Action.other ≡ Action.combine o
@@ -132,82 +134,77 @@ module _ (cs : List Const) (k to : ℕ) (f : Frame) where
   acts (Produces.infixed i) = infix_acts i
 
 -- no value, or one
-given_none : {w : List ℕ} (f : Frame) (to n : ℕ) (st : List Value) {k v : ℕ} {o : Option Value} → Keeps k v o → k ≡ 0 → After w f.at (Stopped n) (given f to n st o)
-given_none f to n st Keeps.nothing e = After.stopped
-given_none f to n st (Keeps.number h) e = absurd (omega arith)
-given_none f to n st Keeps.yes e = absurd (omega arith)
-given_none f to n st Keeps.no e = absurd (omega arith)
-given_none f to n st Keeps.empty e = absurd (omega arith)
+given_none : {w : List ℕ} (f : Frame) (to : ℕ) (n : Reason) (st : List Value) {o : Option Value} → o ≡ none → After w f.at (Err (refusal n (3 + f.at))) (given f to n st o)
+given_none {w} f to n st e = subst (λ o. After w f.at (Err (refusal n (3 + f.at))) (given f to n st o)) (sym e) After.stopped
 
-given_some : {w : List ℕ} {s : State} (f : Frame) (to n : ℕ) (st : List Value) {k v : ℕ} {o : Option Value} → Keeps k v o → (k ≡ 0 → ⊥) → ((x : Value) → Keeps k v (some x) → After w f.at (On s) (moved f to (x ∷ st) f.globals)) → After w f.at (On s) (given f to n st o)
-given_some f to n st Keeps.nothing e g = absurd (e refl)
-given_some f to n st (Keeps.number h) e g = g _ (Keeps.number h)
-given_some f to n st Keeps.yes e g = g _ Keeps.yes
-given_some f to n st Keeps.no e g = g _ Keeps.no
-given_some f to n st Keeps.empty e g = g _ Keeps.empty
+given_some : {w : List ℕ} {s : State} (f : Frame) (to : ℕ) (n : Reason) (st : List Value) {o : Option Value} {x : Value} → o ≡ some x → After w f.at (Ok (Continue s)) (moved f to (x ∷ st) f.globals) → After w f.at (Ok (Continue s)) (given f to n st o)
+given_some {w} {s} f to n st e h = subst (λ o. After w f.at (Ok (Continue s)) (given f to n st o)) (sym e) h
 
 -- an instruction that puts a value, or stops
-module _ {n : ℕ} (p : Produces n) (a b : ℕ) (cs : List Const) (f : Frame) {w : List ℕ} {s : State} (h : Framed w s f) {kind word : ℕ} (k : Keeps kind word (product cs a f.stack f.globals (get_or actions n Action.other))) where
-  pub produce_stops : {r : ℕ} → r ≡ reason_of n → kind ≡ 0 → After w f.at (Stopped r) (execute cs (instr n a b) f)
-  produce_stops e z = subst (λ r. After w f.at (Stopped r) (execute cs (instr n a b) f)) (sym e) (subst (After w f.at (Stopped (reason_of n))) (sym (acts cs a (f.at + size (instr n a b)) f p)) (given_none f _ _ _ k z))
+module _ {n : ℕ} (p : Produces n) (a b : ℕ) (cs : List Const) (f : Frame) {w : List ℕ} {s : State} (h : Framed w s f) {o : Option Value} (k : o ≡ product cs a f.stack f.globals (get_or actions n Action.other)) where
+  pub produce_stops : {r : Reason} → r ≡ reason_of n → o ≡ none → After w f.at (Err (refusal r s.next)) (execute cs (instr n a b) f)
+  produce_stops {r} e z =
+      let q : refusal r s.next ≡ refusal (reason_of n) (3 + f.at) = λ j. refusal (e j) (h.stands j) in
+      subst (λ q. After w f.at (Err q) (execute cs (instr n a b) f)) (sym q)
+      (subst (After w f.at (Err (refusal (reason_of n) (3 + f.at)))) (sym (acts cs a (f.at + size (instr n a b)) f p)) (given_none f _ _ _ (sym k ∙ z)))
 
-  pub produce_goes_on : {left next : ℕ} {w₁ : List ℕ} → next ≡ 3 + (f.at + size (instr n a b)) → left + takes (instr n a b) ≡ s.height → left < 1024 → (kind ≡ 0 → ⊥)
-      → w₁ ≡ set (set w (stack_at + left) word) (stack_kinds_at + left) kind → After w₁ f.at (On (record { next = next; height = left + 1; steps = s.steps + 1 })) (execute cs (instr n a b) f)
-  produce_goes_on {left} {next} {w₁} e q l z u =
+  pub produce_goes_on : {left next : ℕ} {w₁ : List ℕ} {x : Value} → next ≡ 3 + (f.at + size (instr n a b)) → left + takes (instr n a b) ≡ s.height → left < 1024 → o ≡ some x
+      → KeptAt w (stack_at + left) x w₁ → After w₁ f.at (Ok (goes_on next (left + 1) (s.steps + 1))) (execute cs (instr n a b) f)
+  produce_goes_on {left} {next} {w₁} {x} e q l z u =
       let t = (known p).takes_is a b in
       let d : Stacked w left (dropped (get_or taken n 0) f.stack) = subst (λ m. Stacked w m (dropped (get_or taken n 0) f.stack)) (omega arith) (dropped_kept (get_or taken n 0) h.stack (omega arith)) in
-      subst (λ w₁. After w₁ f.at (On (record { next = next; height = left + 1; steps = s.steps + 1 })) (execute cs (instr n a b) f)) (sym u)
-      (subst (After (set (set w (stack_at + left) word) (stack_kinds_at + left) kind) f.at (On (record { next = next; height = left + 1; steps = s.steps + 1 }))) (sym (acts cs a (f.at + size (instr n a b)) f p))
-      (given_some f _ _ _ k z (λ x g.
+      let i : kinds_at + (stack_at + left) ≡ stack_kinds_at + left = omega arith in
+      subst (λ w₁. After w₁ f.at (Ok (goes_on next (left + 1) (s.steps + 1))) (execute cs (instr n a b) f)) (sym (u.is ∙ ap (λ j. set (set w (stack_at + left) u.word) j u.kind) i))
+      (subst (After (set (set w (stack_at + left) u.word) (stack_kinds_at + left) u.kind) f.at (Ok (goes_on next (left + 1) (s.steps + 1)))) (sym (acts cs a (f.at + size (instr n a b)) f p))
+      (given_some f _ _ _ (sym k ∙ z) (
       After.on {f = frame (f.at + size (instr n a b)) (x ∷ dropped (get_or taken n 0) f.stack) f.globals (f.steps + 1)}
-      (record { stands = e; stack = push_stack w f.globals h.globals l kind word d g; globals = push_globals w f.globals h.globals l kind word; steps = ap (λ k. k + 1) h.steps }))))
+      (record { stands = e; stack = push_stack w f.globals h.globals l u.kind u.word d u.keeps; globals = push_globals w f.globals h.globals l u.kind u.word; steps = ap (λ k. k + 1) h.steps }))))
 
 -- the other instructions
 module _ (cs : List Const) (n a b : ℕ) (f : Frame) {w : List ℕ} {s : State} (h : Framed w s f) where
-  pub return_after : n ≡ 0x16 → After w f.at (Returned (s.steps + 1)) (execute cs (instr n a b) f)
-  return_after e = subst (λ n. After w f.at (Returned (s.steps + 1)) (execute cs (instr n a b) f)) (sym e) (subst (λ k. After w f.at (Returned (k + 1)) (Run.returned f.globals (f.steps + 1))) (sym h.steps) (After.returned h.globals))
+  pub return_after : n ≡ 0x16 → After w f.at (Ok (Break (s.steps + 1))) (execute cs (instr n a b) f)
+  return_after e = subst (λ n. After w f.at (Ok (Break (s.steps + 1))) (execute cs (instr n a b) f)) (sym e) (subst (λ k. After w f.at (Ok (Break (k + 1))) (Run.returned f.globals (f.steps + 1))) (sym h.steps) (After.returned h.globals))
 
-  pub jump_after : n ≡ 0x0E → After w f.at (On (record { next = 3 + a; height = s.height; steps = s.steps + 1 })) (execute cs (instr n a b) f)
-  jump_after e = subst (λ n. After w f.at (On (record { next = 3 + a; height = s.height; steps = s.steps + 1 })) (execute cs (instr n a b) f)) (sym e)
+  pub jump_after : n ≡ 0x0E → After w f.at (Ok (goes_on (3 + a) s.height (s.steps + 1))) (execute cs (instr n a b) f)
+  jump_after e = subst (λ n. After w f.at (Ok (goes_on (3 + a) s.height (s.steps + 1))) (execute cs (instr n a b) f)) (sym e)
       (After.on {f = frame a f.stack f.globals (f.steps + 1)} (record { stands = refl; stack = h.stack; globals = h.globals; steps = ap (λ k. k + 1) h.steps }))
 
   -- where one value is taken
   module _ (l : 1 ≤ s.height) where
-    dropped_one : (to next : ℕ) → next ≡ 3 + to → After w f.at (On (record { next = next; height = s.height - 1; steps = s.steps + 1 })) (moved f to (below f.stack) f.globals)
+    dropped_one : (to next : ℕ) → next ≡ 3 + to → After w f.at (Ok (goes_on next (s.height - 1) (s.steps + 1))) (moved f to (below f.stack) f.globals)
     dropped_one to next e = After.on {f = frame to (below f.stack) f.globals (f.steps + 1)} (record { stands = e; stack = below_kept h.stack l; globals = h.globals; steps = ap (λ k. k + 1) h.steps })
 
-    pub pop_after : {next : ℕ} → n ≡ 0x02 → next ≡ 3 + (f.at + size (instr n a b)) → After w f.at (On (record { next = next; height = s.height - 1; steps = s.steps + 1 })) (execute cs (instr n a b) f)
+    pub pop_after : {next : ℕ} → n ≡ 0x02 → next ≡ 3 + (f.at + size (instr n a b)) → After w f.at (Ok (goes_on next (s.height - 1) (s.steps + 1))) (execute cs (instr n a b) f)
     pop_after {next} e q =
-        subst (λ n. After w f.at (On (record { next = next; height = s.height - 1; steps = s.steps + 1 })) (execute cs (instr n a b) f)) (sym e) (dropped_one (f.at + size (instr 0x02 a b)) next (q ∙ ap (λ n. 3 + (f.at + size (instr n a b))) e))
+        subst (λ n. After w f.at (Ok (goes_on next (s.height - 1) (s.steps + 1))) (execute cs (instr n a b) f)) (sym e) (dropped_one (f.at + size (instr 0x02 a b)) next (q ∙ ap (λ n. 3 + (f.at + size (instr n a b))) e))
 
-    pub set_after : {next kind word : ℕ} {w₁ : List ℕ} → n ≡ 0x11 → next ≡ 3 + (f.at + size (instr n a b)) → a < 1024 → kind ≡ get_or w (stack_kinds_at + (s.height - 1)) 0 → word ≡ get_or w (stack_at + (s.height - 1)) 0
-        → w₁ ≡ set (set w a word) (kinds_at + a) kind → After w₁ f.at (On (record { next = next; height = s.height - 1; steps = s.steps + 1 })) (execute cs (instr n a b) f)
-    set_after {next} {kind} {word} {w₁} e q m i j u =
-        let k : Keeps kind word (some (top f.stack)) = keeps_as i j (top_kept h.stack l) in
-        subst (λ n. After w₁ f.at (On (record { next = next; height = s.height - 1; steps = s.steps + 1 })) (execute cs (instr n a b) f)) (sym e)
-        (subst (λ w₁. After w₁ f.at (On (record { next = next; height = s.height - 1; steps = s.steps + 1 })) (execute cs (instr 0x11 a b) f)) (sym u)
+    pub set_after : {next : ℕ} {w₁ : List ℕ} {x : Value} → n ≡ 0x11 → next ≡ 3 + (f.at + size (instr n a b)) → a < 1024 → x ≡ top f.stack → KeptAt w a x w₁
+        → After w₁ f.at (Ok (goes_on next (s.height - 1) (s.steps + 1))) (execute cs (instr n a b) f)
+    set_after {next} {w₁} {x} e q m i u =
+        subst (λ n. After w₁ f.at (Ok (goes_on next (s.height - 1) (s.steps + 1))) (execute cs (instr n a b) f)) (sym e)
+        (subst (λ w₁. After w₁ f.at (Ok (goes_on next (s.height - 1) (s.steps + 1))) (execute cs (instr 0x11 a b) f)) (sym u.is)
         (After.on {f = frame (f.at + size (instr 0x11 a b)) (below f.stack) (set f.globals a (some (top f.stack))) (f.steps + 1)}
         (record {
           stands = q ∙ ap (λ n. 3 + (f.at + size (instr n a b))) e;
-          stack = set_stack w f.globals h.globals m kind word (below_kept h.stack l);
-          globals = set-globals w f.globals h.globals m kind word k;
+          stack = set_stack w f.globals h.globals m u.kind u.word (below_kept h.stack l);
+          globals = set-globals w f.globals h.globals m u.kind u.word (subst (λ x. Keeps u.kind u.word (some x)) i u.keeps);
           steps = ap (λ k. k + 1) h.steps;
         })))
 
     -- a condition, by what was answered of it
-    branch : (r : Bool) → r ≡ truthy (top f.stack) → (next : ℕ) → next ≡ 3 + pick r (f.at + size (instr 0x0D a b)) a → After w f.at (On (record { next = next; height = s.height - 1; steps = s.steps + 1 })) (execute cs (instr 0x0D a b) f)
+    branch : (r : Bool) → r ≡ truthy (top f.stack) → (next : ℕ) → next ≡ 3 + pick r (f.at + size (instr 0x0D a b)) a → After w f.at (Ok (goes_on next (s.height - 1) (s.steps + 1))) (execute cs (instr 0x0D a b) f)
     branch r e next q = dropped_one (pick (truthy (top f.stack)) (f.at + size (instr 0x0D a b)) a) next (q ∙ ap (λ r. 3 + pick r (f.at + size (instr 0x0D a b)) a) e)
 
-    pub branch_true : {next : ℕ} {r : Bool} → n ≡ 0x0D → next ≡ 3 + (f.at + size (instr n a b)) → ((x : Value) → Keeps (get_or w (stack_kinds_at + (s.height - 1)) 0) (get_or w (stack_at + (s.height - 1)) 0) (some x) → r ≡ truthy x) → r ≡ true
-        → After w f.at (On (record { next = next; height = s.height - 1; steps = s.steps + 1 })) (execute cs (instr n a b) f)
+    pub branch_true : {next : ℕ} {r : Bool} → n ≡ 0x0D → next ≡ 3 + (f.at + size (instr n a b)) → r ≡ truthy (top f.stack) → r ≡ true
+        → After w f.at (Ok (goes_on next (s.height - 1) (s.steps + 1))) (execute cs (instr n a b) f)
     branch_true {next} {r} e q t z =
-        subst (λ n. After w f.at (On (record { next = next; height = s.height - 1; steps = s.steps + 1 })) (execute cs (instr n a b) f)) (sym e)
-        (branch true (sym z ∙ t (top f.stack) (top_kept h.stack l)) next (q ∙ ap (λ n. 3 + (f.at + size (instr n a b))) e))
+        subst (λ n. After w f.at (Ok (goes_on next (s.height - 1) (s.steps + 1))) (execute cs (instr n a b) f)) (sym e)
+        (branch true (sym z ∙ t) next (q ∙ ap (λ n. 3 + (f.at + size (instr n a b))) e))
 
-    pub branch_false : {r : Bool} → n ≡ 0x0D → ((x : Value) → Keeps (get_or w (stack_kinds_at + (s.height - 1)) 0) (get_or w (stack_at + (s.height - 1)) 0) (some x) → r ≡ truthy x) → r ≡ false
-        → After w f.at (On (record { next = 3 + a; height = s.height - 1; steps = s.steps + 1 })) (execute cs (instr n a b) f)
+    pub branch_false : {r : Bool} → n ≡ 0x0D → r ≡ truthy (top f.stack) → r ≡ false
+        → After w f.at (Ok (goes_on (3 + a) (s.height - 1) (s.steps + 1))) (execute cs (instr n a b) f)
     branch_false {r} e t z =
-        subst (λ n. After w f.at (On (record { next = 3 + a; height = s.height - 1; steps = s.steps + 1 })) (execute cs (instr n a b) f)) (sym e) (branch false (sym z ∙ t (top f.stack) (top_kept h.stack l)) (3 + a) refl)
+        subst (λ n. After w f.at (Ok (goes_on (3 + a) (s.height - 1) (s.steps + 1))) (execute cs (instr n a b) f)) (sym e) (branch false (sym z ∙ t) (3 + a) refl)
 
 -- what is taken where nothing is put
 pub pop_takes : (n a b : ℕ) → n ≡ 0x02 → takes (instr n a b) ≡ 1
@@ -227,21 +224,3 @@ runs_left Runs.jump a b c d e = absurd (b refl)
 runs_left Runs.set_global a b c d e = absurd (d refl)
 runs_left Runs.return_value a b c d e = absurd (a refl)
 runs_left (Runs.produces p) a b c d e = p
-
--- an integer's kind
-abbrev is_integer : Value → Bool
-is_integer (integer z) = true
-is_integer (boolean b) = false
-is_integer null = false
-
-kind_integer : {k w : ℕ} {v : Value} → Keeps k w (some v) → is_integer v ≡ true → eqb k 1 ≡ true
-kind_integer (Keeps.number h) e = refl
-kind_integer Keeps.yes e = e
-kind_integer Keeps.no e = e
-kind_integer Keeps.empty e = e
-
-pub integer_kind : (x : Option Const) {k w : ℕ} → Keeps k w (integer_in x) → eqb k 1 ≡ is_some (integer_in x)
-integer_kind none Keeps.nothing = refl
-integer_kind (some (Const.integer b)) h = kind_integer h refl
-integer_kind (some (Const.string b)) Keeps.nothing = refl
-integer_kind (some (Const.function l p c)) Keeps.nothing = refl

@@ -1,6 +1,6 @@
 -- The stack of a trial run has the height that P9 gives to the instruction that it stands before: where P9 finds that each has enough, none finds too little.
 use Rattle.std.proofs.Common.{◌≡◌, ℕ, zero, suc, ◌+◌, ◌≤◌, T, List, [], ◌∷◌, length, get_or, sym, refl, ◌∙◌, subst, arith}
-use mathlib.Core.Option.{Option, none, some}
+use Rattle.std.specs.Prelude.{Option, None as none, Some as some}
 use Rattle.definition.specs.Opcode.{Instr, size}
 use Rattle.definition.specs.Bytecode.{Code, Const}
 use Rattle.definition.specs.Trusted.{Stands, constant_at}
@@ -11,6 +11,7 @@ use Rattle.trial.specs.Run.{Action, actions, integer_in, Frame, frame, Run, top,
 use Rattle.definition.proofs.Basic.{chosen}
 use Rattle.heights.specs.Judgement.{Reaches}
 use Rattle.trial.proofs.Executes.{pass-part}
+use Rattle.definition.specs.declared.reason.Reason.{Reason}
 
 -- an action takes and gives what P9's tables say, and goes on xs they say
 data Row : Action → ℕ → Besides → ℕ → Flow → Type 0 where
@@ -54,14 +55,14 @@ below_length (v ∷ st) h = omega arith
 pub data KeepsHeight (c : Code) : Run → Type 0 where
   on : {f : Frame} → Reaches c f.at (length f.stack) → KeepsHeight c (Run.on f)
   returned : {g : Globals} {n : ℕ} → KeepsHeight c (Run.returned g n)
-  stopped : {k p : ℕ} → KeepsHeight c (Run.stopped k p)
+  stopped : {k : Reason} {p : ℕ} → KeepsHeight c (Run.stopped k p)
 
 -- each instruction that is reached finds enough
 pub record Enough (c : Code) : Type 0 where
   pub there : {i : Instr} {p x : ℕ} → Stands i p c → Reaches c p x → takes i ≤ x
 
 module _ (pool : List Const) {c : Code} (l : Enough c) where
-  given_height : (f : Frame) (to m : ℕ) (st : List Value) (o : Option Value) → Reaches c to (suc (length st)) → KeepsHeight c (given f to m st o)
+  given_height : (f : Frame) (to : ℕ) (m : Reason) (st : List Value) (o : Option Value) → Reaches c to (suc (length st)) → KeepsHeight c (given f to m st o)
   given_height f to m st (some v) h = KeepsHeight.on h
   given_height f to m st none h = KeepsHeight.stopped
 

@@ -12,18 +12,19 @@ use Rattle.heights.proofs.Positions.{Behind, behind_it}
 use Rattle.trial.specs.Value.{Globals}
 use Rattle.trial.specs.Run.{Action, actions, runnable_as, Frame, frame, Run, execute, come_to, pass, Trial, trial_of, trial, unset_globals}
 use Rattle.trial.specs.Cells.{Stacked, Keeping, stack_limit}
-use Rattle.trial.specs.Machine.{Runs, StepReady, Framed, After, EndsAs, Safe}
+use Rattle.trial.specs.Machine.{Runs, StepReady, Step, Framed, After, EndsAs, Safe}
 use Rattle.trial.specs.declared.machine.State.{State}
-use Rattle.trial.specs.declared.machine.Stepped.{Stepped}
-use Rattle.trial.specs.declared.machine.Stepped.TheVariants.{On, Returned, Stopped}
-use Rattle.trial.specs.declared.machine.Ended.{Ended}
-use Rattle.trial.specs.declared.machine.Ended.TheVariants.{Ran, Stopped as EndStopped}
+use Rattle.std.specs.Prelude.{Result, Ok, Err, IsErrAnd}
+use Rattle.std.specs.declared.ops.ControlFlow.TheVariants.{Continue, Break}
+use Rattle.definition.specs.Number.{refusal}
+use Rattle.definition.specs.declared.reason.Refusal.{Refusal}
 use Rattle.trial.proofs.Passes.{comes_run, leaves_out, Within, pass_within}
 use Rattle.trial.proofs.RunHeights.{KeepsHeight, execute_height}
 use Rattle.trial.proofs.Memory.{stacked_length}
 use Rattle.trial.proofs.ByByte.{runs}
 use Rattle.trial.proofs.Producing.{known}
 use Rattle.trial.proofs.CodeLoop as CodeLoop
+use Rattle.definition.specs.declared.reason.Reason.{Reason}
 
 -- where a run starts
 abbrev begin : Run
@@ -35,7 +36,7 @@ record Went (w : List ℕ) (t : State) (r : Run) : Type 0 where
   is : r ≡ Run.on frame
   framed : Framed w t frame
 
-went : {w : List ℕ} {p : ℕ} {a : Stepped} {r : Run} {t : State} → After w p a r → a ≡ On t → Went w t r
+went : {w : List ℕ} {p : ℕ} {a : Step} {r : Run} {t : State} → After w p a r → a ≡ Ok (Continue t) → Went w t r
 went {w} {t = t} (After.on {s} {f} h) e = let q : s ≡ t = cc in record { frame = f; is = refl; framed = subst (λ s. Framed w s f) q h }
 went {t = t} (After.returned {n = n} k) e = let z : ◌≡◌ {A = ℕ} 0 1 = cc in absurd (omega arith)
 went {t = t} (After.stopped {k = k}) e = let z : ◌≡◌ {A = ℕ} 0 1 = cc in absurd (omega arith)
@@ -45,18 +46,28 @@ record Came (w : List ℕ) (n : ℕ) (r : Run) : Type 0 where
   is : r ≡ Run.returned globals n
   keeping : Keeping w globals
 
-came : {w : List ℕ} {p : ℕ} {a : Stepped} {r : Run} {n : ℕ} → After w p a r → a ≡ Returned n → Came w n r
+came : {w : List ℕ} {p : ℕ} {a : Step} {r : Run} {n : ℕ} → After w p a r → a ≡ Ok (Break n) → Came w n r
 came {n = n} (After.on {s} {f} h) e = let z : ◌≡◌ {A = ℕ} 0 1 = cc in absurd (omega arith)
 came {n = n} (After.returned {g} {n = k} q) e = let i : k ≡ n = cc in record { globals = g; is = ap (Run.returned g) i; keeping = q }
 came {n = n} (After.stopped {k = k}) e = let z : ◌≡◌ {A = ℕ} 0 1 = cc in absurd (omega arith)
 
-halted : {w : List ℕ} {p : ℕ} {a : Stepped} {r : Run} {n : ℕ} → After w p a r → a ≡ Stopped n → r ≡ Run.stopped n p
-halted {n = n} (After.on {s} {f} h) e = let z : ◌≡◌ {A = ℕ} 0 1 = cc in absurd (omega arith)
-halted {n = n} (After.returned {g} {n = k} q) e = let z : ◌≡◌ {A = ℕ} 0 1 = cc in absurd (omega arith)
-halted {p = p} {n = n} (After.stopped {k = k}) e = let i : k ≡ n = cc in ap (λ n. Run.stopped n p) i
+record Halted (p : ℕ) (q : Refusal) (r : Run) : Type 0 where
+  reason : Reason
+  is : r ≡ Run.stopped reason p
+  refusal_is : q ≡ refusal reason (3 + p)
+
+halted : {w : List ℕ} {p : ℕ} {a : Step} {r : Run} {q : Refusal} → After w p a r → a ≡ Err q → Halted p q r
+halted {q = q} (After.on {s} {f} h) e = let z : ◌≡◌ {A = ℕ} 0 1 = cc in absurd (omega arith)
+halted {q = q} (After.returned {g} {n = k} h) e = let z : ◌≡◌ {A = ℕ} 0 1 = cc in absurd (omega arith)
+halted {p = p} {q = q} (After.stopped {k = k}) e = record { reason = k; is = refl; refusal_is = cc }
+
+-- what `?` hands on
+pub handed : {A B : Type 0} (r : Result A B) (e : B) → IsErrAnd r (λ x. x ≡ e) → r ≡ Err e
+handed (Ok a) e h = absurd h
+handed (Err x) e h = ap Err h
 
 -- of the one image
-pub for_image : {w : List ℕ} {e : Ended} {m n : Image} → m ≡ n → EndsAs w e (trial m) → EndsAs w e (trial n)
+pub for_image : {w : List ℕ} {e : Result ℕ Refusal} {m n : Image} → m ≡ n → EndsAs w e (trial m) → EndsAs w e (trial n)
 for_image {w} {e} q h = subst (λ (m : Image). EndsAs w e (trial m)) q h
 
 -- the pass, one instruction more
@@ -133,11 +144,11 @@ module _ (b : Bytes) (end pool : ℕ) (m : Image) (h : CodeAt b 3 end m.code) (c
 
   module _ {w : List ℕ} {at : ℕ} {s : State} (l : RunLoop w at s) where
     -- at the end
-    pub run_ends : end ≤ at → EndsAs w (Ran s.steps) (trial m)
+    pub run_ends : end ≤ at → EndsAs w (Ok s.steps) (trial m)
     run_ends g =
         let q = CodeLoop.code_ends b end h l.behind g in
         let t : trial m ≡ Trial.ran l.frame.globals s.steps = ap trial_of (ap (λ c. pass m.pool 0 c begin) (sym q) ∙ l.run) ∙ ap (Trial.ran l.frame.globals) (sym l.framed.steps) in
-        subst (EndsAs w (Ran s.steps)) (sym t) (EndsAs.ran l.framed.globals)
+        subst (EndsAs w (Ok s.steps)) (sym t) (EndsAs.ran l.framed.globals)
 
     pub few_steps : end ≤ 65536 → s.steps ≤ 131072
     few_steps g =
@@ -174,8 +185,8 @@ module _ (b : Bytes) (end pool : ℕ) (m : Image) (h : CodeAt b 3 end m.code) (c
         height_is : s.height ≡ length l.frame.stack
         height_is = stacked_length l.framed.stack
 
-        module _ {w₁ : List ℕ} {r : Stepped} (a : After w₁ l.frame.at r (execute m.pool i l.frame)) where
-          pub run_again : {t : State} → r ≡ On t → RunLoop w₁ after t
+        module _ {w₁ : List ℕ} {r : Step} (a : After w₁ l.frame.at r (execute m.pool i l.frame)) where
+          pub run_again : {t : State} → r ≡ Ok (Continue t) → RunLoop w₁ after t
           run_again e =
               let g = went a e in
               record {
@@ -188,17 +199,17 @@ module _ (b : Bytes) (end pool : ℕ) (m : Image) (h : CodeAt b 3 end m.code) (c
               }
 
           module _ (rest : (P : Code → Type 0) → ((x : Instr) (xs : Code) → P xs → P (x ∷ xs)) → P (i ∷ l.code) → P m.code) where
-            pub run_returns : {n : ℕ} → r ≡ Returned n → EndsAs w₁ (Ran n) (trial m)
+            pub run_returns : {n : ℕ} → r ≡ Ok (Break n) → EndsAs w₁ (Ok n) (trial m)
             run_returns {n} e =
                 let g = came a e in
                 let q = rest (λ c. pass m.pool 0 c begin ≡ Run.returned g.globals n) (λ x xs p. pass_more m.pool x xs begin ∙ ap (come_to m.pool (0 + size_of xs) x) p) (executed ∙ g.is) in
-                subst (EndsAs w₁ (Ran n)) (sym (ap trial_of q)) (EndsAs.ran g.keeping)
+                subst (EndsAs w₁ (Ok n)) (sym (ap trial_of q)) (EndsAs.ran g.keeping)
 
-            pub run_stops : {n : ℕ} → r ≡ Stopped n → EndsAs w₁ (EndStopped n at) (trial m)
-            run_stops {n} e =
-                let q = rest (λ c. pass m.pool 0 c begin ≡ Run.stopped n l.frame.at) (λ x xs p. pass_more m.pool x xs begin ∙ ap (come_to m.pool (0 + size_of xs) x) p) (executed ∙ halted a e) in
-                let z : 3 + l.frame.at ≡ at = omega (arith, l.behind.size_is, position) in
-                subst (EndsAs w₁ (EndStopped n at)) (sym (ap trial_of q ∙ ap (Trial.stopped n) z)) EndsAs.stopped
+            pub run_stops : {q : Refusal} → r ≡ Err q → EndsAs w₁ (Err q) (trial m)
+            run_stops {q} e =
+                let g = halted a e in
+                let d = rest (λ c. pass m.pool 0 c begin ≡ Run.stopped g.reason l.frame.at) (λ x xs p. pass_more m.pool x xs begin ∙ ap (come_to m.pool (0 + size_of xs) x) p) (executed ∙ g.is) in
+                subst (λ q. EndsAs w₁ (Err q) (trial m)) (sym g.refusal_is) (subst (EndsAs w₁ (Err (refusal g.reason (3 + l.frame.at)))) (sym (ap trial_of d)) EndsAs.stopped)
 
     -- the step can be made
     pub step_ready : {op x y after : ℕ} → at ≡ s.next → Stands (instr op x y) (size_of l.code) m.code → after ≤ end → end ≤ 65536 → StepReady w b pool (instr op x y) after s × Runs op

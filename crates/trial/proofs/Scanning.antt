@@ -1,6 +1,6 @@
 -- Going over main: number 27, and the globals named.
 use Rattle.std.proofs.Common.{◌≡◌, ℕ, ◌+◌, ◌<◌, ◌≤◌, Bool, true, false, ltb, leb, List, [], ◌∷◌, get_or, sym, refl, ap, ◌∙◌, arith, ltb-true, le-leb, leb-true}
-use mathlib.Core.Option.{Option, none, some}
+use Rattle.std.specs.Prelude.{Option, None as none, Some as some, Ok, Err}
 use borrow.Author.Tests.{lt-leb}
 use Rattle.definition.specs.Basic.{Bytes, pick, both}
 use Rattle.definition.specs.Opcode.{Instr}
@@ -15,7 +15,8 @@ use Rattle.trial.specs.Run.{Action, push, combine, change, constant, pop, jump_n
 use Rattle.trial.specs.Output.{names_as, named_globals}
 use Rattle.trial.specs.Cells.{stack_limit}
 use Rattle.trial.specs.Call.{taken, first_refused, scan_answer}
-use Rattle.trial.specs.declared.scan.Scanned.TheVariants.{Names, Refuses}
+use Rattle.definition.specs.Number.{refusal}
+use Rattle.definition.specs.Number
 use Rattle.trial.proofs.CodeLoop.{Behind, code-begins, code_ends}
 
 module _ (pool : List Const) (f : Marks) where
@@ -98,24 +99,24 @@ module _ (b : Bytes) (end : ℕ) (l : List ℕ) (m : Image) (h : CodeAt b 3 end 
   scan_begins = record { code = []; behind = code-begins b end h; clear = refused_none m.pool (marks_from l 3); names_are = sym named_none }
 
   module _ {at names : ℕ} (s : ScanLoop at names) where
-    pub scan_ends : end ≤ at → Names names ≡ scan_answer (first_refused m.pool (marks_from l 3) m.code) (named_globals m.code)
+    pub scan_ends : end ≤ at → Ok names ≡ scan_answer (first_refused m.pool (marks_from l 3) m.code) (named_globals m.code)
     scan_ends g =
         let q = code_ends b end h s.behind g in
-        ap Names (s.names_are ∙ ap named_globals q) ∙ sym (ap (λ o. scan_answer o (named_globals m.code)) (ap (first_refused m.pool (marks_from l 3)) (sym q) ∙ s.clear))
+        ap Ok (s.names_are ∙ ap named_globals q) ∙ sym (ap (λ o. scan_answer o (named_globals m.code)) (ap (first_refused m.pool (marks_from l 3)) (sym q) ∙ s.clear))
 
     marks-at : get_or l at 0 ≡ marks_from l 3 (size_of s.code)
     marks-at = ap (λ n. get_or l n 0) (sym s.behind.size_is)
 
     module _ {i : Instr} (rest : (P : Code → Type 0) → ((x : Instr) (xs : Code) → P xs → P (x ∷ xs)) → P (i ∷ s.code) → P m.code) where
-      refuses : taken m.pool (marks_from l 3) (size_of s.code) i ≡ false → Refuses at ≡ scan_answer (first_refused m.pool (marks_from l 3) m.code) (named_globals m.code)
+      refuses : taken m.pool (marks_from l 3) (size_of s.code) i ≡ false → Err (refusal Number.not_runnable at) ≡ scan_answer (first_refused m.pool (marks_from l 3) m.code) (named_globals m.code)
       refuses t =
           let r = rest (λ c. first_refused m.pool (marks_from l 3) c ≡ some (size_of s.code)) (λ x xs p. refused_stays m.pool (marks_from l 3) x xs p) (refused_next m.pool (marks_from l 3) false i s.code s.clear t) in
-          ap Refuses (sym s.behind.size_is) ∙ sym (ap (λ o. scan_answer o (named_globals m.code)) r)
+          ap (λ p. Err (refusal Number.not_runnable p)) (sym s.behind.size_is) ∙ sym (ap (λ o. scan_answer o (named_globals m.code)) r)
 
-      pub not-runnable : runnable m.pool i ≡ false → Refuses at ≡ scan_answer (first_refused m.pool (marks_from l 3) m.code) (named_globals m.code)
+      pub not-runnable : runnable m.pool i ≡ false → Err (refusal Number.not_runnable at) ≡ scan_answer (first_refused m.pool (marks_from l 3) m.code) (named_globals m.code)
       not-runnable e = refuses (ap (λ b. both b (leb (marks_from l 3 (size_of s.code)) (2 + stack_limit))) e)
 
-      pub too_high : runnable m.pool i ≡ true → 1026 < get_or l at 0 → Refuses at ≡ scan_answer (first_refused m.pool (marks_from l 3) m.code) (named_globals m.code)
+      pub too_high : runnable m.pool i ≡ true → 1026 < get_or l at 0 → Err (refusal Number.not_runnable at) ≡ scan_answer (first_refused m.pool (marks_from l 3) m.code) (named_globals m.code)
       too_high e g = refuses (λ j. both (e j) (lt-leb (marks_from l 3 (size_of s.code)) (2 + stack_limit) (omega (arith, marks-at)) j))
 
     pub scan_again : {i : Instr} {after names₁ : ℕ} → Behind b end h (i ∷ s.code) after → runnable m.pool i ≡ true → get_or l at 0 ≤ 1026 → names₁ ≡ names_as names i.a (action_of i) → ScanLoop after names₁

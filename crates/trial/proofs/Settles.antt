@@ -1,6 +1,6 @@
 -- A run of statements and their value: the last statement's value is what their last Pop drops, so a branch without that Pop leaves it.
 use Rattle.std.proofs.Common.{◌≡◌, ℕ, ◌+◌, Bool, true, false, eqb, List, [], ◌∷◌, ◌++◌, get_or, set, sym, refl, ap, ◌∙◌, subst, arith}
-use mathlib.Core.Option.{Option, none, some}
+use Rattle.std.specs.Prelude.{Option, None as none, Some as some}
 use Rattle.definition.specs.Basic.{pick}
 use Rattle.definition.specs.Opcode.{Instr, instr, plain, size, op_pop, op_set_global, op_return_value}
 use Rattle.definition.specs.Bytecode.{Code, size_of, Const}
@@ -11,6 +11,7 @@ use Rattle.definition.proofs.Emits.{size_of-append}
 use Rattle.definition.proofs.Account.{Yields}
 use Rattle.trial.proofs.Passes.{comes_run, pass-append, pass-returned, pass-stopped}
 use Rattle.trial.proofs.Meets.{Meets, Gives}
+use Rattle.definition.specs.declared.reason.Reason.{Reason}
 
 -- a run through code from a position
 abbrev pub ran_through : List Const → ℕ → Code → List Value → Globals → ℕ → Run
@@ -24,7 +25,7 @@ pub data Settles (pool : List Const) (at : ℕ) (st : List Value) (last : Option
   bound : {i : Instr} {c : Code} {h : Globals} {m : ℕ} → i.op ≡ op_set_global → ran_through pool at (i ∷ c) st g n ≡ Run.on (frame (at + size_of (i ∷ c)) st h m)
       → Settles pool at st last g n (i ∷ c) (Evaluated.on none h)
   returned : {c : Code} {h : Globals} {m : ℕ} → ran_through pool at c st g n ≡ Run.returned h m → Settles pool at st last g n c (Evaluated.returned h)
-  stopped : {c : Code} {k p : ℕ} → ran_through pool at c st g n ≡ Run.stopped k p → Settles pool at st last g n c (Evaluated.stopped k)
+  stopped : {c : Code} {k : Reason} {p : ℕ} → ran_through pool at c st g n ≡ Run.stopped k p → Settles pool at st last g n c (Evaluated.stopped k)
 
 module _ {pool : List Const} {at : ℕ} {st : List Value} {g : Globals} {n : ℕ} where
   -- an instruction behind an expression
@@ -128,7 +129,7 @@ module _ {pool : List Const} {at : ℕ} {st : List Value} {g : Globals} {n : ℕ
   gives-returned {c} {h} e = record { meets = subst (λ s. Meets (at + size_of c) st s (Evaluated.returned h)) (sym e) Meets.returned }
 
   -- nor one that stopped
-  gives-stopped : {c : Code} {k p : ℕ} → ran_through pool at c st g n ≡ Run.stopped k p → Gives pool at c st st g n (Evaluated.stopped k)
+  gives-stopped : {c : Code} {k : Reason} {p : ℕ} → ran_through pool at c st g n ≡ Run.stopped k p → Gives pool at c st st g n (Evaluated.stopped k)
   gives-stopped {c} {k} e = record { meets = subst (λ s. Meets (at + size_of c) st s (Evaluated.stopped k)) (sym e) Meets.stopped }
 
   -- a branch as it stays gives its value

@@ -1,7 +1,11 @@
 -- The bytes written of the globals.
-use Rattle.std.proofs.Common.{◌≡◌, ℕ, zero, suc, ◌+◌, ◌*◌, ◌/◌, ◌%◌, ◌<◌, ◌≤◌, List, [], ◌∷◌, ◌++◌, length, get_or, set, sym, refl, ap, ◌∙◌, append_assoc, append-nil, arith, length-append, length-set}
-use mathlib.Core.Option.{Option, none}
-use lib.Seq.{sets, set_comm}
+use Rattle.std.proofs.Common.{◌≡◌, ℕ, zero, suc, ◌+◌, ◌-◌, ◌*◌, ◌/◌, ◌%◌, ◌<◌, ◌≤◌, List, [], ◌∷◌, ◌++◌, length, get_or, set, take, drop, take_all, sym, refl, ap, ◌∙◌, arith, length-append, length-set}
+use Rattle.std.specs.Prelude.{Option, None as none}
+use lib.Seq.{sets}
+use Rattle.std.specs.Int.{to_be_bytes, w64}
+use Rattle.std.proofs.lemmas.List.Edits.{sets-eq}
+use Rattle.std.proofs.lemmas.Slice.{put_mid-paste}
+use borrow.Rule.Slice.PartMut.{put_mid}
 use Rattle.definition.specs.Basic.{Bytes}
 use Rattle.definition.specs.Output.{over}
 use Rattle.session.proofs.Stores.{sets_append, sets_over}
@@ -9,47 +13,6 @@ use Rattle.trial.specs.Value.{Value, Globals}
 use Rattle.trial.specs.Output.{bytes_in, cell, cell_of, shown}
 use Rattle.trial.specs.Cells.{Keeps, Keeping, kinds_at}
 use Rattle.trial.proofs.Words.{word_law}
-
--- a store before others
-pub sets_before : (vs l : Bytes) (i j x : ℕ) → i < j → set (sets l j vs) i x ≡ sets (set l i x) j vs
-sets_before [] l i j x h = refl
-sets_before (v ∷ vs) l i j x h = sets_before vs (set l j v) i (suc j) x (omega arith) ∙ ap (λ l. sets l (suc j) vs) (set_comm l j i v x (λ e. omega arith))
-
--- the loop that writes a word from its last byte on
-module _ (o₀ : Bytes) (at word : ℕ) where
-  pub record WordLoop (o : Bytes) (rest k : ℕ) : Type 0 where
-    pub tail : Bytes
-    pub whole : bytes_in 8 word ≡ bytes_in k rest ++ tail
-    pub stored : o ≡ sets o₀ (at + k) tail
-    pub small : k ≤ 8
-    pub same : length o ≡ length o₀
-
-  pub word-begins : WordLoop o₀ word 8
-  word-begins = record { tail = []; whole = sym (append-nil (bytes_in 8 word)); stored = refl; small = omega arith; same = refl }
-
-  last_byte : (k rest : ℕ) → bytes_in (suc k) rest ≡ bytes_in k (rest / 256) ++ (rest % 256 ∷ [])
-  unfolding bytes_in
-  last_byte k rest = refl
-
-  no_byte : (rest : ℕ) → bytes_in 0 rest ≡ []
-  unfolding bytes_in
-  no_byte rest = refl
-
-  pub word_again : {o o₁ : Bytes} {rest k k₁ : ℕ} → WordLoop o rest k → k ≡ suc k₁ → o₁ ≡ set o (at + k₁) (rest % 256) → WordLoop o₁ (rest / 256) k₁
-  word_again {o} {rest = rest} {k} {k₁} l e s =
-      let p : at + k ≡ suc (at + k₁) = omega arith in
-      record {
-        tail = rest % 256 ∷ l.tail;
-        whole = l.whole ∙ ap (λ k. bytes_in k rest ++ l.tail) e ∙ ap (λ b. b ++ l.tail) (last_byte k₁ rest) ∙ append_assoc (bytes_in k₁ (rest / 256)) (rest % 256 ∷ []) l.tail;
-        stored = s ∙ ap (λ o. set o (at + k₁) (rest % 256)) (l.stored ∙ ap (λ j. sets o₀ j l.tail) p) ∙ sets_before l.tail o₀ (at + k₁) (suc (at + k₁)) (rest % 256) (omega arith);
-        small = omega (arith, l.small);
-        same = ap length s ∙ length-set o (at + k₁) (rest % 256) ∙ l.same;
-      }
-
-  pub word_ends : {o : Bytes} {rest k : ℕ} → WordLoop o rest k → k ≡ 0 → o ≡ sets o₀ at (bytes_in 8 word)
-  word_ends {rest = rest} {k} l e =
-      let p : at + k ≡ at = omega arith in
-      l.stored ∙ ap (λ j. sets o₀ j l.tail) p ∙ ap (sets o₀ at) (sym (l.whole ∙ ap (λ k. bytes_in k rest ++ l.tail) e ∙ ap (λ b. b ++ l.tail) (no_byte rest)))
 
 -- a kind and a word are the bytes of their value
 pub cell_kept : {k w : ℕ} {o : Option Value} → Keeps k w o → cell k w ≡ cell_of o
@@ -100,12 +63,27 @@ pub shown_none : (g : Globals) (o : Bytes) → o ≡ sets o 0 (shown 0 g)
 unfolding shown
 shown_none g o = refl
 
--- a kind, then a word
-pub cell-stored : (o : Bytes) (at kind word : ℕ) {o₁ : Bytes} → o₁ ≡ sets (set o at kind) (at + 1) (bytes_in 8 word) → o₁ ≡ sets o at (cell kind word)
-cell-stored o at kind word e = let q : at + 1 ≡ suc at = omega arith in e ∙ ap (λ j. sets (set o at kind) j (bytes_in 8 word)) q
+-- a word in eight bytes, as the library writes it
+pub word_bytes : (n : ℕ) → to_be_bytes w64 n ≡ bytes_in 8 n
+unfolding bytes_in
+word_bytes n =
+    let a : n / 65536 ≡ n / 256 / 256 = omega arith in
+    let b : n / 16777216 ≡ n / 256 / 256 / 256 = omega arith in
+    let c : n / 4294967296 ≡ n / 256 / 256 / 256 / 256 = omega arith in
+    let d : n / 1099511627776 ≡ n / 256 / 256 / 256 / 256 / 256 = omega arith in
+    let e : n / 281474976710656 ≡ n / 256 / 256 / 256 / 256 / 256 / 256 = omega arith in
+    let f : n / 72057594037927936 ≡ n / 256 / 256 / 256 / 256 / 256 / 256 / 256 = omega arith in
+    λ j. f j % 256 ∷ e j % 256 ∷ d j % 256 ∷ c j % 256 ∷ b j % 256 ∷ a j % 256 ∷ n / 256 % 256 ∷ n % 256 ∷ []
 
--- the loop over the globals
-pub record GlobalsLoop (o₀ : Bytes) (w : List ℕ) (n : ℕ) (o : Bytes) (k : ℕ) : Type 0 where
-  pub order : k ≤ n
-  pub same : length o ≡ length o₀
-  pub shows : (g : Globals) → Keeping w g → o ≡ sets o₀ 0 (shown k g)
+-- a kind, then a word
+pub cell-stored : (o : Bytes) (at kind word : ℕ) {b : Bytes} → at + 9 ≤ length o → b ≡ to_be_bytes w64 word → put_mid (at + 1) (at + 9 - (at + 1)) (set o at kind) b ≡ sets o at (cell kind word)
+cell-stored o at kind word {b} h e =
+    let p = set o at kind in
+    let v = bytes_in 8 word in
+    let l = length-set o at kind in
+    let q : at + 1 ≡ suc at = omega arith in
+    put_mid-paste (at + 1) (at + 9 - (at + 1)) p b v 8 (e ∙ word_bytes word) (omega arith) (sym (bytes_long 8 word))
+    ∙ ap (λ t. take (at + 1) p ++ t ++ drop (at + 1 + 8) p) (take_all 8 v (omega (arith, bytes_long 8 word)))
+    ∙ ap (λ k. take (at + 1) p ++ v ++ drop (at + 1 + k) p) (sym (bytes_long 8 word))
+    ∙ sym (sets-eq v p (at + 1) (omega (arith, l, bytes_long 8 word)))
+    ∙ ap (λ j. sets p j v) q

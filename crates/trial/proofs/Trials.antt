@@ -1,7 +1,8 @@
 -- P13: a trial run of an accepted tree's main code gives the globals that evaluating the tree gives, or a stop of the same number.
 use Rattle.std.proofs.Common.{◌≡◌, ℕ, ◌+◌, Bool, true, false, T, eqb, leb, List, [], ◌∷◌, length, get_or, set, sym, refl, ap, ◌∙◌, subst, subst₂, append-nil, arith, eqb-true}
-use mathlib.Core.Option.{Option, none, some}
-use Rattle.trial.specs.Stop
+use Rattle.std.proofs.Math.Option.{Option as Found, none as missing, some as found}
+use Rattle.std.specs.Prelude.{Option, None as none, Some as some}
+use Rattle.definition.specs.Number
 use Rattle.definition.specs.Basic.{Bytes, pick}
 use Rattle.definition.specs.Number
 use Rattle.definition.specs.Number.{refusal}
@@ -14,7 +15,7 @@ use Rattle.definition.specs.Compiler.{State, machine}
 use Rattle.definition.specs.Session.{Words, begun}
 use Rattle.definition.specs.Tree.{Parsed, read_tree}
 use Rattle.definition.specs.Compile.{Outcome, Request, start, image_of, session_of, turned_down, finish, translate, enough, compile}
-use Rattle.definition.specs.declared.Refusal.{Refusal}
+use Rattle.definition.specs.declared.reason.Refusal.{Refusal}
 use Rattle.definition.specs.Valid.{All}
 use Rattle.definition.specs.Trusted.{constant_at}
 use Rattle.trial.specs.Value.{Value, boolean, Globals, integer_of, Infix, greater, combined, Prefix, changed}
@@ -35,30 +36,30 @@ module _ (pool : List Const) where
       → Meets (p + size (plain x)) st (execute pool (plain x) (frame p (v ∷ st) g n)) (prefixed (get_or prefix_of o none) v g)
   changes {x = x} q p v st g n =
       subst₂ (λ (a : Action) (u : Option Prefix). Meets (p + size (plain x)) st (acted pool 0 (p + size (plain x)) (frame p (v ∷ st) g n) a) (prefixed u v g)) (sym q.acts) (sym q.named)
-      (gives_meets (frame p (v ∷ st) g n) (p + size (plain x)) Stop.operand st (changed q.operator v))
+      (gives_meets (frame p (v ∷ st) g n) (p + size (plain x)) Number.operand st (changed q.operator v))
 
   -- of two, behind the left and the right one
   combines : {o x : ℕ} (q : InfixAction o x) (p : ℕ) (l r : Value) (st : List Value) (g : Globals) (n : ℕ)
       → Meets (p + size (plain x)) st (execute pool (plain x) (frame p (r ∷ l ∷ st) g n)) (infixed (get_or infix_of o none) l r g)
   combines {x = x} q p l r st g n =
       subst₂ (λ (a : Action) (u : Option Infix). Meets (p + size (plain x)) st (acted pool 0 (p + size (plain x)) (frame p (r ∷ l ∷ st) g n) a) (infixed u l r g)) (sym q.acts) (sym q.named)
-      (gives_meets (frame p (r ∷ l ∷ st) g n) (p + size (plain x)) Stop.operand st (combined q.operator l r))
+      (gives_meets (frame p (r ∷ l ∷ st) g n) (p + size (plain x)) Number.operand st (combined q.operator l r))
 
   -- `<`, behind the right and the left one
-  combines_less : (o : ℕ) {x : ℕ} → eqb o less_than ≡ true → get_or infixes o none ≡ some x → (p : ℕ) (l r : Value) (st : List Value) (g : Globals) (n : ℕ)
+  combines_less : (o : ℕ) {x : ℕ} → eqb o less_than ≡ true → get_or infixes o missing ≡ found x → (p : ℕ) (l r : Value) (st : List Value) (g : Globals) (n : ℕ)
       → Meets (p + size (plain x)) st (execute pool (plain x) (frame p (l ∷ r ∷ st) g n)) (infixed (get_or infix_of o none) l r g)
   combines_less o {x} s q p l r st g n =
       let e : o ≡ less_than = eqb-true o less_than s in
-      let h : op_greater_than ≡ x = go (subst (λ z. get_or infixes z none ≡ some x) e q) in
+      let h : op_greater_than ≡ x = go (subst (λ z. get_or infixes z missing ≡ found x) e q) in
       subst₂ (λ (z y : ℕ). Meets (p + size (plain y)) st (execute pool (plain y) (frame p (l ∷ r ∷ st) g n)) (infixed (get_or infix_of z none) l r g)) (sym e) h
-      (subst (λ a. Meets (p + 1) st (given (frame p (l ∷ r ∷ st) g n) (p + 1) Stop.operand st (combined greater r l)) (or_stop Stop.operand g a)) (exchanged l r)
-      (gives_meets (frame p (l ∷ r ∷ st) g n) (p + 1) Stop.operand st (combined greater r l)))
+      (subst (λ a. Meets (p + 1) st (given (frame p (l ∷ r ∷ st) g n) (p + 1) Number.operand st (combined greater r l)) (or_stop Number.operand g a)) (exchanged l r)
+      (gives_meets (frame p (l ∷ r ∷ st) g n) (p + 1) Number.operand st (combined greater r l)))
     where
-      go : some op_greater_than ≡ some x → op_greater_than ≡ x
+      go : found op_greater_than ≡ found x → op_greater_than ≡ x
       go e = cc
 
   -- a constant of the pool as it was, and as it stays
-  stays : {c : Const} (cs : List Const) → PoolGrows (c ∷ cs) pool → constant_at pool (length cs) ≡ some c
+  stays : {c : Const} (cs : List Const) → PoolGrows (c ∷ cs) pool → constant_at pool (length cs) ≡ found c
   stays {c} cs f = f.keeps (length cs) c (named_newest c cs)
 
   mutual
@@ -92,8 +93,8 @@ module _ (pool : List Const) where
         → Gives pool at c st st g n (eval_expr e v.globals g)
     run_expr (Expr.identifier p m) {at} (ExprCode.identifier {v = v} q) (All.more h a) f t st g n =
         let d = is_global pool v.words v.globals m t q h in
-        subst₂ (λ (y : Symbol) (o : Option ℕ). Gives pool at (load_of y ∷ []) st st g n (named o g)) (sym d.symbol) (sym d.found)
-        (alone (instr op_get_global d.index 0) (gives_meets (frame at st g n) (at + 3) Stop.unset st (get_or g d.index none)))
+        subst₂ (λ (y : Symbol) (o : Found ℕ). Gives pool at (load_of y ∷ []) st st g n (named o g)) (sym d.symbol) (sym d.found)
+        (alone (instr op_get_global d.index 0) (gives_meets (frame at st g n) (at + 3) Number.unset st (get_or g d.index none)))
     run_expr (Expr.prefix p o e) (ExprCode.prefix {at = at} {c = c} x q) (All.more h a) f t st g n = followed _ (run_expr e x a f t st g n) (λ v g₁ m. changes (prefix_action o q) (at + size_of c) v st g₁ m)
     run_expr (Expr.infixed p l o r) (ExprCode.infixed {at = at} {c = c} {d = d} s x y q) (All.more h a) f t st g n =
         let b = behind_expr pool l x (all_first d a) t in
@@ -120,7 +121,7 @@ module _ (pool : List Const) where
     run_expr (Expr.function p m ps b) (ExprCode.function few x q) (All.more h a) f t st g n = absurd h
     run_expr (Expr.call p e es) (ExprCode.call x y) (All.more h a) f t st g n = absurd h
     run_expr (Expr.integer p b) {at} (ExprCode.integer {v = v}) a f t st g n =
-        alone (instr op_constant (length v.pool) 0) (subst (λ o. Meets (at + 3) st (given (frame at st g n) (at + 3) Stop.not_runnable st (integer_in o)) (Evaluated.on (integer_of b) g)) (sym (stays v.pool f)) Meets.on)
+        alone (instr op_constant (length v.pool) 0) (subst (λ o. Meets (at + 3) st (given (frame at st g n) (at + 3) Number.not_runnable st (integer_in o)) (Evaluated.on (integer_of b) g)) (sym (stays v.pool f)) Meets.on)
     run_expr (Expr.boolean p b) {at} ExprCode.boolean a f t st g n = truth (eqb b 0)
       where
         truth : (y : Bool) → Gives pool at (plain (pick y op_false op_true) ∷ []) st st g n (Evaluated.on (boolean (pick y false true)) g)

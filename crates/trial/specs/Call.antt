@@ -1,26 +1,23 @@
 -- The whole call: its numbers in their order, its answer, its output and its work area.
-use Rattle.std.specs.Prelude.{◌≡◌, ℕ, ◌+◌, ◌*◌, ◌≤◌, Bool, List, [], ◌∷◌, length, nat_le, nat_lt}
-use Rattle.std.proofs.Math.Option.{Option, none, some}
+use Rattle.std.specs.Prelude.{◌≡◌, ℕ, ◌+◌, ◌*◌, ◌≤◌, Bool, List, [], ◌∷◌, length, nat_le, nat_lt, Option, Some as some, None as none, Result, Ok, Err}
+use Rattle.std.specs.Prelude.{Option, Some as some, None as none}
 use Rattle.definition.specs.Basic.{Bytes, byte_at, pick, both}
-use Rattle.definition.specs.Number.{refusal, short_buffer, bad_image, output_short}
+use Rattle.definition.specs.Number.{refusal, short_buffer, bad_image, output_short, bad_heights}
 use Rattle.definition.specs.Field.{head}
 use Rattle.definition.specs.Opcode.{Instr}
 use Rattle.definition.specs.Bytecode.{Code, size_of, Const, Image}
 use Rattle.definition.specs.Decode.{Decoded, decoded, malformed, read_image}
 use Rattle.definition.specs.Call.{cleared}
 use Rattle.definition.specs.Output.{over}
-use Rattle.definition.specs.declared.Refusal.{Refusal}
+use Rattle.definition.specs.declared.reason.Refusal.{Refusal}
 use Rattle.listing.specs.Reads.{ImageAt}
-use Rattle.heights.specs.Pass.{Marks, onwards, pass, Verdict, judged, bad_heights}
-use Rattle.trial.specs.Stop
+use Rattle.heights.specs.Pass.{Marks, onwards, pass, Verdict, judged}
+use Rattle.definition.specs.Number
 use Rattle.trial.specs.Value.{Globals}
 use Rattle.trial.specs.Run.{or_else, runnable, Trial, trial}
 use Rattle.trial.specs.Output.{named_globals, shown}
 use Rattle.trial.specs.Cells.{work_size, stack_limit}
-use Rattle.trial.specs.declared.RunAnswer.{RunAnswer}
-use Rattle.trial.specs.declared.RunAnswer.TheVariants.{Ran, Refused}
-use Rattle.trial.specs.declared.scan.Scanned.{Scanned}
-use Rattle.trial.specs.declared.scan.Scanned.TheVariants.{Names, Refuses}
+use Rattle.trial.specs.declared.Ran.{Ran}
 
 -- number 27 does not refuse an instruction at a position: a run takes it, and where it is reached its height is at most 1,024 (what arrives is 2 more)
 abbrev pub taken : List Const → Marks → ℕ → Instr → Bool
@@ -51,7 +48,7 @@ room_outcome m room = pick (nat_le (9 * named_globals m.code) room) (trial_outco
 
 -- 27
 abbrev pub taken_outcome : Option ℕ → Image → ℕ → Outcome
-taken_outcome (some p) m room = Outcome.refused (refusal Stop.not_runnable (3 + p))
+taken_outcome (some p) m room = Outcome.refused (refusal Number.not_runnable (3 + p))
 taken_outcome none m room = room_outcome m room
 
 -- 25
@@ -69,9 +66,9 @@ abbrev pub run_outcome : Bytes → List ℕ → ℕ → ℕ → Outcome
 run_outcome b hs work room = pick (nat_lt work work_size) (Outcome.refused (refusal short_buffer 0)) (image_outcome (read_image b) hs room)
 
 -- as the code answers it
-abbrev pub outcome_answer : Outcome → RunAnswer
-outcome_answer (Outcome.ran n g k) = Ran n k
-outcome_answer (Outcome.refused r) = Refused r
+abbrev pub outcome_answer : Outcome → Result Ran Refusal
+outcome_answer (Outcome.ran n g k) = Ok (record { globals = n; steps = k })
+outcome_answer (Outcome.refused r) = Err r
 
 -- the output afterwards
 abbrev pub outcome_into : Outcome → Bytes → Bytes
@@ -83,9 +80,9 @@ abbrev pub work_after : List ℕ → List ℕ
 work_after w = pick (nat_lt (length w) work_size) w (cleared work_size w)
 
 -- what going over main finds, as the code answers it
-abbrev pub scan_answer : Option ℕ → ℕ → Scanned
-scan_answer (some p) n = Refuses (3 + p)
-scan_answer none n = Names n
+abbrev pub scan_answer : Option ℕ → ℕ → Result ℕ Refusal
+scan_answer (some p) n = Err (refusal Number.not_runnable (3 + p))
+scan_answer none n = Ok n
 
 -- an image to go over
 pub record ScanReady (b : Bytes) (end pool : ℕ) : Type 0 where

@@ -1,15 +1,8 @@
 -- Values as the work area keeps them: a kind and a word each.
-use Rattle.std.specs.Prelude.{◌≡◌, ℕ, suc, ◌+◌, ◌^◌, ◌<◌, true, false, List, [], ◌∷◌, length, slice_index, slice_index_or}
-use Rattle.std.proofs.Math.Option.{Option, none, some}
+use Rattle.std.specs.Prelude.{◌≡◌, ℕ, suc, ◌+◌, ◌^◌, ◌<◌, true, false, List, [], ◌∷◌, length, slice_index, slice_index_or, Option, Some as some, None as none}
+use Rattle.std.specs.Prelude.{Option, Some as some, None as none}
 use Rattle.definition.specs.Limit.{globals_limit}
 use Rattle.trial.specs.Value.{Value, integer, boolean, null, Globals, signed_of}
-use Rattle.trial.specs.declared.arithmetic.Word.{Word}
-use Rattle.trial.specs.declared.arithmetic.Word.TheVariants.{Fits, Over}
-
--- a word that fits, or none
-abbrev pub word_from : Option ℕ → Word
-word_from (some n) = Fits n
-word_from none = Over
 
 -- a kind and a word keep a value; 0 and 0: none
 pub data Keeps : ℕ → ℕ → Option Value → Type 0 where

@@ -1,7 +1,8 @@
 -- The value of a tree by the rules of a trial run, without its code.
-use Rattle.std.specs.Prelude.{ℕ, true, false, List, [], ◌∷◌, length, ◌==◌, slice_index_or, slice_set}
-use Rattle.std.proofs.Math.Option.{Option, none, some}
-use Rattle.trial.specs.Stop
+use Rattle.std.specs.Prelude.{ℕ, true, false, List, [], ◌∷◌, length, ◌==◌, slice_index_or, slice_set, Option, Some as some, None as none}
+use Rattle.std.specs.Prelude.{Option, Some as some, None as none}
+use Rattle.std.proofs.Math.Option.{Option as Found, some as found, none as missing}
+use Rattle.definition.specs.Number
 use Rattle.definition.specs.Basic.{Bytes, pick}
 use Rattle.definition.specs.Number
 use Rattle.definition.specs.Syntax.{Stmt, Stmts, Else, Expr}
@@ -10,12 +11,13 @@ use Rattle.definition.specs.SymbolTable.{find_global}
 use Rattle.trial.specs.Value.{Value, boolean, null, Globals, integer_of, truthy, Infix, add, sub, mul, div, equals, differs, less, greater, combined, Prefix, minus, bang, changed}
 use Rattle.definition.specs.Tree.{Parsed}
 use Rattle.trial.specs.Run.{Trial, unset_globals}
+use Rattle.definition.specs.declared.reason.Reason.{Reason}
 
--- a value with the globals then; or Return ended the run; or a stop, its number
+-- a value with the globals then; or Return ended the run; or a stop, and why
 pub data Evaluated (A : Type 0) : Type 0 where
   on : A → Globals → Evaluated A
   returned : Globals → Evaluated A
-  stopped : ℕ → Evaluated A
+  stopped : Reason → Evaluated A
 
 -- more, where the run goes on
 abbrev pub and_then : {A B : Type 0} → Evaluated A → (A → Globals → Evaluated B) → Evaluated B
@@ -24,7 +26,7 @@ and_then (returned g) k = returned g
 and_then (stopped n) k = stopped n
 
 -- a value, or the number where there is none
-abbrev pub or_stop : ℕ → Globals → Option Value → Evaluated Value
+abbrev pub or_stop : Reason → Globals → Option Value → Evaluated Value
 or_stop n g (some v) = on v g
 or_stop n g none = stopped n
 
@@ -38,18 +40,18 @@ infix_of = none ∷ some add ∷ some sub ∷ none ∷ some mul ∷ some div ∷
 
 -- an operator's value; the walk refuses the others
 abbrev pub prefixed : Option Prefix → Value → Globals → Evaluated Value
-prefixed (some o) x g = or_stop Stop.operand g (changed o x)
+prefixed (some o) x g = or_stop Number.operand g (changed o x)
 prefixed none x g = stopped Number.operator
 
 -- of two operands
 abbrev pub infixed : Option Infix → Value → Value → Globals → Evaluated Value
-infixed (some o) x y g = or_stop Stop.operand g (combined o x y)
+infixed (some o) x y g = or_stop Number.operand g (combined o x y)
 infixed none x y g = stopped Number.operator
 
 -- the value of the global that a name stands for; a builtin is no value of a trial run
-abbrev pub named : Option ℕ → Globals → Evaluated Value
-named (some k) g = or_stop Stop.unset g (slice_index_or g k none)
-named none g = stopped Stop.not_runnable
+abbrev pub named : Found ℕ → Globals → Evaluated Value
+named (found k) g = or_stop Number.unset g (slice_index_or g k none)
+named missing g = stopped Number.not_runnable
 
 -- a branch's value is its last statement's; the walk refuses a branch without one
 abbrev pub branch_value : Option Value → Globals → Evaluated Value
@@ -114,24 +116,24 @@ unfoldable mutual
   eval_expr (Expr.if p c t e) gs g =
       and_then (eval_expr c gs g) (λ v g₁.
       pick (truthy v) (and_then (eval_stmts t (names_expr c gs) none g₁) branch_value) (eval_else e (names_stmts t (names_expr c gs)) g₁))
-  eval_expr (Expr.function p n ps b) gs g = stopped Stop.not_runnable
-  eval_expr (Expr.call p f es) gs g = stopped Stop.not_runnable
+  eval_expr (Expr.function p n ps b) gs g = stopped Number.not_runnable
+  eval_expr (Expr.call p f es) gs g = stopped Number.not_runnable
   eval_expr (Expr.integer p b) gs g = on (integer_of b) g
   eval_expr (Expr.boolean p b) gs g = on (boolean (pick (b == 0) false true)) g
-  eval_expr (Expr.string p b) gs g = stopped Stop.not_runnable
-  eval_expr (Expr.array p es) gs g = stopped Stop.not_runnable
-  eval_expr (Expr.index p l i) gs g = stopped Stop.not_runnable
-  eval_expr (Expr.hash p es) gs g = stopped Stop.not_runnable
-  eval_expr (Expr.macro p) gs g = stopped Stop.not_runnable
+  eval_expr (Expr.string p b) gs g = stopped Number.not_runnable
+  eval_expr (Expr.array p es) gs g = stopped Number.not_runnable
+  eval_expr (Expr.index p l i) gs g = stopped Number.not_runnable
+  eval_expr (Expr.hash p es) gs g = stopped Number.not_runnable
+  eval_expr (Expr.macro p) gs g = stopped Number.not_runnable
 
 -- a program in a fresh session, all globals unset
 abbrev pub evaluate : Stmts → Evaluated (Option Value)
 evaluate b = eval_stmts b [] none unset_globals
 
--- the globals at the end, or the number of the stop
+-- the globals at the end, or why it stopped
 pub data End : Type 0 where
   globals : Globals → End
-  stop : ℕ → End
+  stop : Reason → End
 
 -- a run's
 abbrev pub trial_end : Trial → End
@@ -147,4 +149,4 @@ value_end (Evaluated.stopped k) = End.stop k
 -- a tree as it was read; one that is refused has no value
 abbrev pub tree_end : Parsed Stmts → End
 tree_end (Parsed.parsed b n) = value_end (evaluate b)
-tree_end (Parsed.refused r) = End.stop r.number
+tree_end (Parsed.refused r) = End.stop r.reason

@@ -12,6 +12,7 @@ use Rattle.definition.specs.Compile.{start, image_of}
 use Rattle.trial.specs.Run.{Trial, trial, pass, unset_globals}
 use Rattle.trial.specs.Evaluate.{Evaluated, evaluate, names_stmts, eval_stmts}
 use Rattle.trial.specs.Output.{bytes_in, named_globals, shown}
+use Rattle.definition.specs.Number.{number_of}
 
 -- the globals' bytes and the steps; a number and an offset in the image; or no trial
 pub data Tried : Type 0 where
@@ -22,7 +23,7 @@ pub data Tried : Type 0 where
 -- a trial run of an image
 abbrev tried : Code → Trial → Tried
 tried c (Trial.ran g n) = wrote (shown (named_globals c) g) n
-tried c (Trial.stopped k p) = refused k p
+tried c (Trial.stopped k p) = refused (number_of k) p
 
 -- the same without steps and offset, which a tree does not have
 abbrev ended : Tried → Tried
@@ -34,7 +35,7 @@ ended no_trial = no_trial
 abbrev valued : {A : Type 0} → Code → Evaluated A → Tried
 valued c (Evaluated.on v g) = wrote (shown (named_globals c) g) 0
 valued c (Evaluated.returned g) = wrote (shown (named_globals c) g) 0
-valued c (Evaluated.stopped k) = refused k 0
+valued c (Evaluated.stopped k) = refused (number_of k) 0
 
 -- run and value of a tree, once it is walked
 pub record Both : Type 0 where

@@ -1,9 +1,7 @@
-pub mod Stop
 pub mod Value
 pub mod Run
 pub mod Evaluate
 pub mod Output
-pub mod Words
 pub mod Cells
 pub mod Machine
 pub mod Call

@@ -1,6 +1,6 @@
 -- What the code's step and run give, beside the definition's.
-use Rattle.std.specs.Prelude.{◌≡◌, ℕ, ◌+◌, ◌<◌, ◌≤◌, true, List, length, ◌==◌, slice_index_or}
-use Rattle.std.proofs.Math.Option.{Option, none, some}
+use Rattle.std.specs.Prelude.{◌≡◌, ℕ, ◌+◌, ◌<◌, ◌≤◌, true, List, length, ◌==◌, slice_index_or, Option, Some as some, None as none, Result, Ok, Err, set}
+use Rattle.std.specs.Prelude.{Option, Some as some, None as none}
 use Rattle.definition.specs.Basic.{Bytes, byte_at, pick}
 use Rattle.definition.specs.Field.{head}
 use Rattle.definition.specs.Opcode.{Instr}
@@ -9,15 +9,16 @@ use Rattle.definition.specs.Trusted.{Stands, constant_at}
 use Rattle.definition.specs.Effect.{takes, gives}
 use Rattle.listing.specs.Reads.{HasPool, ImageAt}
 use Rattle.heights.specs.Judgement.{Reaches}
-use Rattle.trial.specs.Stop
+use Rattle.definition.specs.Number
 use Rattle.trial.specs.Value.{Value, Globals, Infix, Prefix, combined, changed}
 use Rattle.trial.specs.Run.{Action, integer_in, runnable, Frame, Run, top, below, Trial, unset_globals}
-use Rattle.trial.specs.Cells.{Stacked, Keeping, work_size, stack_limit}
+use Rattle.trial.specs.Cells.{Keeps, kinds_at, Stacked, Keeping, work_size, stack_limit}
 use Rattle.trial.specs.declared.machine.State.{State}
-use Rattle.trial.specs.declared.machine.Stepped.{Stepped}
-use Rattle.trial.specs.declared.machine.Stepped.TheVariants.{On, Returned, Stopped}
-use Rattle.trial.specs.declared.machine.Ended.{Ended}
-use Rattle.trial.specs.declared.machine.Ended.TheVariants.{Ran, Stopped as EndStopped}
+use Rattle.std.specs.declared.ops.ControlFlow.{ControlFlow}
+use Rattle.std.specs.declared.ops.ControlFlow.TheVariants.{Continue, Break}
+use Rattle.definition.specs.Number.{refusal}
+use Rattle.definition.specs.declared.reason.Refusal.{Refusal}
+use Rattle.definition.specs.declared.reason.Reason.{Reason}
 
 -- the bytes of the operators of two operands
 pub data InfixAt : ℕ → Infix → Type 0 where
@@ -54,8 +55,8 @@ pub data Runs : ℕ → Type 0 where
   produces : {n : ℕ} → Produces n → Runs n
 
 -- why one stops the run that puts no value
-abbrev pub reason_of : ℕ → ℕ
-reason_of op = pick (op == 0x10) Stop.unset (pick (op == 0x00) Stop.not_runnable Stop.operand)
+abbrev pub reason_of : ℕ → Reason
+reason_of op = pick (op == 0x10) Number.unset (pick (op == 0x00) Number.not_runnable Number.operand)
 
 -- the value that an action puts, with its operand; none: it stops the run
 abbrev pub product : List Const → ℕ → List Value → Globals → Action → Option Value
@@ -70,6 +71,13 @@ product pool k st g Action.get_global = slice_index_or g k none
 product pool k st g Action.set_global = none
 product pool k st g Action.return_value = none
 product pool k st g Action.other = none
+
+-- a value kept at a place of a work area
+pub record KeptAt (w : List ℕ) (at : ℕ) (v : Value) (w₁ : List ℕ) : Type 0 where
+  pub kind : ℕ
+  pub word : ℕ
+  pub keeps : Keeps kind word (some v)
+  pub is : w₁ ≡ set (set w at word) (kinds_at + at) kind
 
 -- where an instruction stands before a stack: it has enough, there is room for what it gives, and it names a global that there is
 pub record Room (w : List ℕ) (b : Bytes) (pool : ℕ) (i : Instr) (height : ℕ) : Type 0 where
@@ -94,16 +102,24 @@ pub record Framed (w : List ℕ) (s : State) (f : Frame) : Type 0 where
   pub globals : Keeping w f.globals
   pub steps : s.steps ≡ f.steps
 
+-- what a step gives: the run goes on, ReturnValue ended it with its steps, or it stops
+abbrev pub Step : Type 0
+Step = Result (ControlFlow ℕ State) Refusal
+
+-- it goes on, before an offset, with a stack so high, behind so many instructions
+abbrev pub goes_on : ℕ → ℕ → ℕ → ControlFlow ℕ State
+goes_on next height steps = Continue (record { next = next; height = height; steps = steps })
+
 -- what a step at a position gives is the definition's
-pub data After (w : List ℕ) (p : ℕ) : Stepped → Run → Type 0 where
-  on : {s : State} {f : Frame} → Framed w s f → After w p (On s) (Run.on f)
-  returned : {g : Globals} {n : ℕ} → Keeping w g → After w p (Returned n) (Run.returned g n)
-  stopped : {k : ℕ} → After w p (Stopped k) (Run.stopped k p)
+pub data After (w : List ℕ) (p : ℕ) : Step → Run → Type 0 where
+  on : {s : State} {f : Frame} → Framed w s f → After w p (Ok (Continue s)) (Run.on f)
+  returned : {g : Globals} {n : ℕ} → Keeping w g → After w p (Ok (Break n)) (Run.returned g n)
+  stopped : {k : Reason} → After w p (Err (refusal k (3 + p))) (Run.stopped k p)
 
 -- what a run gives is the definition's
-pub data EndsAs (w : List ℕ) : Ended → Trial → Type 0 where
-  ran : {g : Globals} {n : ℕ} → Keeping w g → EndsAs w (Ran n) (Trial.ran g n)
-  stopped : {k p : ℕ} → EndsAs w (EndStopped k p) (Trial.stopped k p)
+pub data EndsAs (w : List ℕ) : Result ℕ Refusal → Trial → Type 0 where
+  ran : {g : Globals} {n : ℕ} → Keeping w g → EndsAs w (Ok n) (Trial.ran g n)
+  stopped : {k : Reason} {p : ℕ} → EndsAs w (Err (refusal k p)) (Trial.stopped k p)
 
 -- main can be run: each instruction is one that a run takes, finds enough on the stack, and no more than there is room for
 pub record Safe (pool : List Const) (c : Code) : Type 0 where

@@ -1,6 +1,6 @@
 -- What a trial run writes: nine bytes for each global up to the highest index that main names.
-use Rattle.std.specs.Prelude.{ℕ, zero, suc, ◌-◌, ◌/◌, ◌%◌, ◌^◌, true, false, [], ◌∷◌, ◌++◌, ℤ, pos, negsuc, nat_lt, slice_index_or}
-use Rattle.std.proofs.Math.Option.{Option, none, some}
+use Rattle.std.specs.Prelude.{ℕ, zero, suc, ◌-◌, ◌/◌, ◌%◌, ◌^◌, true, false, [], ◌∷◌, ◌++◌, ℤ, pos, negsuc, nat_lt, slice_index_or, Option, Some as some, None as none}
+use Rattle.std.specs.Prelude.{Option, Some as some, None as none}
 use Rattle.definition.specs.Basic.{Bytes, pick}
 use Rattle.definition.specs.Bytecode.{Code}
 use Rattle.trial.specs.Value.{Value, integer, boolean, null, Globals}

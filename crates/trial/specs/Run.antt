@@ -1,14 +1,16 @@
 -- A trial run of a main chunk. Jumps go forward (P9), so one pass over the code is the whole run: each instruction is executed if the run stands
 -- before it, and passed over if a jump went further. What is taken from an empty stack is null (P9: nothing is).
-use Rattle.std.specs.Prelude.{ℕ, ◌+◌, Bool, true, false, List, [], ◌∷◌, replicate, ◌==◌, nat_lt, slice_index_or, slice_set}
-use Rattle.std.proofs.Math.Option.{Option, none, some}
-use Rattle.trial.specs.Stop
+use Rattle.std.specs.Prelude.{ℕ, ◌+◌, Bool, true, false, List, [], ◌∷◌, replicate, ◌==◌, nat_lt, slice_index_or, slice_set, Option, Some as some, None as none}
+use Rattle.std.specs.Prelude.{Option, Some as some, None as none}
+use Rattle.std.proofs.Math.Option.{Option as Found, some as found, none as missing}
+use Rattle.definition.specs.Number
 use Rattle.definition.specs.Basic.{pick}
 use Rattle.definition.specs.Limit.{globals_limit}
 use Rattle.definition.specs.Opcode.{Instr, size}
 use Rattle.definition.specs.Bytecode.{Code, size_of, Const, Image}
 use Rattle.definition.specs.Trusted.{Stands, constant_at}
 use Rattle.trial.specs.Value.{Value, boolean, null, Globals, integer_of, truthy, Infix, add, sub, mul, div, equals, differs, greater, combined, Prefix, minus, bang, changed}
+use Rattle.definition.specs.declared.reason.Reason.{Reason}
 
 -- what an instruction does
 pub data Action : Type 0 where
@@ -29,11 +31,11 @@ abbrev pub action_of : Instr → Action
 action_of i = slice_index_or actions i.op other
 
 -- the value of a constant that is an integer
-abbrev pub integer_in : Option Const → Option Value
-integer_in (some (Const.integer b)) = some (integer_of b)
-integer_in (some (Const.string b)) = none
-integer_in (some (Const.function l p c)) = none
-integer_in none = none
+abbrev pub integer_in : Found Const → Option Value
+integer_in (found (Const.integer b)) = some (integer_of b)
+integer_in (found (Const.string b)) = none
+integer_in (found (Const.function l p c)) = none
+integer_in missing = none
 
 -- there is a value
 abbrev pub is_some : Option Value → Bool
@@ -78,7 +80,7 @@ frame at st g n = record { at = at; stack = st; globals = g; steps = n }
 pub data Run : Type 0 where
   on : Frame → Run
   returned : Globals → ℕ → Run
-  stopped : ℕ → ℕ → Run
+  stopped : Reason → ℕ → Run
 
 -- the top of the stack
 abbrev pub top : List Value → Value
@@ -95,23 +97,23 @@ abbrev pub moved : Frame → ℕ → List Value → Globals → Run
 moved f to st g = on (frame to st g (f.steps + 1))
 
 -- a value more, or a stop
-abbrev pub given : Frame → ℕ → ℕ → List Value → Option Value → Run
-given f to number st (some v) = moved f to (v ∷ st) f.globals
-given f to number st none = stopped number f.at
+abbrev pub given : Frame → ℕ → Reason → List Value → Option Value → Run
+given f to reason st (some v) = moved f to (v ∷ st) f.globals
+given f to reason st none = stopped reason f.at
 
 -- an instruction's action, with its operand and the position behind it
 abbrev pub acted : List Const → ℕ → ℕ → Frame → Action → Run
 acted pool k next f (push v) = moved f next (v ∷ f.stack) f.globals
-acted pool k next f (combine o) = given f next Stop.operand (below (below f.stack)) (combined o (top (below f.stack)) (top f.stack))
-acted pool k next f (change o) = given f next Stop.operand (below f.stack) (changed o (top f.stack))
-acted pool k next f constant = given f next Stop.not_runnable f.stack (integer_in (constant_at pool k))
+acted pool k next f (combine o) = given f next Number.operand (below (below f.stack)) (combined o (top (below f.stack)) (top f.stack))
+acted pool k next f (change o) = given f next Number.operand (below f.stack) (changed o (top f.stack))
+acted pool k next f constant = given f next Number.not_runnable f.stack (integer_in (constant_at pool k))
 acted pool k next f pop = moved f next (below f.stack) f.globals
 acted pool k next f jump_not_truthy = moved f (pick (truthy (top f.stack)) next k) (below f.stack) f.globals
 acted pool k next f jump = moved f k f.stack f.globals
-acted pool k next f get_global = given f next Stop.unset f.stack (slice_index_or f.globals k none)
+acted pool k next f get_global = given f next Number.unset f.stack (slice_index_or f.globals k none)
 acted pool k next f set_global = moved f next (below f.stack) (slice_set f.globals k (some (top f.stack)))
 acted pool k next f return_value = returned f.globals (f.steps + 1)
-acted pool k next f other = stopped Stop.not_runnable f.at
+acted pool k next f other = stopped Number.not_runnable f.at
 
 -- one step of the machine
 abbrev pub execute : List Const → Instr → Frame → Run
@@ -140,7 +142,7 @@ unset_globals = replicate globals_limit none
 -- what a run gives: the globals and the steps; or a stop, its number and the instruction's offset in the image
 pub data Trial : Type 0 where
   ran : Globals → ℕ → Trial
-  stopped : ℕ → ℕ → Trial
+  stopped : Reason → ℕ → Trial
 
 -- main's code stands behind a field's head
 abbrev pub trial_of : Run → Trial

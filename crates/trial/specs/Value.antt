@@ -1,15 +1,12 @@
 -- The values of a trial run, and what its operators make of them.
-use Rattle.std.specs.Prelude.{ℕ, zero, suc, ◌-◌, ◌^◌, Bool, true, false, not, List, ℤ, pos, negsuc, ◌+ℤ◌, ◌-ℤ◌, ◌*ℤ◌, neg_ℤ, ◌==◌, int_div, int_lt, nat_lt}
-use Rattle.std.proofs.Math.Option.{Option, none, some}
+use Rattle.std.specs.Prelude.{ℕ, zero, suc, ◌-◌, ◌^◌, Bool, true, false, not, List, ℤ, pos, negsuc, ◌+ℤ◌, ◌-ℤ◌, ◌*ℤ◌, neg_ℤ, ◌==◌, int_div, int_lt, nat_lt, Option, Some as some, None as none}
+use Rattle.std.specs.Prelude.{Option, Some as some, None as none}
 use Rattle.std.specs.Int.Signed.{mag}
 use Rattle.definition.specs.Basic.{Bytes, pick}
 use Rattle.definition.specs.Text.{number}
-
 -- an exact integer, which is one of 64 bits throughout a run; a boolean; null
-pub data Value : Type 0 where
-  integer : ℤ → Value
-  boolean : Bool → Value
-  null : Value
+pub use Rattle.trial.specs.declared.cells.Value.{Value}
+pub use Rattle.trial.specs.declared.cells.Value.TheVariants.{Integer as integer, Boolean as boolean, Null as null}
 
 -- the globals by index; none: not yet set
 abbrev pub Globals : Type 0

@@ -1,109 +1,86 @@
-// Values as the work area keeps them, and the operators on them.
-ghost use Rattle.std.specs.Prelude.{◌≡◌, ℕ, ◌==◌, ◌≢◌};
-ghost use Rattle.std.proofs.Math.Option.{Option, some};
-ghost use Rattle.definition.specs.Basic.{both};
-ghost use Rattle.trial.specs.Value.{Value, integer, boolean, signed_of, Infix, Prefix, combined, changed, truthy as isTruthy};
-ghost use Rattle.trial.specs.Words.{integer_in};
-ghost use Rattle.trial.specs.Cells.{word_from, Keeps};
-ghost use Rattle.trial.specs.Machine.{InfixAt, PrefixAt};
+// The values of a run: as the work area keeps them, and what the operators make of them.
+ghost use Rattle.std.specs.Prelude.{◌≡◌, ℕ, ◌≢◌, Option};
+ghost use Rattle.trial.specs.Value.{integer, Infix, minus, combined, changed, truthy as isTruthy};
+ghost use Rattle.trial.specs.Cells.{Keeps};
+ghost use Rattle.trial.specs.Machine.{InfixAt};
 
-use crate::arithmetic::{Word, difference, less, minus, product, quotient, sum};
 use opcode::opcodes;
 
-// A value: its kind (0 none, 1 integer, 2 boolean, 3 null) and its word.
-#[derive(Clone, Copy)]
-pub struct Cell {
-    pub kind: u64,
-    pub word: u64,
+// A value.
+#[derive(Clone, Copy, PartialEq, Eq)]
+pub enum Value {
+    Integer(i64),
+    Boolean(bool),
+    Null,
 }
 
-// A word that fits is an integer.
-fn from_word(w: Word) -> Cell
-    ensures { (x : Option ℕ) → w ≡ word_from x → Keeps result.kind result.word (integer_in x) }
+// The value that a kind and a word of the work area keep; none where none is set.
+pub fn value_in(kind: u64, word: u64) -> Option<Value>
+    ensures { (v : Option Value) → Keeps kind word v → result ≡ v }
 {
-    match w {
-        Word::Fits(n) => Cell { kind: 1, word: n },
-        Word::Over => Cell { kind: 0, word: 0 },
+    match kind {
+        1 => Some(Value::Integer(word.cast_signed())),
+        2 => Some(Value::Boolean(word == 1)),
+        3 => Some(Value::Null),
+        _ => None,
     }
 }
 
-// A boolean.
-pub fn from_bool(b: bool) -> Cell
-    ensures { Keeps result.kind result.word (some (boolean b)) }
+// The kind and the word that keep a value.
+pub fn parts(x: Value) -> (u64, u64)
+    ensures { Keeps result.0 result.1 (Some x) }
 {
-    if b {
-        return Cell { kind: 2, word: 1 };
+    match x {
+        Value::Integer(n) => (1, n.cast_unsigned()),
+        Value::Boolean(b) => (2, u64::from(b)),
+        Value::Null => (3, 0),
     }
-    Cell { kind: 2, word: 0 }
 }
 
 // False and null are false, all else true.
-pub fn truthy(x: Cell) -> bool
-    ensures { (a : Value) → Keeps x.kind x.word (some a) → result ≡ isTruthy a }
+pub fn truthy(x: Value) -> bool
+    ensures { result ≡ isTruthy x }
 {
-    if x.kind == 1 {
-        return true;
+    match x {
+        Value::Integer(_) => true,
+        Value::Boolean(b) => b,
+        Value::Null => false,
     }
-    x.word == 1
 }
 
-// One kind and one value.
-fn same(x: Cell, y: Cell) -> bool
-    ensures { result ≡ both (x.kind == y.kind) (x.word == y.word) }
+// An operator on two integers; none where the result does not fit, or the divisor is zero.
+fn calculate(op: u8, a: i64, b: i64) -> Option<Value>
+    ensures { (o : Infix) → InfixAt op o → (op ≢ 0x08) → (op ≢ 0x09) → result ≡ combined o (integer a) (integer b) }
 {
-    if x.kind != y.kind {
-        return false;
+    match op {
+        opcodes::ADD => a.checked_add(b).map(Value::Integer),
+        opcodes::SUB => a.checked_sub(b).map(Value::Integer),
+        opcodes::MUL => a.checked_mul(b).map(Value::Integer),
+        opcodes::DIV => a.checked_div(b).map(Value::Integer),
+        _ => Some(Value::Boolean(b < a)),
     }
-    x.word == y.word
 }
 
-// An operator on two integers.
-fn calculate(op: u8, a: u64, b: u64) -> Cell
-    ensures { (o : Infix) → InfixAt op o → (op ≢ 0x08) → (op ≢ 0x09) → Keeps result.kind result.word (combined o (integer (signed_of a)) (integer (signed_of b))) }
+// An operator on the left and the right operand; none where it does not take them.
+pub fn combine(op: u8, x: Value, y: Value) -> Option<Value>
+    ensures { (o : Infix) → InfixAt op o → result ≡ combined o x y }
 {
-    if op == opcodes::ADD {
-        return from_word(sum(a, b));
+    match op {
+        opcodes::EQUAL => Some(Value::Boolean(x == y)),
+        opcodes::NOT_EQUAL => Some(Value::Boolean(x != y)),
+        _ => match (x, y) {
+            (Value::Integer(a), Value::Integer(b)) => calculate(op, a, b),
+            _ => None,
+        },
     }
-    if op == opcodes::SUB {
-        return from_word(difference(a, b));
-    }
-    if op == opcodes::MUL {
-        return from_word(product(a, b));
-    }
-    if op == opcodes::DIV {
-        return from_word(quotient(a, b));
-    }
-    from_bool(less(b, a))
 }
 
-// An operator on the left and the right operand.
-pub fn combine(op: u8, x: Cell, y: Cell) -> Cell
-    ensures { (o : Infix) (a b : Value) → InfixAt op o → Keeps x.kind x.word (some a) → Keeps y.kind y.word (some b) → Keeps result.kind result.word (combined o a b) }
+// The number with the other sign; none where it is no number, or does not fit.
+pub fn negate(x: Value) -> Option<Value>
+    ensures { result ≡ changed minus x }
 {
-    if op == opcodes::EQUAL {
-        return from_bool(same(x, y));
+    match x {
+        Value::Integer(n) => n.checked_neg().map(Value::Integer),
+        _ => None,
     }
-    if op == opcodes::NOT_EQUAL {
-        return from_bool(!same(x, y));
-    }
-    if x.kind != 1 {
-        return Cell { kind: 0, word: 0 };
-    }
-    if y.kind != 1 {
-        return Cell { kind: 0, word: 0 };
-    }
-    calculate(op, x.word, y.word)
-}
-
-// An operator on one operand.
-pub fn change(op: u8, x: Cell) -> Cell
-    ensures { (o : Prefix) (a : Value) → PrefixAt op o → Keeps x.kind x.word (some a) → Keeps result.kind result.word (changed o a) }
-{
-    if op == opcodes::BANG {
-        return from_bool(!truthy(x));
-    }
-    if x.kind != 1 {
-        return Cell { kind: 0, word: 0 };
-    }
-    from_word(minus(x.word))
 }

@@ -10,90 +10,59 @@ ghost use Rattle.trial.specs.Output.{names_as, named_globals};
 ghost use Rattle.trial.specs.Call.{ScanReady, first_refused, refused_with, scan_answer};
 
 use crate::pool::integer_at;
+use definition::{Reason, Refusal};
 use heights::chunk::pass;
-use opcode::{Decoded, Instruction, decode_at, opcodes};
-
-// What going over main finds: how many globals it names, or the offset of the first instruction that a run does not take.
-#[derive(Clone, Copy)]
-pub enum Scanned {
-    Names(usize),
-    Refuses(usize),
-}
+use heights::instructions::Instructions;
+use opcode::{Instruction, opcodes};
 
 // Whether a run takes an instruction, its height apart.
 fn runnable(image: &[u8], pool: usize, i: Instruction) -> bool
     requires { HasPool image.now pool (length image.now) }
     ensures { (cs : List Const) → PoolAt image.now pool (length image.now) cs → result ≡ takes cs (instr_of i) }
 {
-    let op = i.op;
-    let k = i.operand as usize;
-    if op == opcodes::CONSTANT {
-        return integer_at(image, pool, k).kind == 1;
+    match i.op {
+        opcodes::CONSTANT => integer_at(image, pool, usize::from(i.operand)).is_some(),
+        opcodes::GET_GLOBAL | opcodes::SET_GLOBAL => i.operand < 1024,
+        opcodes::RETURN_VALUE => true,
+        op => op < opcodes::ARRAY,
     }
-    if op == opcodes::GET_GLOBAL {
-        return k < 1024;
-    }
-    if op == opcodes::SET_GLOBAL {
-        return k < 1024;
-    }
-    if op == opcodes::RETURN_VALUE {
-        return true;
-    }
-    op < opcodes::ARRAY
 }
 
 // One more than the highest index that is named, with one more instruction.
 fn named(n: usize, i: Instruction) -> usize
     ensures { result ≡ names_as n i.operand (slice_index_or actions i.op other) }
 {
-    let k = i.operand as usize;
-    if i.op == opcodes::GET_GLOBAL {
-        if k < n {
-            return n;
-        }
-        return k + 1;
+    match i.op {
+        opcodes::GET_GLOBAL | opcodes::SET_GLOBAL => n.max(usize::from(i.operand) + 1),
+        _ => n,
     }
-    if i.op == opcodes::SET_GLOBAL {
-        if k < n {
-            return n;
-        }
-        return k + 1;
-    }
-    n
 }
 
-// The instructions of main, with what arrives before each.
-fn scan_marked(marks: &[u32], image: &[u8], end: usize, pool: usize) -> Scanned
+// The instructions of main, with what arrives before each: how many globals they name, or 27 at the first that a run does not take.
+fn scan_marked(marks: &[u32], image: &[u8], end: usize, pool: usize) -> Result<usize, Refusal>
     requires { ScanReady image.now end pool × (end < length marks.now) }
     ensures { (m : Image) → ImageAt image.now m → result ≡ scan_answer (first_refused m.pool (marks_from marks.now 3) m.code) (named_globals m.code) }
 {
-    let mut at = 3;
     let mut names = 0;
-    while at < end {
-        match decode_at(image, at, end) {
-            Decoded::Refused(_) => return Scanned::Refuses(at),
-            Decoded::Instr(i, next) => {
-                if !runnable(image, pool, i) {
-                    return Scanned::Refuses(at);
-                }
-                if 1026 < marks[at] {
-                    return Scanned::Refuses(at);
-                }
-                names = named(names, i);
-                at = next;
-            }
+    for (at, i, _) in Instructions::new(image, 3, end) {
+        if !runnable(image, pool, i) || 1026 < marks[at] {
+            return Err(Refusal {
+                reason: Reason::NotRunnable,
+                place: at,
+            });
         }
+        names = named(names, i);
     }
-    Scanned::Names(names)
+    Ok(names)
 }
 
 // Main, which passes with its heights.
-pub fn scan(image: &[u8], end: usize, pool: usize, heights: &[u32]) -> Scanned
+pub fn scan(image: &[u8], end: usize, pool: usize, heights: &[u32]) -> Result<usize, Refusal>
     requires { ScanReady image.now end pool }
     ensures { (m : Image) → ImageAt image.now m → (s : Passing) → passed heights.now 0 (size_of m.code) m.code ≡ Passed.passed s → result ≡ scan_answer (refused_with heights.now m) (named_globals m.code) }
 {
     let mut marks = [0u32; 65536];
     marks[3] = 2;
-    pass(&mut marks, image, 3, end, heights, 0);
+    let _ = pass(&mut marks, image, 3, end, heights, 0);
     scan_marked(&marks, image, end, pool)
 }

@@ -14,7 +14,7 @@ use Rattle.definition.specs.Walk.{refuse, walk_expr, walk_exprs}
 use Rattle.field.specs.Layout.{tag, after}
 use Rattle.scope.specs.View.{then, Done, Refuses}
 use Rattle.scope.specs.Machine.{machine, emit}
-use Rattle.scope.specs.declared.Walked.{Walked}
+use Rattle.scope.specs.Walked.{Walked}
 use Rattle.step.specs.Memory.{Rest, Walks}
 use Rattle.tree.specs.At.{CallAt}
 use Rattle.tree.specs.Reads.{ReadsExpr, ReadsExprs, Counted}

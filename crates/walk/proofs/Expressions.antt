@@ -14,7 +14,7 @@ use Rattle.definition.specs.Walk.{Go, walk_expr, operate, prefixes, infixes, les
 use Rattle.field.specs.Layout.{tag, after, content}
 use Rattle.scope.specs.View.{View, then, Ready, Done, Refuses}
 use Rattle.scope.specs.Machine.{machine, emit, literal, load}
-use Rattle.scope.specs.declared.Walked.{Walked}
+use Rattle.scope.specs.Walked.{Walked}
 use Rattle.step.specs.Memory.{Rest, Fine, Walks}
 use Rattle.step.specs.Contract.{Steps}
 use Rattle.tree.specs.At.{PrefixAt, InfixAt, IndexAt, expr_kind, ExprIs}

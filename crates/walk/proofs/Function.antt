@@ -9,8 +9,9 @@ use Rattle.definition.specs.Walk.{bind, Go, walk_stmts, walk_expr}
 use Rattle.field.specs.Layout.{after, content}
 use Rattle.scope.specs.View.{View, then, view}
 use Rattle.scope.specs.Machine.{machine, enter, leave}
-use Rattle.scope.specs.declared.Walked.{Walked}
-use Rattle.scope.specs.declared.Walked.TheVariants.{On, Stop}
+use Rattle.scope.specs.Walked.{Walked}
+use Rattle.std.specs.Prelude.{Ok, Err}
+use Rattle.scope.specs.Walked.{stopped}
 use Rattle.step.specs.Memory.{Rest, symbols_of, settled, memory, Walks}
 use Rattle.step.specs.Contract.{HeadAt, Enters, Leaves}
 use Rattle.step.proofs.Memory.{chain}
@@ -48,8 +49,8 @@ function_walks {tree} {at} {params} {body} {end} {n} {c} {c₁} {c₂} {m} {m₁
 
     go : (o : Walked) → Enters tree at c m m₁ o i → Leaves tree at n c₁ c₂ m₂ m₃ o v r → (ps : List Bytes) → ParamsAt tree (after tree (at + 3)) ps → (b : Stmts) → ReadsStmts tree (body + 3) end b
         → memory tree c₂ m₃ r ≡ settled (then (memory tree c m o) (walked ps b n))
-    go (On s) e l ps x b y =
+    go (Ok s) e l ps x b y =
         let o = view c m.session (symbols_of tree m s) s in
-        chain (memory tree c m (On s)) (enter at (content tree (at + 3)) ps) (λ s₁. then (walk_stmts machine b s₁) (leave at n o)) (e.step ps x)
+        chain (memory tree c m (Ok s)) (enter at (content tree (at + 3)) ps) (λ s₁. then (walk_stmts machine b s₁) (leave at n o)) (e.step ps x)
         (chain (memory tree c m₁ i) (walk_stmts machine b) (leave at n o) (d.step b y) (l.step o refl))
-    go (Stop x s) e l ps h b y = l.stopped x s refl ∙ chain (memory tree c m (Stop x s)) (enter at (content tree (at + 3)) ps) (walk_stmts machine b) (e.step ps h) (d.step b y)
+    go (Err z) e l ps h b y = l.stopped z.refusal z.state refl ∙ chain (memory tree c m (Err (stopped z.refusal z.state))) (enter at (content tree (at + 3)) ps) (walk_stmts machine b) (e.step ps h) (d.step b y)

@@ -9,7 +9,7 @@ use Rattle.field.specs.Layout.{after}
 use Rattle.scope.specs.View.{View, then, Done, Jumps}
 use Rattle.scope.specs.Machine.{machine, emit, jump, patch}
 use Rattle.scope.specs.Code.{jump_and_patch}
-use Rattle.scope.specs.declared.Walked.{Walked}
+use Rattle.scope.specs.Walked.{Walked}
 use Rattle.scope.specs.declared.Jumped.{Jumped}
 use Rattle.step.specs.Memory.{Rest, Fine, Walks}
 use Rattle.tree.specs.At.{IfAt}

@@ -5,13 +5,15 @@ use mathlib.Core.Path.{◌≡◌, refl, ap, ◌∙◌}
 use Rattle.definition.specs.Basic.{Bytes}
 use Rattle.definition.specs.Walk.{Res, on, stop, refuse, bind, Go}
 use Rattle.scope.specs.View.{Symbols, View, view, ended, ended_at, then, outline_of, Ready, Done, Jumps, Refuses}
-use Rattle.scope.specs.declared.Walked.{Walked}
-use Rattle.scope.specs.declared.Walked.TheVariants.{On, Stop}
+use Rattle.scope.specs.Walked.{Walked}
+use Rattle.std.specs.Prelude.{Ok, Err}
+use Rattle.scope.specs.Walked.{stopped}
 use Rattle.scope.specs.declared.Jumped.{Jumped}
 use Rattle.step.specs.Memory.{Rest, symbols_of, no_symbols, settled, result, memory, Fine, Walks}
 use Rattle.step.specs.Contract.{Steps}
 use Rattle.walk.specs.Parts.{Standing}
 use Rattle.step.proofs.Memory.{chain, follow, with_value, no_way, deeper_keeps, same_symbols, done_steps}
+use Rattle.definition.specs.declared.reason.Reason.{Reason}
 
 -- Walks in a row
 
@@ -50,7 +52,7 @@ pub walk_done : {tree : Bytes} {A : Type 0} {R : A → Type 0} {k : A → Go Vie
 walk_done d e = walk_step d (done_steps d.fine e)
 
 -- a refusal
-pub refuses_steps : {tree : Bytes} {m : Rest} {c : Bytes} {w r : Walked} {n p : ℕ} → Ready c w → Fine tree m w → Refuses w r n p → Steps tree (refuse n p) c c m m w r
+pub refuses_steps : {tree : Bytes} {m : Rest} {c : Bytes} {w r : Walked} {n : Reason} {p : ℕ} → Ready c w → Fine tree m w → Refuses w r n p → Steps tree (refuse n p) c c m m w r
 refuses_steps {c = c} a f d = done_steps f (record { step = d.step c; ready = record { area = a.area; sound = d.sound }; same = d.same })
 
 -- A jump
@@ -61,8 +63,8 @@ module _ {c c' : Bytes} {w : Walked} {j : Jumped} {k : View → Res View ℕ} wh
   jumps_done d = record { step = λ e y. forgot e y j.walked ∙ ap (λ x. bind x (λ _. on tt)) (d.step e y) ∙ later (ended c e y w); ready = d.ready; same = d.same }
     where
       forgot : (e : Bytes) (y : Symbols) (r : Walked) → ended c' e y r ≡ bind (ended_at c' e y r j.at) (λ _. on tt)
-      forgot e y (On s) = refl
-      forgot e y (Stop x s) = refl
+      forgot e y (Ok s) = refl
+      forgot e y (Err z) = refl
 
       later : (x : Res View (Unit {0})) → bind (bind x (λ _. k)) (λ _. on tt) ≡ then x (λ v. bind (k v) (λ _. on tt))
       later (on a v) = refl
@@ -75,10 +77,10 @@ module _ {c c' : Bytes} {w : Walked} {j : Jumped} {k : View → Res View ℕ} wh
 -- with its position, on the whole memory
 jumps-result : (tree c c' : Bytes) (m : Rest) (k : View → Res View ℕ) (w r : Walked) (at : ℕ) → ((e : Bytes) (y : Symbols) → ended_at c' e y r at ≡ bind (ended c e y w) (λ _. k)) → outline_of r ≡ outline_of w
     → result tree c' m r at ≡ settled (bind (memory tree c m w) (λ _. k))
-jumps-result tree c c' m k (On s) (On t) at f h = ap (λ y. on at (view c' m.session y t)) (same_symbols tree m s t h) ∙ ap settled (f m.session (symbols_of tree m s))
-jumps-result tree c c' m k (On s) (Stop x t) at f h = ap settled (f m.session (symbols_of tree m s))
-jumps-result tree c c' m k (Stop x s) (On t) at f h = absurd (no_way (f [] no_symbols))
-jumps-result tree c c' m k (Stop x s) (Stop z t) at f h = f m.session no_symbols
+jumps-result tree c c' m k (Ok s) (Ok t) at f h = ap (λ y. on at (view c' m.session y t)) (same_symbols tree m s t h) ∙ ap settled (f m.session (symbols_of tree m s))
+jumps-result tree c c' m k (Ok s) (Err z) at f h = ap settled (f m.session (symbols_of tree m s))
+jumps-result tree c c' m k (Err z) (Ok t) at f h = absurd (no_way (f [] no_symbols))
+jumps-result tree c c' m k (Err halt) (Err halt₂) at f h = f m.session no_symbols
 
 -- a jump, and then a walk to which its position is given
 pub jump_walk : {tree : Bytes} {A : Type 0} {R : A → Type 0} (k : ℕ → A → Go View) {f : View → Res View ℕ} {c c₁ c₂ : Bytes} {m m₁ : Rest} {w r : Walked} {j : Jumped} → Fine tree m w

@@ -10,7 +10,7 @@ use Rattle.definition.specs.Walk.{Go, walk_stmt, walk_stmts, walk_expr}
 use Rattle.field.specs.Layout.{tag, after, content}
 use Rattle.scope.specs.View.{View, then, Done}
 use Rattle.scope.specs.Machine.{machine, emit, define}
-use Rattle.scope.specs.declared.Walked.{Walked}
+use Rattle.scope.specs.Walked.{Walked}
 use Rattle.step.specs.Memory.{Rest, memory, Walks}
 use Rattle.step.specs.Contract.{Defines}
 use Rattle.step.specs.declared.Defining.{Defining}

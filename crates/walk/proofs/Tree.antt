@@ -11,7 +11,7 @@ use Rattle.definition.specs.Tree.{Read, read_program, read_tree}
 use Rattle.definition.specs.Walk.{walk_stmts}
 use Rattle.definition.proofs.Gives.{Gives, right, wrong, gives-pick, gives-map, judged-gives}
 use Rattle.scope.specs.Machine.{machine}
-use Rattle.scope.specs.declared.Walked.{Walked}
+use Rattle.scope.specs.Walked.{Walked}
 use Rattle.step.specs.Memory.{Rest, Walks}
 use Rattle.tree.specs.Reads.{Some, ReadsStmts}
 use Rattle.tree.proofs.Stands.{tree_stands}

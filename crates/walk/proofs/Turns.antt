@@ -8,8 +8,9 @@ use Rattle.definition.specs.Walk.{on, Go, walk_stmt, walk_stmts, walk_expr, walk
 use Rattle.field.specs.Layout.{after, Whole}
 use Rattle.scope.specs.View.{View, then}
 use Rattle.scope.specs.Machine.{machine}
-use Rattle.scope.specs.declared.Walked.{Walked}
-use Rattle.scope.specs.declared.Walked.TheVariants.{On, Stop}
+use Rattle.scope.specs.Walked.{Walked}
+use Rattle.std.specs.Prelude.{Ok, Err}
+use Rattle.scope.specs.Walked.{stopped}
 use Rattle.step.specs.Memory.{Rest, settled, memory, Keeps, Walks}
 use Rattle.tree.specs.Reads.{Some, ReadsStmt, ReadsStmts, ReadsExpr, ReadsExprs}
 use Rattle.step.proofs.Memory.{chain, keeps_refl, deeper_keeps}
@@ -70,8 +71,8 @@ module _ {B : Type 0} {tree : Bytes} {R : ℕ → ℕ → B → Type 0} {k : B �
       }
     where
       unit : (v : Walked) → settled (then (memory tree c m v) (on tt)) ≡ memory tree c m v
-      unit (On s) = refl
-      unit (Stop x s) = refl
+      unit (Ok s) = refl
+      unit (Err z) = refl
 
 module _ {tree : Bytes} {from end at : ℕ} {c₀ c : Bytes} {m₀ m : Rest} {w v : Walked} where
   -- a statement more

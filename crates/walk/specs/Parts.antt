@@ -8,7 +8,7 @@ use Rattle.definition.specs.Tree.{read_tree, Parsed}
 use Rattle.definition.specs.Walk.{on, bind, Go, walk_stmts, walk_else, walk_exprs}
 use Rattle.scope.specs.View.{View, then, Ready}
 use Rattle.scope.specs.Machine.{machine, emit, jump, patch}
-use Rattle.scope.specs.declared.Walked.{Walked}
+use Rattle.scope.specs.Walked.{Walked}
 use Rattle.step.specs.Memory.{Rest, Fine}
 use Rattle.tree.specs.Reads.{Branches}
 

@@ -9,11 +9,11 @@ ghost use Rattle.scope.specs.Machine.{machine};
 ghost use Rattle.tree.specs.At.{LetAt, PrefixAt, InfixAt, IfAt, FunctionAt, CallAt, IndexAt};
 ghost use Rattle.tree.specs.Reads.{Some, ReadsStmt, ReadsStmts, ReadsExpr, ReadsExprs, ReadsBlock, ReadsOther, ReadsBranches};
 ghost use Rattle.step.specs.Memory.{rest, Fine, Walks};
-ghost use Rattle.scope.specs.declared.Walked.TheVariants.{On};
+ghost use Rattle.std.specs.Prelude.{Ok};
 ghost use Rattle.walk.specs.Parts.{Standing, walk_list, walk_branch, walk_other, walk_branches, ReadsTree};
 
 use definition::limit::ARGUMENTS_LIMIT;
-use definition::{number, tag};
+use definition::{Reason, tag};
 use field::after_at;
 use opcode::opcodes;
 use scope::{
@@ -129,7 +129,7 @@ fn walk_expression(
         tag::ARRAY => walk_list(tree, session, code, table, at, opcodes::ARRAY, w),
         tag::INDEX => walk_index(tree, session, code, table, at, w),
         tag::HASH => walk_list(tree, session, code, table, at, opcodes::HASH, w),
-        _ => refuse(w, number::MACRO, at),
+        _ => refuse(w, Reason::Macro, at),
     }
 }
 
@@ -310,7 +310,7 @@ fn walk_call(
     let n = count_fields(tree, args, end);
     let v = walk_expression(tree, session, code, table, at + 3, w);
     if ARGUMENTS_LIMIT < n {
-        refuse(v, number::TOO_MANY, at)
+        refuse(v, Reason::TooMany, at)
     } else {
         let u = walk_expressions(tree, session, code, table, args, end, v);
         emit_any(code, u, at, opcodes::CALL, n)
@@ -395,10 +395,10 @@ pub fn compile_tree(
     state: State,
 ) -> Walked
     requires some { Some (ReadsTree tree.now) }
-    requires ready { Ready code.old (On state) }
-    requires fine { Fine tree.now (rest session.old table.old) (On state) }
-    ensures { Walks tree.now (ReadsTree tree.now) (walk_stmts machine) code.old code.new (rest session.old table.old) (rest session.new table.new) (On state) result }
+    requires ready { Ready code.old (Ok state) }
+    requires fine { Fine tree.now (rest session.old table.old) (Ok state) }
+    ensures { Walks tree.now (ReadsTree tree.now) (walk_stmts machine) code.old code.new (rest session.old table.old) (rest session.new table.new) (Ok state) result }
 {
-    let w = Walked::On(state);
+    let w = Ok(state);
     walk_block(tree, session, code, table, 3, tree.len(), w)
 }

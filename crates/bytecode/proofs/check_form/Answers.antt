@@ -1,51 +1,28 @@
 -- `bytecode::check_form` meets its contract: main code, the pool, and nothing more.
 use native.Mathlib.Omega.{arith}
+use Rattle.std.proofs.lemmas.Result.{err_from_is_err_and}
 use Rattle.bytecode.proofs.Images.{main_wrong, main_within, pool_wrong, image_ends, image_follows}
 use Rattle.bytecode.proofs.check_form.Goals as goal
 
+pub returns-in_err-at : goal.returns-in_err-at
+returns-in_err-at c =
+    let p = err_from_is_err_and c.from_residual.result c.from_residual.ensures.1 in
+    rw (p.1, p.2) (main_wrong c.args.form c.args.image.now c.check_main.ensures c.in_err-at.was)
+
 pub check_pool-requires : goal.check_pool-requires
 check_pool-requires c =
-    let start = c in
-    let check-main = c.check_main in
-    let at = c.in-Next in
-    let f = main_within start.args.form start.args.image.now check-main.ensures at.is in
+    let f = main_within c.args.form c.args.image.now c.check_main.ensures c.in_ok-at.was in
     record { order = omega arith; within = omega arith }
 
-pub returns-then-next-image : goal.returns-then-next-image
-returns-then-next-image c =
-    let start = c in
-    let check-main = c.check_main in
-    let at = c.in-Next in
-    let check-pool = c.check_pool in
-    let constants = c.in-Good in
-    let if1 = c.if-next-image in
-    let bad-image3 = c.bad_image-then-next-image in
-    image_follows start.args.form start.args.image.now check-main.ensures at.is check-pool.ensures constants.is if1.true bad-image3.ensures
+pub returns-in_err-pool : goal.returns-in_err-pool
+returns-in_err-pool c =
+    let p = err_from_is_err_and c.from_residual-in_err-pool.result c.from_residual-in_err-pool.ensures.1 in
+    rw (p.1, p.2) (pool_wrong c.args.form c.args.image.now c.check_main.ensures c.in_ok-at.was c.check_pool.ensures c.in_err-pool.was)
 
-pub returns-in-Wrong : goal.returns-in-Wrong
-returns-in-Wrong c =
-    let start = c in
-    let check-main = c.check_main in
-    let place = c.in-Wrong in
-    let bad-image = c.bad_image in
-    main_wrong start.args.form start.args.image.now check-main.ensures place.is bad-image.ensures
+pub returns-then-pool-image : goal.returns-then-pool-image
+returns-then-pool-image c =
+    rw c.from.ensures (image_follows c.args.form c.args.image.now c.check_main.ensures c.in_ok-at.was c.check_pool.ensures c.in_ok-pool.was c.if-pool-image.true)
 
-pub returns-in-Wrong-check_pool : goal.returns-in-Wrong-check_pool
-returns-in-Wrong-check_pool c =
-    let start = c in
-    let check-main = c.check_main in
-    let at = c.in-Next in
-    let check-pool = c.check_pool in
-    let place2 = c.in-Wrong-check_pool in
-    let bad-image2 = c.bad_image-in-Wrong-check_pool in
-    pool_wrong start.args.form start.args.image.now check-main.ensures at.is check-pool.ensures place2.is bad-image2.ensures
-
-pub returns-else-next-image : goal.returns-else-next-image
-returns-else-next-image c =
-    let start = c in
-    let check-main = c.check_main in
-    let at = c.in-Next in
-    let check-pool = c.check_pool in
-    let constants = c.in-Good in
-    let if1 = c.if-next-image in
-    image_ends start.args.form start.args.image.now check-main.ensures at.is check-pool.ensures constants.is if1.false
+pub returns : goal.returns
+returns c =
+    image_ends c.args.form c.args.image.now c.check_main.ensures c.in_ok-at.was c.check_pool.ensures c.in_ok-pool.was c.if-pool-image.false

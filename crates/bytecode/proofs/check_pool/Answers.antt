@@ -1,50 +1,54 @@
 -- `bytecode::check_pool` meets its contract: by its head, and then its constants.
-use mathlib.Core.Path.{◌∙◌, ap, sym}
+use Prim.Native.Nat.{◌+◌, ◌≤◌}
+use mathlib.Core.Path.{◌∙◌, ap, sym, refl}
 use native.Mathlib.Omega.{arith}
+use lib.ListN.{length}
+use Rattle.std.proofs.Common.{rules}
+use Rattle.std.proofs.lemmas.Result.{err_from_is_err_and}
 use Rattle.definition.specs.Basic.{byte_at}
-use Rattle.bytecode.specs.Checked.{checked, is_pool}
-use Rattle.bytecode.proofs.Heads.{fitting, after_cut, after_bad, after_good}
-use Rattle.bytecode.proofs.Fields.{pool_content_in}
+use mathlib.Core.List.{[]}
+use Rattle.definition.specs.Limit.{constants_limit}
+use Rattle.bytecode.specs.Form.{read_const_in}
+use Rattle.bytecode.specs.Checked.{item, checked, is_pool}
+use Rattle.bytecode.proofs.Heads.{part, fitting, unfitting}
+use Rattle.bytecode.proofs.Fields.{pool_content_in, const_ends_in}
+use Rattle.bytecode.proofs.Counted.{counted-items, item_ends}
 use Rattle.bytecode.proofs.check_pool.Goals as goal
 
-pub returns-then-not-pool_head : goal.returns-then-not-pool_head
-returns-then-not-pool_head c =
-    let start = c in
-    let head_at = c.head_at in
-    let tag = c.in-Whole in
-    let pool-head = c.pool_head in
-    let if1 = c.if-not-pool_head in
-    sym (ap checked (after_bad (byte_at start.args.bytes.now) start.args.at start.args.end is_pool (pool_content_in (byte_at start.args.bytes.now) start.args.form) head_at.ensures tag.is pool-head.ensures if1.true))
+pub returns-in_err-head : goal.returns-in_err-head
+returns-in_err-head c =
+    let p = err_from_is_err_and c.from_residual.result c.from_residual.ensures.1 in
+    let a = c.args in
+    let e = c.head_where.ensures is_pool (λ h r q. search rules) in
+    rw (p.1, p.2) (sym (ap checked (unfitting (byte_at a.bytes.now) a.at a.end is_pool e c.in_err-head.was (pool_content_in (byte_at a.bytes.now) a.form))))
 
-pub overflow_add-at-in-Whole-2 : goal.overflow_add-at-in-Whole-2
-overflow_add-at-in-Whole-2 c =
-    let start = c in
-    let head_at = c.head_at in
-    let tag = c.in-Whole in
-    let f = fitting (byte_at start.args.bytes.now) start.args.at start.args.end head_at.ensures tag.is in
+pub overflow_add-after-2 : goal.overflow_add-after-2
+overflow_add-after-2 c =
+    let a = c.args in
+    let e = c.head_where.ensures is_pool (λ h r q. search rules) in
+    let f = fitting (byte_at a.bytes.now) a.at a.end is_pool e c.in_ok-head.was in
     omega arith
 
-pub check_constants-requires : goal.check_constants-requires
-check_constants-requires c =
-    let start = c in
-    let head_at = c.head_at in
-    let tag = c.in-Whole in
-    let f = fitting (byte_at start.args.bytes.now) start.args.at start.args.end head_at.ensures tag.is in
-    record { order = omega arith; within = omega arith }
+pub check_items-requires-clause-calls : goal.check_items-requires-clause-calls
+check_items-requires-clause-calls c =
+    let a = c.args in
+    let e = c.head_where.ensures is_pool (λ h r q. search rules) in
+    let f = fitting (byte_at a.bytes.now) a.at a.end is_pool e c.in_ok-head.was in
+    let w : a.at + 3 + c.in_ok-head.head.len ≤ length a.bytes.now = omega arith in
+    search (rules, part a.bytes.now)
 
-pub returns-in-Cut : goal.returns-in-Cut
-returns-in-Cut c =
-    let start = c in
-    let head_at = c.head_at in
-    let enum_told = c.in-Cut in
-    sym (ap checked (after_cut (byte_at start.args.bytes.now) start.args.at start.args.end is_pool (pool_content_in (byte_at start.args.bytes.now) start.args.form) head_at.ensures enum_told.is))
+pub check_items-requires-clause-ahead : goal.check_items-requires-clause-ahead
+check_items-requires-clause-ahead c =
+    let a = c.args in
+    let after = a.at + 3 + c.in_ok-head.head.len in
+    λ at next h p. item_ends (read_const_in a.form (byte_at a.bytes.now)) at after (const_ends_in (byte_at a.bytes.now) at after a.form) (search rules)
 
-pub returns-else-not-pool_head : goal.returns-else-not-pool_head
-returns-else-not-pool_head c =
-    let start = c in
-    let head_at = c.head_at in
-    let tag = c.in-Whole in
-    let pool-head = c.pool_head in
-    let if1 = c.if-not-pool_head in
-    let check-constants = c.check_constants in
-    check-constants.ensures ∙ sym (ap checked (after_good (byte_at start.args.bytes.now) start.args.at start.args.end is_pool (pool_content_in (byte_at start.args.bytes.now) start.args.form) head_at.ensures tag.is pool-head.ensures if1.false))
+pub returns : goal.returns
+returns c =
+    let a = c.args in
+    let e = c.head_where.ensures is_pool (λ h r q. search rules) in
+    let f = fitting (byte_at a.bytes.now) a.at a.end is_pool e c.in_ok-head.was in
+    let after = a.at + 3 + c.in_ok-head.head.len in
+    rw f.reads
+    (c.check_items.ensures (λ at. item (read_const_in a.form (byte_at a.bytes.now) at after)) (λ at r h p. search rules)
+    ∙ counted-items (read_const_in a.form (byte_at a.bytes.now)) after constants_limit (a.at + 3) [] refl)

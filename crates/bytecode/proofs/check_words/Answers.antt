@@ -1,5 +1,6 @@
 -- `bytecode::check_words` meets its contract: by the first byte, the fields, and whether a name is repeated.
-use Rattle.bytecode.proofs.Words.{none_there, other_tag, own_wrong, own_row, own_good, own_repeated}
+use Rattle.std.proofs.lemmas.Result.{err_from_is_err_and}
+use Rattle.bytecode.proofs.Words.{none_there, other_tag, own_row, own_good, own_wrong, own_repeated}
 use Rattle.bytecode.proofs.check_words.Goals as goal
 
 pub returns-then-session-eq0 : goal.returns-then-session-eq0
@@ -8,28 +9,18 @@ returns-then-session-eq0 c = none_there c.args.session.now c.if-session-eq0.true
 pub returns-then-session-ne-WORDS : goal.returns-then-session-ne-WORDS
 returns-then-session-ne-WORDS c = other_tag c.args.session.now c.if-session-ne-WORDS.true
 
+pub returns-in_err-words : goal.returns-in_err-words
+returns-in_err-words c =
+    let p = err_from_is_err_and c.from_residual.result c.from_residual.ensures.1 in
+    rw (p.1, p.2) (own_wrong c.args.session.now c.if-session-ne-WORDS.false c.check_names.ensures c.in_err-words.was)
+
 pub distinct_names-requires : goal.distinct_names-requires
-distinct_names-requires c =
-    let start = c in
-    let if2 = c.if-session-ne-WORDS in
-    own_row start.args.session.now if2.false c.check_names.ensures c.in-Good.is
+distinct_names-requires c = own_row c.args.session.now c.if-session-ne-WORDS.false c.check_names.ensures c.in_ok-words.was
 
 pub returns-then-distinct_names : goal.returns-then-distinct_names
 returns-then-distinct_names c =
-    let start = c in
-    let if2 = c.if-session-ne-WORDS in
-    let check-names = c.check_names in
-    own_good start.args.session.now if2.false check-names.ensures c.in-Good.is c.distinct_names.ensures c.if-distinct_names.true
+    own_good c.args.session.now c.if-session-ne-WORDS.false c.check_names.ensures c.in_ok-words.was c.distinct_names.ensures c.if-distinct_names.true
 
-pub returns-in-Wrong : goal.returns-in-Wrong
-returns-in-Wrong c =
-    let start = c in
-    let if2 = c.if-session-ne-WORDS in
-    own_wrong start.args.session.now if2.false c.check_names.ensures c.in-Wrong.is
-
-pub returns-else-distinct_names : goal.returns-else-distinct_names
-returns-else-distinct_names c =
-    let start = c in
-    let if2 = c.if-session-ne-WORDS in
-    let check-names = c.check_names in
-    own_repeated start.args.session.now if2.false check-names.ensures c.in-Good.is c.distinct_names.ensures c.if-distinct_names.false
+pub returns : goal.returns
+returns c =
+    own_repeated c.args.session.now c.if-session-ne-WORDS.false c.check_names.ensures c.in_ok-words.was c.distinct_names.ensures c.if-distinct_names.false

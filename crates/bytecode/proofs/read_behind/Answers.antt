@@ -1,73 +1,45 @@
 -- `bytecode::read_behind` meets its contract: the names, the pool, and zeros.
 use native.Mathlib.Omega.{arith}
-use Rattle.bytecode.proofs.Sessions.{words_within, names_wrong, names_within, pool_broken, pool_within, tail_broken, layout_sound}
+use Rattle.bytecode.proofs.Sessions.{was_ok, was_err, words_within, names_wrong, names_within, pool_broken, pool_within, tail_broken, layout_sound}
 use Rattle.bytecode.proofs.read_behind.Goals as goal
 
 pub check_names-requires : goal.check_names-requires
 check_names-requires c = record { order = words_within c.args.session.now c.requires; within = omega arith }
 
+pub returns-in_err-names : goal.returns-in_err-names
+returns-in_err-names c =
+    rw c.from_residual.ensures (names_wrong c.args.session.now c.requires c.check_names.ensures (was_err _ c.in_err-names.ensures.value).1)
+
 pub check_pool-requires : goal.check_pool-requires
 check_pool-requires c =
-    let start = c in
-    let check-names = c.check_names in
-    let names = c.in-Good in
-    let f = names_within start.args.session.now start.requires check-names.ensures names.is in
+    let f = names_within c.args.session.now c.requires c.check_names.ensures (was_ok _ c.in_ok-names.ensures.value) in
     record { order = omega arith; within = omega arith }
+
+pub returns-in_err-pool : goal.returns-in_err-pool
+returns-in_err-pool c =
+    let names = was_ok _ c.in_ok-names.ensures.value in
+    rw c.from_residual-in_err-pool.ensures (pool_broken c.args.session.now c.requires c.check_names.ensures names c.check_pool.ensures (was_err _ c.in_err-pool.ensures.value).1)
 
 pub slice_bounds-all_zero-count : goal.slice_bounds-all_zero-count
 slice_bounds-all_zero-count c =
-    let start = c in
-    let check-names = c.check_names in
-    let names = c.in-Good in
-    let check-pool = c.check_pool in
-    let constants = c.in-Good-check_pool in
-    let f = pool_within start.args.session.now start.requires check-names.ensures names.is check-pool.ensures constants.is in
+    let names = was_ok _ c.in_ok-names.ensures.value in
+    let f = pool_within c.args.session.now c.requires c.check_names.ensures names c.check_pool.ensures (was_ok _ c.in_ok-pool.ensures.value) in
     omega arith
 
 pub slice_bounds-all_zero-start : goal.slice_bounds-all_zero-start
 slice_bounds-all_zero-start c =
-    let start = c in
-    let check-names = c.check_names in
-    let names = c.in-Good in
-    let check-pool = c.check_pool in
-    let constants = c.in-Good-check_pool in
-    let f = pool_within start.args.session.now start.requires check-names.ensures names.is check-pool.ensures constants.is in
+    let names = was_ok _ c.in_ok-names.ensures.value in
+    let f = pool_within c.args.session.now c.requires c.check_names.ensures names c.check_pool.ensures (was_ok _ c.in_ok-pool.ensures.value) in
     omega arith
 
 pub returns-then-all_zero : goal.returns-then-all_zero
 returns-then-all_zero c =
-    let start = c in
-    let check-names = c.check_names in
-    let names = c.in-Good in
-    let check-pool = c.check_pool in
-    let constants = c.in-Good-check_pool in
-    let all-zero = c.all_zero in
-    let if1 = c.if-all_zero in
-    layout_sound start.args.session.now start.requires check-names.ensures names.is check-pool.ensures constants.is all-zero.ensures if1.true
+    let names = was_ok _ c.in_ok-names.ensures.value in
+    let pool = was_ok _ c.in_ok-pool.ensures.value in
+    layout_sound c.args.session.now c.requires c.check_names.ensures names c.check_pool.ensures pool c.all_zero.ensures c.if-all_zero.true
 
-pub returns-in-Wrong : goal.returns-in-Wrong
-returns-in-Wrong c =
-    let start = c in
-    let check-names = c.check_names in
-    let enum_told = c.in-Wrong in
-    names_wrong start.args.session.now start.requires check-names.ensures enum_told.is
-
-pub returns-in-Wrong-check_pool : goal.returns-in-Wrong-check_pool
-returns-in-Wrong-check_pool c =
-    let start = c in
-    let check-names = c.check_names in
-    let names = c.in-Good in
-    let check-pool = c.check_pool in
-    let enum-told2 = c.in-Wrong-check_pool in
-    pool_broken start.args.session.now start.requires check-names.ensures names.is check-pool.ensures enum-told2.is
-
-pub returns-else-all_zero : goal.returns-else-all_zero
-returns-else-all_zero c =
-    let start = c in
-    let check-names = c.check_names in
-    let names = c.in-Good in
-    let check-pool = c.check_pool in
-    let constants = c.in-Good-check_pool in
-    let all-zero = c.all_zero in
-    let if1 = c.if-all_zero in
-    tail_broken start.args.session.now start.requires check-names.ensures names.is check-pool.ensures constants.is all-zero.ensures if1.false
+pub returns : goal.returns
+returns c =
+    let names = was_ok _ c.in_ok-names.ensures.value in
+    let pool = was_ok _ c.in_ok-pool.ensures.value in
+    tail_broken c.args.session.now c.requires c.check_names.ensures names c.check_pool.ensures pool c.all_zero.ensures c.if-all_zero.false

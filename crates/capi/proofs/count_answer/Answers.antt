@@ -7,11 +7,11 @@ use Rattle.capi.proofs.count_answer.Goals as goal
 pub pair-requires : goal.pair-requires
 pair-requires c =
     let start = c in
-    let fits = subst (λ x. Fits (count_answer x)) c.in-Counted.is start.requires in
+    let fits = subst (λ x. Fits (count_answer x)) c.in-Ok.is start.requires in
     fits.value
 
-pub returns-in-Counted : goal.returns-in-Counted
-returns-in-Counted c = c.pair.ensures ∙ sym (ap count_answer c.in-Counted.is)
+pub returns-in-Ok : goal.returns-in-Ok
+returns-in-Ok c = c.pair.ensures ∙ sym (ap count_answer c.in-Ok.is)
 
-pub returns-in-Refused : goal.returns-in-Refused
-returns-in-Refused c = sym (ap count_answer c.in-Refused.is)
+pub returns-in-Err : goal.returns-in-Err
+returns-in-Err c = sym (ap count_answer c.in-Err.is)

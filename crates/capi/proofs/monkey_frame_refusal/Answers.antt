@@ -1,8 +1,8 @@
 -- `capi::monkey_frame_refusal` meets its contract: a frame's refusal, as one number.
 use native.Mathlib.Omega.{arith}
-use mathlib.Core.Path.{ap}
+use mathlib.Core.Path.{ap, ◌∙◌}
 use Rattle.definition.specs.Valid.{AreBytes}
-use Rattle.definition.specs.declared.Answer.TheVariants.{Refused}
+use Rattle.capi.specs.Framed.{refusal_answer}
 use Rattle.capi.proofs.Fits.{fits_as, packs_as}
 use Rattle.capi.proofs.Framed.{refusal-fits}
 use Rattle.capi.proofs.monkey_frame_refusal.Goals as goal
@@ -11,7 +11,7 @@ pub pack-requires : goal.pack-requires
 pack-requires c =
     let start = c in
     let bytes : AreBytes start.args.image.now = record { below = λ i. omega (arith, c.shared_slice_known-1.given i) } in
-    fits_as (ap Refused c.frame_refusal-refusal.ensures) (refusal-fits start.args.image.now bytes start.args.size start.args.number)
+    fits_as (c.refusal_answer-answer.ensures ∙ ap refusal_answer c.frame_refusal.ensures) (refusal-fits start.args.image.now bytes start.args.size start.args.number)
 
 pub returns : goal.returns
-returns c = record { answer = packs_as (ap Refused c.frame_refusal-refusal.ensures) c.pack.ensures }
+returns c = record { answer = packs_as (c.refusal_answer-answer.ensures ∙ ap refusal_answer c.frame_refusal.ensures) c.pack.ensures }

@@ -7,11 +7,11 @@ use Rattle.capi.proofs.names_answer.Goals as goal
 pub pair-requires : goal.pair-requires
 pair-requires c =
     let start = c in
-    let fits = subst (λ x. Fits (names_answer x start.args.count)) c.in-Length.is start.requires in
+    let fits = subst (λ x. Fits (names_answer x start.args.count)) c.in-Ok.is start.requires in
     fits.value
 
-pub returns-in-Length : goal.returns-in-Length
-returns-in-Length c = let start = c in c.pair.ensures ∙ sym (ap (λ x. names_answer x start.args.count) c.in-Length.is)
+pub returns-in-Ok : goal.returns-in-Ok
+returns-in-Ok c = let start = c in c.pair.ensures ∙ sym (ap (λ x. names_answer x start.args.count) c.in-Ok.is)
 
-pub returns-in-Refused : goal.returns-in-Refused
-returns-in-Refused c = let start = c in sym (ap (λ x. names_answer x start.args.count) c.in-Refused.is)
+pub returns-in-Err : goal.returns-in-Err
+returns-in-Err c = let start = c in sym (ap (λ x. names_answer x start.args.count) c.in-Err.is)

@@ -7,11 +7,11 @@ use Rattle.capi.proofs.place_answer.Goals as goal
 pub pair-requires : goal.pair-requires
 pair-requires c =
     let start = c in
-    let fits = subst (λ x. Fits (place_answer x)) c.in-At.is start.requires in
+    let fits = subst (λ x. Fits (place_answer x)) c.in-Ok.is start.requires in
     fits.value
 
-pub returns-in-At : goal.returns-in-At
-returns-in-At c = c.pair.ensures ∙ sym (ap place_answer c.in-At.is)
+pub returns-in-Ok : goal.returns-in-Ok
+returns-in-Ok c = c.pair.ensures ∙ sym (ap place_answer c.in-Ok.is)
 
-pub returns-in-Refused : goal.returns-in-Refused
-returns-in-Refused c = sym (ap place_answer c.in-Refused.is)
+pub returns-in-Err : goal.returns-in-Err
+returns-in-Err c = sym (ap place_answer c.in-Err.is)

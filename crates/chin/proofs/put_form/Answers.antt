@@ -3,6 +3,7 @@ use Prim.Native.Nat.{◌+◌}
 use native.Mathlib.Omega.{arith}
 use mathlib.Core.Path.{◌∙◌, ap, subst}
 use lib.ListN.{set}
+use Rattle.std.proofs.lemmas.Result.{err_from_is_err_and}
 use Rattle.bytecode.specs.Form.{tag_main_in}
 use Rattle.chin.specs.Rows.{jump_of, TurnsCode}
 use Rattle.chin.proofs.Whole.{image_long, main_at, pool_at, main_bad, image-turned}
@@ -20,8 +21,8 @@ turn_code-requires c =
     let a = start.args in
     record { code = start.requires.image.code; is = main_at a.from a.image.now start.requires.is c.length_at-end.ensures.is }
 
-pub overflow_add-end-in-Fine : goal.overflow_add-end-in-Fine
-overflow_add-end-in-Fine c = omega (arith, c.length_at-end.ensures.small)
+pub overflow_add-end-2 : goal.overflow_add-end-2
+overflow_add-end-2 c = omega (arith, c.length_at-end.ensures.small)
 
 pub turn_constants-requires : goal.turn_constants-requires
 turn_constants-requires c =
@@ -29,25 +30,20 @@ turn_constants-requires c =
     let a = start.args in
     record { pool = start.requires.image.pool; is = pool_at a.from a.image.now start.requires.is c.length_at-end.ensures.is }
 
-pub shape_of-output-in-Bad : goal.shape_of-output-in-Bad
-shape_of-output-in-Bad c = c.turn_code.auto.output ∙ c.put_tag.auto.output
-
-pub returns-in-Bad : goal.returns-in-Bad
-returns-in-Bad c =
-    let start = c in
-    let a = start.args in
+pub returns-in_err-turn_code : goal.returns-in_err-turn_code
+returns-in_err-turn_code c =
+    let p = err_from_is_err_and c.from_residual.result c.from_residual.ensures.1 in
+    let a = c.args in
     let b = a.image.now in
     let turn = c.turn_code in
     let put = c.put_tag in
     let len = c.length_at-end in
-    λ m is. main_bad a.from b is len.ensures.is
-    (subst (λ r. TurnsCode (jump_of a.from) b 3 (3 + len.result) m.code put.new.output turn.new.output r) c.in-Bad.is (turn.ensures m.code (main_at a.from b is len.ensures.is)))
+    rw (p.1, p.2)
+    (λ m is. main_bad a.from b is len.ensures.is
+    (subst (λ r. TurnsCode (jump_of a.from) b 3 (3 + len.result) m.code put.new.output turn.new.output r) c.in_err-turn_code.was (turn.ensures m.code (main_at a.from b is len.ensures.is))))
 
-pub shape_of-output-in-Fine : goal.shape_of-output-in-Fine
-shape_of-output-in-Fine c = c.turn_constants.auto.output ∙ c.turn_code.auto.output ∙ c.put_tag.auto.output
-
-pub returns-in-Fine : goal.returns-in-Fine
-returns-in-Fine c =
+pub returns : goal.returns
+returns c =
     let start = c in
     let a = start.args in
     let b = a.image.now in
@@ -59,5 +55,5 @@ returns-in-Fine c =
     let other = c.other_form in
     let len = c.length_at-end in
     λ m is. image-turned a.from b is len.ensures.is o (put.ensures ∙ ap (set o 0) (tag.ensures ∙ ap tag_main_in other.ensures)) (turn.auto.output ∙ put.auto.output)
-    (subst (λ r. TurnsCode (jump_of a.from) b 3 (3 + len.result) m.code put.new.output turn.new.output r) c.in-Fine.is (turn.ensures m.code (main_at a.from b is len.ensures.is)))
+    (subst (λ r. TurnsCode (jump_of a.from) b 3 (3 + len.result) m.code put.new.output turn.new.output r) c.in_ok-turn_code.was (turn.ensures m.code (main_at a.from b is len.ensures.is)))
     (constants.ensures m.pool (pool_at a.from b is len.ensures.is))

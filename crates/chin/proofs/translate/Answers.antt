@@ -12,52 +12,52 @@ use Rattle.chin.proofs.translate.Goals as goal
 pub put_form-requires : goal.put_form-requires
 put_form-requires c = (let a = c.args in
     let bytes : AreBytes a.image.now = record { below = λ i. omega (arith, c.type_inv.image i) } in
-    sound_form a.from a.image.now c.check_form.ensures c.in-Sound.is bytes)
+    sound_form a.from a.image.now c.check_form.ensures c.in-Ok.is bytes)
 
 pub write_form-requires : goal.write_form-requires
 write_form-requires c = (let a = c.args in
     let bytes : AreBytes a.image.now = record { below = λ i. omega (arith, c.type_inv.image i) } in
-    sound_form a.from a.image.now c.check_form.ensures c.in-Sound.is bytes)
+    sound_form a.from a.image.now c.check_form.ensures c.in-Ok.is bytes)
 
-pub returns-in-Refused : goal.returns-in-Refused
-returns-in-Refused c =
+pub returns-in-Err : goal.returns-in-Err
+returns-in-Err c =
     let a = c.args in
-    let wrong = wrong_form a.from a.image.now c.check_form.ensures c.in-Refused.is in
+    let wrong = wrong_form a.from a.image.now c.check_form.ensures c.in-Err.is in
     record {
       answers = sym (ap (λ g. answer_of g (length a.output.now)) wrong);
       writes = sym (ap (λ g. output_of g a.output.now) wrong);
     }
 
-pub shape_of-output-in-Bad : goal.shape_of-output-in-Bad
-shape_of-output-in-Bad c = (ap length (empty-part c.put_form.new.output c.args.output.now c.put_form.auto.output))
+pub shape_of-output-in-Err-put_form : goal.shape_of-output-in-Err-put_form
+shape_of-output-in-Err-put_form c = (ap length (empty-part c.put_form.new.output c.args.output.now c.put_form.auto.output))
 
-pub returns-in-Bad : goal.returns-in-Bad
-returns-in-Bad c =
+pub returns-in-Err-put_form : goal.returns-in-Err-put_form
+returns-in-Err-put_form c =
     let a = c.args in
     let b = a.image.now in
     let put = c.put_form in
     let h = (let a = c.args in
     let bytes : AreBytes a.image.now = record { below = λ i. omega (arith, c.type_inv.image i) } in
-    sound_form a.from a.image.now c.check_form.ensures c.in-Sound.is bytes) in
-    let bad = bad_form a.from b h.is (subst (λ r. TurnsImage a.from h.image b [] put.new.output r) c.in-Bad.is (put.ensures h.image h.is)) in
+    sound_form a.from a.image.now c.check_form.ensures c.in-Ok.is bytes) in
+    let bad = bad_form a.from b h.is (subst (λ r. TurnsImage a.from h.image b [] put.new.output r) c.in-Err-put_form.is (put.ensures h.image h.is)) in
     record {
       answers = sym (ap (λ g. answer_of g (length a.output.now)) bad);
       writes = empty-part put.new.output a.output.now put.auto.output ∙ sym (ap (λ g. output_of g a.output.now) bad);
     }
 
-pub shape_of-output-in-Fine : goal.shape_of-output-in-Fine
-shape_of-output-in-Fine c = c.write_form.auto.output ∙ (ap length (empty-part c.put_form.new.output c.args.output.now c.put_form.auto.output))
+pub shape_of-output-in-Ok-put_form : goal.shape_of-output-in-Ok-put_form
+shape_of-output-in-Ok-put_form c = c.write_form.auto.output ∙ (ap length (empty-part c.put_form.new.output c.args.output.now c.put_form.auto.output))
 
-pub returns-in-Fine : goal.returns-in-Fine
-returns-in-Fine c =
+pub returns-in-Ok-put_form : goal.returns-in-Ok-put_form
+returns-in-Ok-put_form c =
     let a = c.args in
     let b = a.image.now in
     let put = c.put_form in
     let write = c.write_form in
     let h = (let a = c.args in
     let bytes : AreBytes a.image.now = record { below = λ i. omega (arith, c.type_inv.image i) } in
-    sound_form a.from a.image.now c.check_form.ensures c.in-Sound.is bytes) in
-    let fine = subst (λ r. TurnsImage a.from h.image b [] put.new.output r) c.in-Fine.is (put.ensures h.image h.is) in
+    sound_form a.from a.image.now c.check_form.ensures c.in-Ok.is bytes) in
+    let fine = subst (λ r. TurnsImage a.from h.image b [] put.new.output r) c.in-Ok-put_form.is (put.ensures h.image h.is) in
     let copied = subst (λ o. Copied a.from h.image o write.result write.new.output) (empty-part put.new.output a.output.now put.auto.output) (write.ensures h.image h.is) in
     record {
       answers = fine_answer a.from b h.is fine copied;

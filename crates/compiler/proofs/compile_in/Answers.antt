@@ -9,18 +9,18 @@ pub translate-requires : goal.translate-requires
 translate-requires c =
     let k = c in
     let r = k in
-    record { lengths = c.requires; layout = sym r.read_layout.ensures.layout ∙ k.in-Sound.is; good = sym k.check.ensures ∙ c.in-Good.is }
+    record { lengths = c.requires; layout = sym r.read_layout.ensures.layout ∙ k.in-Some.is; good = sym k.check.ensures ∙ c.in-Ok.is }
 
-pub returns-in-Broken : goal.returns-in-Broken
-returns-in-Broken c =
+pub returns-in-None : goal.returns-in-None
+returns-in-None c =
     let r = c in
     let e = c in
-    sym (broken e.args.tree.now e.args.session.now e.args.output.now (sym (ap layout_answer c.in-Broken.is) ∙ r.read_layout.ensures.answer))
+    sym (broken e.args.tree.now e.args.session.now e.args.output.now (sym (ap layout_answer c.in-None.is) ∙ r.read_layout.ensures.answer))
 
-pub returns-in-Refused : goal.returns-in-Refused
-returns-in-Refused c =
+pub returns-in-Err : goal.returns-in-Err
+returns-in-Err c =
     let l = c in
     let e = c in
     sym (refused_tree e.args.tree.now e.args.session.now e.args.output.now ((let r = c in
     opened c.args.session.now (record { below = λ i. omega (arith, r.slice_known-1.given i) }) c.requires.session
-    (sym r.read_layout.ensures.layout ∙ c.in-Sound.is))) (sym c.check.ensures ∙ c.in-Refused.is))
+    (sym r.read_layout.ensures.layout ∙ c.in-Some.is))) (sym c.check.ensures ∙ c.in-Err.is))

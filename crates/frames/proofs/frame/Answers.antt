@@ -11,27 +11,27 @@ pub overflow_add-result : goal.overflow_add-result
 overflow_add-result c =
     let start = c in
     let find = c.find_frame in
-    let h = found_within start.args.image.now start.args.size start.args.index find.ensures c.in-At.is in
+    let h = found_within start.args.image.now start.args.size start.args.index find.ensures c.in-Ok.is in
     record { fits = omega arith }
 
-pub slice_bounds-result-end-in-At : goal.slice_bounds-result-end-in-At
-slice_bounds-result-end-in-At c =
+pub slice_bounds-result-end : goal.slice_bounds-result-end
+slice_bounds-result-end c =
     let start = c in
     let find = c.find_frame in
-    found_within start.args.image.now start.args.size start.args.index find.ensures c.in-At.is
+    found_within start.args.image.now start.args.size start.args.index find.ensures c.in-Ok.is
 
-pub returns-in-Refused : goal.returns-in-Refused
-returns-in-Refused c =
+pub returns-in-Err : goal.returns-in-Err
+returns-in-Err c =
     let start = c in
     let find = c.find_frame in
-    let found = is-found start.args.image start.args.size start.args.index find.ensures c.in-Refused.is in
+    let found = is-found start.args.image start.args.size start.args.index find.ensures c.in-Err.is in
     record { place = found.place; bytes = found.bytes }
 
-pub returns-in-At : goal.returns-in-At
-returns-in-At c =
+pub returns-in-Ok : goal.returns-in-Ok
+returns-in-Ok c =
     let start = c in
     let find = c.find_frame in
-    let part = c.in-At in
+    let part = c.in-Ok.place in
     let same : part.start + part.len - part.start ≡ part.len = omega arith in
-    let found = is-found start.args.image start.args.size start.args.index find.ensures part.is in
+    let found = is-found start.args.image start.args.size start.args.index find.ensures c.in-Ok.is in
     record { place = found.place; bytes = ap (λ n. take n (drop part.start start.args.image.now)) same ∙ found.bytes }

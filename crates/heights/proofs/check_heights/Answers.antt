@@ -10,61 +10,48 @@ use Rattle.heights.proofs.check_heights.Goals as goal
 pub judge-requires : goal.judge-requires
 judge-requires c = (let a = c.args in
     let b : AreBytes a.image.now = record { below = λ i. omega (arith, c.type_inv.image i) } in
-    sound a.image.now c.check_image.ensures c.in-Sound.is b)
-
-pub shape_of-output-then-output-count : goal.shape_of-output-then-output-count
-shape_of-output-then-output-count c = (ap length (empty-part c.judge.new.output c.args.output.now c.judge.auto.output))
+    sound a.image.now c.check_image.ensures c.in_ok-check_image.was b)
 
 pub returns-then-output-count : goal.returns-then-output-count
 returns-then-output-count c =
     let a = c.args in
     let h = (let a = c.args in
     let b : AreBytes a.image.now = record { below = λ i. omega (arith, c.type_inv.image i) } in
-    sound a.image.now c.check_image.ensures c.in-Sound.is b) in
+    sound a.image.now c.check_image.ensures c.in_ok-check_image.was b) in
     let j = c.judge in
-    let k = long a.image.now h.is a.heights.now a.output.now (j.ensures h.image h.is) c.in-Tops.is (omega (arith, c.if-output-count.true, ap length (empty-part j.new.output a.output.now j.auto.output))) in
+    let k = long a.image.now h.is a.heights.now a.output.now (j.ensures h.image h.is) c.in-Ok.is (omega (arith, c.if-output-count.true, ap length (empty-part j.new.output a.output.now j.auto.output))) in
     record {
       answers = k.0;
       writes = empty-part j.new.output a.output.now j.auto.output ∙ k.1;
     }
 
-pub judge-requires-in-Tops : goal.judge-requires-in-Tops
-judge-requires-in-Tops c = (let a = c.args in
+pub judge-requires-in-Ok : goal.judge-requires-in-Ok
+judge-requires-in-Ok c = (let a = c.args in
     let b : AreBytes a.image.now = record { below = λ i. omega (arith, c.type_inv.image i) } in
-    sound a.image.now c.check_image.ensures c.in-Sound.is b)
+    sound a.image.now c.check_image.ensures c.in_ok-check_image.was b)
 
-pub returns-in-Refused : goal.returns-in-Refused
-returns-in-Refused c = let a = c.args in let facts = wrong a.image.now c.check_image.ensures c.in-Refused.is a.heights.now a.output.now in
-    record { answers = facts.0; writes = facts.1 }
-
-pub shape_of-output-in-Fails : goal.shape_of-output-in-Fails
-shape_of-output-in-Fails c = (ap length (empty-part c.judge.new.output c.args.output.now c.judge.auto.output))
-
-pub returns-in-Fails : goal.returns-in-Fails
-returns-in-Fails c =
+pub returns-in-Err : goal.returns-in-Err
+returns-in-Err c =
     let a = c.args in
     let h = (let a = c.args in
     let b : AreBytes a.image.now = record { below = λ i. omega (arith, c.type_inv.image i) } in
-    sound a.image.now c.check_image.ensures c.in-Sound.is b) in
+    sound a.image.now c.check_image.ensures c.in_ok-check_image.was b) in
     let j = c.judge in
-    let k = fails a.image.now h.is a.heights.now a.output.now (j.ensures h.image h.is) c.in-Fails.is in
+    let k = fails a.image.now h.is a.heights.now a.output.now (j.ensures h.image h.is) c.in-Err.is in
     record {
       answers = k.0;
       writes = empty-part j.new.output a.output.now j.auto.output ∙ k.1;
     }
-
-pub shape_of-output-else-output-count : goal.shape_of-output-else-output-count
-shape_of-output-else-output-count c = c.judge-in-Tops.auto.output ∙ (ap length (empty-part c.judge.new.output c.args.output.now c.judge.auto.output))
 
 pub returns-else-output-count : goal.returns-else-output-count
 returns-else-output-count c =
     let a = c.args in
     let h = (let a = c.args in
     let b : AreBytes a.image.now = record { below = λ i. omega (arith, c.type_inv.image i) } in
-    sound a.image.now c.check_image.ensures c.in-Sound.is b) in
+    sound a.image.now c.check_image.ensures c.in_ok-check_image.was b) in
     let j = c.judge in
-    let g = c.judge-in-Tops in
+    let g = c.judge-in-Ok in
     let e = empty-part j.new.output a.output.now j.auto.output in
-    let facts = written a.image.now h.is a.heights.now a.output.now (j.ensures h.image h.is) c.in-Tops.is (omega (arith, c.if-output-count.false, ap length e))
+    let facts = written a.image.now h.is a.heights.now a.output.now (j.ensures h.image h.is) c.in-Ok.is (omega (arith, c.if-output-count.false, ap length e))
     (subst (λ o. PoolJudges a.heights.now h.image h.image.pool o g.result g.new.output) e (g.ensures h.image h.is)) in
     record { answers = facts.0; writes = facts.1 }

@@ -12,17 +12,14 @@ use Rattle.heights.proofs.propose_heights.Goals as goal
 pub propose-count-requires : goal.propose-count-requires
 propose-count-requires c = (let a = c.args in
     let b : AreBytes a.image.now = record { below = λ i. omega (arith, c.type_inv.image i) } in
-    sound a.image.now c.check_image.ensures c.in-Sound.is b)
-
-pub shape_of-heights-then-heights-count : goal.shape_of-heights-then-heights-count
-shape_of-heights-then-heights-count c = ap length ((empty-part c.propose-count.new.heights c.args.heights.now c.propose-count.auto.heights))
+    sound a.image.now c.check_image.ensures c.in_ok-check_image.was b)
 
 pub returns-then-heights-count : goal.returns-then-heights-count
 returns-then-heights-count c =
     let a = c.args in
     let h = (let a = c.args in
     let b : AreBytes a.image.now = record { below = λ i. omega (arith, c.type_inv.image i) } in
-    sound a.image.now c.check_image.ensures c.in-Sound.is b) in
+    sound a.image.now c.check_image.ensures c.in_ok-check_image.was b) in
     let j = c.propose-count in
     let e = (empty-part c.propose-count.new.heights c.args.heights.now c.propose-count.auto.heights) in
     let k = proposal_long a.image.now h.is (j.ensures h.image h.is).many (length a.heights.now) (omega (arith, c.if-heights-count.true, ap length e)) in
@@ -34,23 +31,14 @@ returns-then-heights-count c =
 pub propose-requires : goal.propose-requires
 propose-requires c = (let a = c.args in
     let b : AreBytes a.image.now = record { below = λ i. omega (arith, c.type_inv.image i) } in
-    sound a.image.now c.check_image.ensures c.in-Sound.is b)
+    sound a.image.now c.check_image.ensures c.in_ok-check_image.was b)
 
-pub returns-in-Refused : goal.returns-in-Refused
-returns-in-Refused c = let a = c.args in let k = proposal_wrong a.image.now c.check_image.ensures c.in-Refused.is (length a.heights.now) in record {
-  answers = k.0;
-  stays = refl;
-}
-
-pub shape_of-heights : goal.shape_of-heights
-shape_of-heights c = c.propose.auto.heights ∙ ap length ((empty-part c.propose-count.new.heights c.args.heights.now c.propose-count.auto.heights))
-
-pub returns-else-heights-count : goal.returns-else-heights-count
-returns-else-heights-count c =
+pub returns : goal.returns
+returns c =
     let a = c.args in
     let h = (let a = c.args in
     let b : AreBytes a.image.now = record { below = λ i. omega (arith, c.type_inv.image i) } in
-    sound a.image.now c.check_image.ensures c.in-Sound.is b) in
+    sound a.image.now c.check_image.ensures c.in_ok-check_image.was b) in
     let j = c.propose-count in
     let g = c.propose in
     let e = (empty-part c.propose-count.new.heights c.args.heights.now c.propose-count.auto.heights) in

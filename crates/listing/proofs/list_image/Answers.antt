@@ -2,10 +2,10 @@
 use Rattle.listing.proofs.Images.{sound_image, wrong_image, listing_long, listing-written}
 use Rattle.listing.proofs.list_image.Goals as goal
 
-pub returns-then-output-size : goal.returns-then-output-size
-returns-then-output-size c =
-    let if1 = c.if-output-size in
-    let constants = c.in-Sound in
+pub returns-then-output-sound : goal.returns-then-output-sound
+returns-then-output-sound c =
+    let if1 = c.if-output-sound in
+    let constants = c.in-Ok in
     let measure-image = c.measure_image in
     let start = c in
     let h = sound_image start.args.image.now measure-image.ensures constants.is in
@@ -14,24 +14,24 @@ returns-then-output-size c =
 
 pub put_listing-requires : goal.put_listing-requires
 put_listing-requires c =
-    let constants = c.in-Sound in
+    let constants = c.in-Ok in
     let measure-image = c.measure_image in
     let start = c in
     (sound_image start.args.image.now measure-image.ensures constants.is).0
 
-pub returns-in-Refused : goal.returns-in-Refused
-returns-in-Refused c =
-    let r = c.in-Refused in
+pub returns-in-Err : goal.returns-in-Err
+returns-in-Err c =
+    let r = c.in-Err in
     let measure-image = c.measure_image in
     let start = c in
     let facts = wrong_image start.args.image.now start.args.output.now measure-image.ensures r.is in
     record { answers = facts.0; writes = facts.1 }
 
-pub returns-else-output-size : goal.returns-else-output-size
-returns-else-output-size c =
+pub returns-else-output-sound : goal.returns-else-output-sound
+returns-else-output-sound c =
     let put-listing = c.put_listing in
-    let if1 = c.if-output-size in
-    let constants = c.in-Sound in
+    let if1 = c.if-output-sound in
+    let constants = c.in-Ok in
     let measure-image = c.measure_image in
     let start = c in
     let h = sound_image start.args.image.now measure-image.ensures constants.is in

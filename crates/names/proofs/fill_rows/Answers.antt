@@ -7,8 +7,8 @@ use Rattle.names.proofs.fill_rows.Goals as goal
 pub loop-k-init : goal.loop-k-init
 loop-k-init c = turn_holds (record { below = λ i. omega (arith, c.shared_slice_known-1.given i) }) (search rules) (search rules)
 
-pub record_at-r-requires : goal.record_at-r-requires
-record_at-r-requires c = search turn_log
+pub record_at-requires : goal.record_at-requires
+record_at-requires c = search turn_log
 
 pub put_row-requires : goal.put_row-requires
 put_row-requires c = record {

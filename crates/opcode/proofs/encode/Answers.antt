@@ -2,16 +2,8 @@
 use mathlib.Core.Path.{sym, ◌∙◌}
 use native.Mathlib.Omega.{arith}
 use Rattle.opcode.specs.Decoding.{instr_of}
-use Rattle.opcode.proofs.Encoding.{ready, encodes, encodes_short, encodes_not}
+use Rattle.opcode.proofs.Encoding.{ready, encodes, encodes_short}
 use Rattle.opcode.proofs.encode.Goals as goal
-
-pub returns-then-not-is_valid : goal.returns-then-not-is_valid
-returns-then-not-is_valid c =
-    let start = c in
-    let is-valid = c.is_valid in
-    let if1 = c.if-not-is_valid in
-    let facts = encodes_not (instr_of start.args.i) start.args.out.now (sym is-valid.ensures ∙ if1.true) in
-    record { answers = facts.0; writes = facts.1 }
 
 pub returns-then-out-w : goal.returns-then-out-w
 returns-then-out-w c =

@@ -1,6 +1,6 @@
 -- `opcode::write_word` meets its contract: its part of all words is output_answer at the start of the output, where it fits.
 use native.Mathlib.Omega.{arith}
-use Rattle.opcode.proofs.Words.{number, found, word_short, word-written, word_unknown}
+use Rattle.opcode.proofs.Words.{found, word_short, word-written, word_unknown}
 use Rattle.opcode.proofs.write_word.Goals as goal
 
 pub returns-then-width-eq-NO_INSTRUCTION : goal.returns-then-width-eq-NO_INSTRUCTION
@@ -10,22 +10,6 @@ returns-then-width-eq-NO_INSTRUCTION c =
     let if1 = c.if-width-eq-NO_INSTRUCTION in
     let facts = word_unknown start.args.op start.args.out.now width.ensures if1.true in
     record { answers = facts.0; writes = facts.1 }
-
-pub word_start-start-requires : goal.word_start-start-requires
-word_start-start-requires c =
-    let width = c.width in
-    let if1 = c.if-width-eq-NO_INSTRUCTION in
-    let wide = c.wide-o in
-    let n = number width.ensures if1.false wide.ensures.is in
-    omega arith
-
-pub word_start-requires : goal.word_start-requires
-word_start-requires c =
-    let width = c.width in
-    let if1 = c.if-width-eq-NO_INSTRUCTION in
-    let wide = c.wide-o in
-    let n = number width.ensures if1.false wide.ensures.is in
-    omega arith
 
 pub overflow_sub-size : goal.overflow_sub-size
 overflow_sub-size c =

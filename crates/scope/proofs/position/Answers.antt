@@ -1,5 +1,5 @@
 -- The chunk's length, whether the walk goes on or has stopped.
 use Rattle.scope.proofs.position.Goals as goal
 
-pub returns-in-Stop : goal.returns-in-Stop
-returns-in-Stop c = rw c.in-Stop.is
+pub returns-in-Err : goal.returns-in-Err
+returns-in-Err c = rw c.in-Err.is

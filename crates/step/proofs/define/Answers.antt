@@ -6,10 +6,10 @@ pub define-answer-requires-clause-level_in_bounds : goal.define-answer-requires-
 define-answer-requires-clause-level_in_bounds c = search beside-base
 
 pub define-answer-requires-clause-good : goal.define-answer-requires-clause-good
-define-answer-requires-clause-good c = beside_good c.in-On.is c.requires.fine_beside
+define-answer-requires-clause-good c = beside_good c.in-Ok.is c.requires.fine_beside
 
-pub returns-in-On : goal.returns-in-On
-returns-in-On c = search define-on
+pub returns-in-Ok : goal.returns-in-Ok
+returns-in-Ok c = search define-on
 
-pub returns-in-Stop : goal.returns-in-Stop
-returns-in-Stop c = search define_stop
+pub returns-in-Err : goal.returns-in-Err
+returns-in-Err c = define_stop _ c.in-Err.is

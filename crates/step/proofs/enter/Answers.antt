@@ -5,14 +5,14 @@ use Rattle.step.proofs.Symbols.{beside-part}
 use Rattle.step.proofs.enter.Goals as goal
 
 pub returns-then-s-ge-NESTING_LIMIT : goal.returns-then-s-ge-NESTING_LIMIT
-returns-then-s-ge-NESTING_LIMIT c = search enter-nested
+returns-then-s-ge-NESTING_LIMIT c = enter-nested c.requires.head_at c.in_ok-s.was c.if-s-ge-NESTING_LIMIT.true c.refuse.ensures
 
 pub returns-then-n-gt-ARGUMENTS_LIMIT : goal.returns-then-n-gt-ARGUMENTS_LIMIT
-returns-then-n-gt-ARGUMENTS_LIMIT c = search enter-many
+returns-then-n-gt-ARGUMENTS_LIMIT c = enter-many c.requires.head_at c.in_ok-s.was c.if-s-ge-NESTING_LIMIT.false c.if-n-gt-ARGUMENTS_LIMIT.true c.refuse-then-n-gt-ARGUMENTS_LIMIT.ensures
 
 pub enter-requires : goal.enter-requires
 enter-requires c = record {
-  part_size_in_bounds = search beside-part;
+  part_size_in_bounds = beside-part c.in_ok-s.was c.requires.fine_beside c.if-s-ge-NESTING_LIMIT.false;
   tree_len_bound = search rules;
   stands = search rules;
   row = search params_stand;
@@ -21,16 +21,16 @@ enter-requires c = record {
 
 pub inside-requires : goal.inside-requires
 inside-requires c = record {
-  fits = search sound_on;
+  fits = sound_on c.in_ok-s.was c.requires.sound;
   level_lt_nesting_limit = search rules;
 }
 
-pub returns-else-n-gt-ARGUMENTS_LIMIT : goal.returns-else-n-gt-ARGUMENTS_LIMIT
-returns-else-n-gt-ARGUMENTS_LIMIT c =
+pub returns : goal.returns
+returns c =
     let table = c in
     let within = table in
     let m = within in
-    enter-on m.requires.head_at m.in-On.is within.if-s-ge-NESTING_LIMIT.false within.if-n-gt-ARGUMENTS_LIMIT.false table.after_at-row.ensures.is table.enter.ensures table.enter.auto.table c.inside.ensures
+    enter-on m.requires.head_at m.in_ok-s.was within.if-s-ge-NESTING_LIMIT.false within.if-n-gt-ARGUMENTS_LIMIT.false table.after_at-row.ensures.is table.enter.ensures table.enter.auto.table c.inside.ensures
 
-pub returns-in-Stop : goal.returns-in-Stop
-returns-in-Stop c = search enter_stop
+pub returns-in_err-s : goal.returns-in_err-s
+returns-in_err-s c = enter_stop c.in_err-s.was c.from_residual.ensures.1

@@ -24,10 +24,10 @@ look_at-requires-clause-good_globals t c = good-globals _ _ _ _ c.requires.good
 pub look_at-requires-clause-good_part : goal.look_at-requires-clause-good_part
 look_at-requires-clause-good_part t c = good_here _ _ _ _ c.requires.good (c.args.level - 1) (omega arith)
 
-pub returns-in-At : goal.returns-in-At
-returns-in-At t c =
+pub returns-in-Some : goal.returns-in-Some
+returns-in-Some t c =
     let look = c.look_at.ensures in
-    found_here _ _ _ _ _ c.requires.good (c.args.level - 1) (omega arith) look.inside _ _ _ (ap hit_of (sym c.in-At.is) ∙ look.result_value)
+    found_here _ _ _ _ _ c.requires.good (c.args.level - 1) (omega arith) look.inside _ _ _ (ap hit_of (sym c.in-Some.is) ∙ look.result_value)
 
 pub resolve-outer-requires : goal.resolve-outer-requires
 resolve-outer-requires t c =

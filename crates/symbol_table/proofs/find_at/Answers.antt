@@ -1,17 +1,15 @@
 -- `symbol_table::find_at` meets its contract.
 use mathlib.Core.Path.{◌∙◌}
-use Rattle.symbol_table.specs.Layout.{base}
-use Rattle.symbol_table.proofs.Levels.{width}
 use Rattle.symbol_table.proofs.find_at.Goals as goal
 
 pub find_in-requires : goal.find_in-requires
 find_in-requires c =
     let s = c in
     record {
-      good_table = rw (width (base s.args.level)) s.requires.good_table;
-      n_value = rw (width (base s.args.level)) s.requires.n_value;
-      hash_value = s.requires.name.is ∙ rw c.name_at.ensures;
+      good_table = rw c.part.ensures s.requires.good_table;
+      n_value = rw c.part.ensures s.requires.n_value;
+      hash_value = s.requires.name.is ∙ rw c.content_at.ensures;
     }
 
 pub returns : goal.returns
-returns c = c.find_in.ensures ∙ rw (c.name_at.ensures, width (base c.args.level))
+returns c = c.find_in.ensures ∙ rw (c.content_at.ensures, c.part.ensures)

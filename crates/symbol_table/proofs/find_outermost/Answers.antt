@@ -7,25 +7,25 @@ use Rattle.symbol_table.proofs.find_outermost.Goals as goal
 pub find_global-requires : goal.find_global-requires
 find_global-requires c = record {
   good_globals = c.requires.good_globals;
-  hash_value = c.requires.name.is ∙ rw c.name_at-it.ensures;
+  hash_value = c.requires.name.is ∙ rw c.content_at-it.ensures;
 }
 
-pub returns-in-At : goal.returns-in-At
-returns-in-At c = record {
-  result_value = rw (← c.name_at-it.ensures) (global_first _ _ _ _ (ap hit_of (sym c.in-At.is) ∙ c.find_global.ensures));
+pub returns-in-Some : goal.returns-in-Some
+returns-in-Some c = record {
+  result_value = rw (← c.content_at-it.ensures) (global_first _ _ _ _ (ap hit_of (sym c.in-Some.is) ∙ c.find_global.ensures));
   crossed = refl;
 }
 
-pub returns-in-At-find_builtin : goal.returns-in-At-find_builtin
-returns-in-At-find_builtin c = record {
-  result_value = rw (← c.name_at-it.ensures)
-      (builtin_second _ _ _ _ (ap hit_of (sym c.in_default.is) ∙ c.find_global.ensures) (ap hit_of (sym c.in-At-find_builtin.is) ∙ c.find_builtin.ensures));
+pub returns-in-Some-find_builtin : goal.returns-in-Some-find_builtin
+returns-in-Some-find_builtin c = record {
+  result_value = rw (← c.content_at-it.ensures)
+      (builtin_second _ _ _ _ (ap hit_of (sym c.in_default.is) ∙ c.find_global.ensures) (ap hit_of (sym c.in-Some-find_builtin.is) ∙ c.find_builtin.ensures));
   crossed = refl;
 }
 
 pub returns : goal.returns
 returns c = record {
-  result_value = rw (← c.name_at-it.ensures)
+  result_value = rw (← c.content_at-it.ensures)
       (none_there _ _ _ (ap hit_of (sym c.in_default.is) ∙ c.find_global.ensures) (ap hit_of (sym c.in_default-find_builtin.is) ∙ c.find_builtin.ensures));
   crossed = tt;
 }

@@ -12,7 +12,7 @@ overflow_add-from c =
     let start = c in
     let on-shared-slice-known = c.shared_slice_known-1 in
     let on-read-layout = c.read_layout in
-    omega (arith, (opened_items (opened start.args.session.now (record { below = λ i. omega (arith, on-shared-slice-known.given i) }) start.requires.session (sym on-read-layout.ensures.layout ∙ c.in-Sound.is))).order, (opened_items (opened start.args.session.now (record { below = λ i. omega (arith, on-shared-slice-known.given i) }) start.requires.session (sym on-read-layout.ensures.layout ∙ c.in-Sound.is))).within, start.requires.session)
+    omega (arith, (opened_items (opened start.args.session.now (record { below = λ i. omega (arith, on-shared-slice-known.given i) }) start.requires.session (sym on-read-layout.ensures.layout ∙ c.in-Some.is))).order, (opened_items (opened start.args.session.now (record { below = λ i. omega (arith, on-shared-slice-known.given i) }) start.requires.session (sym on-read-layout.ensures.layout ∙ c.in-Some.is))).within, start.requires.session)
 
 pub name_tree-count-requires : goal.name_tree-count-requires
 name_tree-count-requires c =
@@ -22,9 +22,9 @@ name_tree-count-requires c =
     let on-check = c.check in
     record {
       session_len_bound = omega (arith, start.requires.session);
-      has_items = opened_items (opened start.args.session.now (record { below = λ i. omega (arith, on-shared-slice-known.given i) }) start.requires.session (sym on-read-layout.ensures.layout ∙ c.in-Sound.is));
-      has_words = opened_words (opened start.args.session.now (record { below = λ i. omega (arith, on-shared-slice-known.given i) }) start.requires.session (sym on-read-layout.ensures.layout ∙ c.in-Sound.is));
-      tree_value = (sym on-check.ensures ∙ c.in-Good.is);
+      has_items = opened_items (opened start.args.session.now (record { below = λ i. omega (arith, on-shared-slice-known.given i) }) start.requires.session (sym on-read-layout.ensures.layout ∙ c.in-Some.is));
+      has_words = opened_words (opened start.args.session.now (record { below = λ i. omega (arith, on-shared-slice-known.given i) }) start.requires.session (sym on-read-layout.ensures.layout ∙ c.in-Some.is));
+      tree_value = (sym on-check.ensures ∙ c.in-Ok.is);
       table_size_in_bounds = omega (arith, start.requires.table);
       code_size_in_bounds = omega (arith, start.requires.code);
     }
@@ -34,15 +34,15 @@ overflow_sub-result c =
     let start = c in
     let on-shared-slice-known = c.shared_slice_known-1 in
     let on-read-layout = c.read_layout in
-    opened_order (opened start.args.session.now (record { below = λ i. omega (arith, on-shared-slice-known.given i) }) start.requires.session (sym on-read-layout.ensures.layout ∙ c.in-Sound.is))
+    opened_order (opened start.args.session.now (record { below = λ i. omega (arith, on-shared-slice-known.given i) }) start.requires.session (sym on-read-layout.ensures.layout ∙ c.in-Some.is))
 
-pub returns-in-Good : goal.returns-in-Good
-returns-in-Good c =
+pub returns-in-Ok : goal.returns-in-Ok
+returns-in-Ok c =
     let start = c in
     let on-shared-slice-known = c.shared_slice_known-1 in
     let on-read-layout = c.read_layout in
     let on-name-tree = c.name_tree-count in
-    opened_ahead (opened start.args.session.now (record { below = λ i. omega (arith, on-shared-slice-known.given i) }) start.requires.session (sym on-read-layout.ensures.layout ∙ c.in-Sound.is)) on-name-tree.ensures
+    opened_ahead (opened start.args.session.now (record { below = λ i. omega (arith, on-shared-slice-known.given i) }) start.requires.session (sym on-read-layout.ensures.layout ∙ c.in-Some.is)) on-name-tree.ensures
 
 pub returns-in_default-check : goal.returns-in_default-check
 returns-in_default-check c =

@@ -12,21 +12,21 @@ log_lent-count-requires c =
     let on-slice-known = c.slice_known-1 in
     record {
       long = record { session = omega (arith, start.requires.long.session, on-compile.auto.session); code = omega (arith, start.requires.long.code, on-compile.auto.code); table = omega (arith, start.requires.long.table, on-compile.auto.table) };
-      has_older = accepted_has start.requires.long on-compile.ensures c.in-Length.is (front_bytes start.args.session.now session_size (λ i. omega (arith, on-slice-known.given i))) start.requires.looks_ahead.0 start.requires.looks_ahead.1 start.requires.looks_ahead.2;
-      tree_value = accepted_good start.requires.long on-compile.ensures c.in-Length.is (front_bytes start.args.session.now session_size (λ i. omega (arith, on-slice-known.given i)));
+      has_older = accepted_has start.requires.long on-compile.ensures c.in-Ok.is (front_bytes start.args.session.now session_size (λ i. omega (arith, on-slice-known.given i))) start.requires.looks_ahead.0 start.requires.looks_ahead.1 start.requires.looks_ahead.2;
+      tree_value = accepted_good start.requires.long on-compile.ensures c.in-Ok.is (front_bytes start.args.session.now session_size (λ i. omega (arith, on-slice-known.given i)));
     }
 
-pub returns-in-Refused : goal.returns-in-Refused
-returns-in-Refused c =
+pub returns-in-Err : goal.returns-in-Err
+returns-in-Err c =
     let start = c in
     let on-compile = c.compile-answer in
-    refused_traces start.requires.long on-compile.ensures c.in-Refused.is
+    refused_traces start.requires.long on-compile.ensures c.in-Err.is
 
-pub returns-in-Length : goal.returns-in-Length
-returns-in-Length c =
+pub returns-in-Ok : goal.returns-in-Ok
+returns-in-Ok c =
     let start = c in
     let on-compile = c.compile-answer in
     let on-slice-known = c.slice_known-1 in
     let on-log-lent = c.log_lent-count in
     let on-clear-table = c.clear_table in
-    accepted_traces start.requires.long on-compile.ensures c.in-Length.is (front_bytes start.args.session.now session_size (λ i. omega (arith, on-slice-known.given i))) start.requires.looks_ahead.0 start.requires.looks_ahead.1 start.requires.looks_ahead.2 on-log-lent.ensures.passes on-log-lent.ensures.code on-log-lent.ensures.table on-clear-table.ensures
+    accepted_traces start.requires.long on-compile.ensures c.in-Ok.is (front_bytes start.args.session.now session_size (λ i. omega (arith, on-slice-known.given i))) start.requires.looks_ahead.0 start.requires.looks_ahead.1 start.requires.looks_ahead.2 on-log-lent.ensures.passes on-log-lent.ensures.code on-log-lent.ensures.table on-clear-table.ensures

@@ -8,7 +8,7 @@ abbrev pub decreases-check_children : goal.decreases-check_children
 decreases-check_children l = l.levels
 
 abbrev pub invariant-loop-at : goal.invariant-loop-at
-invariant-loop-at l = Left (byte_at l.tree) l.levels l.parent l.end l.at l.kinds
+invariant-loop-at l = Left (byte_at l.tree) l.levels l.parent l.end l.at l.k l.kinds
 
 abbrev pub decreases-loop-at : goal.decreases-loop-at
 decreases-loop-at l = l.end - l.at

@@ -10,16 +10,16 @@ returns-then-n-lt3 c = c.refused.ensures ∙ program_bad _ (λ short _ _ _. omeg
 pub returns-then-n-gt-TREE_LIMIT : goal.returns-then-n-gt-TREE_LIMIT
 returns-then-n-gt-TREE_LIMIT c = c.refused-then-n-gt-TREE_LIMIT.ensures ∙ program_bad _ (λ _ long _ _. omega arith)
 
-pub returns-then-wide-ne-PROGRAM : goal.returns-then-wide-ne-PROGRAM
-returns-then-wide-ne-PROGRAM c = c.refused-then-wide-ne-PROGRAM.ensures ∙ program_bad _ (λ _ _ t _. c.if-wide-ne-PROGRAM.true (c.wide.ensures.is ∙ t))
+pub returns-then-from-ne-PROGRAM : goal.returns-then-from-ne-PROGRAM
+returns-then-from-ne-PROGRAM c = c.refused-then-from-ne-PROGRAM.ensures ∙ program_bad _ (λ _ _ t _. c.if-from-ne-PROGRAM.true (c.from.ensures ∙ t))
 
-pub returns-then-after_at-n : goal.returns-then-after_at-n
-returns-then-after_at-n c = c.refused-then-after_at-n.ensures ∙ program_bad _ (λ _ _ _ n. omega (arith, c.after_at.ensures))
+pub returns-then-length_at-n : goal.returns-then-length_at-n
+returns-then-length_at-n c = c.refused-then-length_at-n.ensures ∙ program_bad _ (λ _ _ _ n. omega (arith, c.length_at.ensures.is))
 
 pub returns : goal.returns
 returns c =
     c.outcome.ensures
     ∙ c.check_children.ensures
     ∙ program_good _ c.if-n-lt3.false c.if-n-gt-TREE_LIMIT.false
-    (sym c.wide.ensures.is ∙ c.if-wide-ne-PROGRAM.false)
-    (omega (arith, c.after_at.ensures))
+    (sym c.from.ensures ∙ c.if-from-ne-PROGRAM.false)
+    (omega (arith, c.length_at.ensures.is))

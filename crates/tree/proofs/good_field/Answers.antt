@@ -16,12 +16,12 @@ pub returns-then-not-good_tag : goal.returns-then-not-good_tag
 returns-then-not-good_tag c =
     let whole = le-leb _ _ c.if-end-at.false in
     let fit = le-leb _ _ (rw c.length_at-len.ensures.is at c.if-end-at-2.false) in
-    let tag = rw c.wide-t.ensures.is at (sym c.good_tag.ensures ∙ c.if-not-good_tag.true) in
+    let tag = rw c.from-t.ensures at (sym c.good_tag.ensures ∙ c.if-not-good_tag.true) in
     rw (whole, fit, tag)
 
 pub returns : goal.returns
 returns c =
     let whole = le-leb _ _ c.if-end-at.false in
     let fit = le-leb _ _ (rw c.length_at-len.ensures.is at c.if-end-at-2.false) in
-    let tag = rw c.wide-t.ensures.is at (sym c.good_tag.ensures ∙ c.if-not-good_tag.false) in
-    rw (whole, fit, tag) (c.good_content.ensures ∙ rw (c.wide-t.ensures.is, c.length_at-len.ensures.is))
+    let tag = rw c.from-t.ensures at (sym c.good_tag.ensures ∙ c.if-not-good_tag.false) in
+    rw (whole, fit, tag) (c.good_content.ensures ∙ rw (c.from-t.ensures, c.length_at-len.ensures.is))

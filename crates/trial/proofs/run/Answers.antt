@@ -12,9 +12,6 @@ returns-then-work-lt-WORK_SIZE c = let o = work_short c.args.image.now c.args.he
   clears = work_kept c.args.work.now c.if-work-lt-WORK_SIZE.true;
 }
 
-pub slice_bounds-run_in-end-2 : goal.slice_bounds-run_in-end-2
-slice_bounds-run_in-end-2 c = sym (length-take-le work_size c.args.work.now c.if-work-lt-WORK_SIZE.false)
-
 pub run_in-requires : goal.run_in-requires
 run_in-requires c = length-take-le work_size c.args.work.now c.if-work-lt-WORK_SIZE.false
 

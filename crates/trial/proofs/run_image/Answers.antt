@@ -8,25 +8,19 @@ use Rattle.trial.proofs.Calling.{wrong_image, chunk_failing, all_passing, taken-
 use Rattle.trial.proofs.run_image.Goals as goal
 
 pub judge-requires : goal.judge-requires
-judge-requires c = let b : AreBytes c.args.image.now = record { below = λ i. omega (arith, c.shared_slice_known-1.given i) } in sound c.args.image.now c.check_image.ensures c.in-Sound.is b
+judge-requires c = let b : AreBytes c.args.image.now = record { below = λ i. omega (arith, c.shared_slice_known-1.given i) } in sound c.args.image.now c.check_image.ensures c.in_ok-check_image.was b
 
 pub run_chunk-requires : goal.run_chunk-requires
-run_chunk-requires c = let b : AreBytes c.args.image.now = record { below = λ i. omega (arith, c.shared_slice_known-1.given i) } in let h = sound c.args.image.now c.check_image.ensures c.in-Sound.is b in let t = all_passing c.args.image.now h.is c.args.heights.now 0 (c.judge.ensures h.image h.is).answers c.in-Tops.is in (record { image = h.image; reads = h.is; tops = t.0; passes = t.1; short = omega (arith, image_short c.args.image.now b h.is refl) }, c.requires)
+run_chunk-requires c = let b : AreBytes c.args.image.now = record { below = λ i. omega (arith, c.shared_slice_known-1.given i) } in let h = sound c.args.image.now c.check_image.ensures c.in_ok-check_image.was b in let t = all_passing c.args.image.now h.is c.args.heights.now 0 (c.judge.ensures h.image h.is).answers c.in-Ok.is in (record { image = h.image; reads = h.is; tops = t.0; passes = t.1; short = omega (arith, image_short c.args.image.now b h.is refl) }, c.requires)
 
-pub returns-in-Refused : goal.returns-in-Refused
-returns-in-Refused c = let o = wrong_image c.args.image.now c.check_image.ensures c.in-Refused.is c.args.heights.now (length c.args.output.now) in record {
-  answers = sym (ap outcome_answer o);
-  writes = sym (ap (λ o. outcome_into o c.args.output.now) o);
-}
-
-pub returns-in-Fails : goal.returns-in-Fails
-returns-in-Fails c = let b : AreBytes c.args.image.now = record { below = λ i. omega (arith, c.shared_slice_known-1.given i) } in let h = sound c.args.image.now c.check_image.ensures c.in-Sound.is b in let o = chunk_failing c.args.image.now h.is c.args.heights.now (length c.args.output.now) (c.judge.ensures h.image h.is).answers c.in-Fails.is in record {
+pub returns-in-Err : goal.returns-in-Err
+returns-in-Err c = let b : AreBytes c.args.image.now = record { below = λ i. omega (arith, c.shared_slice_known-1.given i) } in let h = sound c.args.image.now c.check_image.ensures c.in_ok-check_image.was b in let o = chunk_failing c.args.image.now h.is c.args.heights.now (length c.args.output.now) (c.judge.ensures h.image h.is).answers c.in-Err.is in record {
   answers = c.refused.ensures ∙ sym (ap outcome_answer o);
   writes = sym (ap (λ o. outcome_into o c.args.output.now) o);
 }
 
-pub returns-in-Tops : goal.returns-in-Tops
-returns-in-Tops c = let b : AreBytes c.args.image.now = record { below = λ i. omega (arith, c.shared_slice_known-1.given i) } in let h = sound c.args.image.now c.check_image.ensures c.in-Sound.is b in let o = taken-image c.args.image.now h.is c.args.heights.now (length c.args.output.now) (c.judge.ensures h.image h.is).answers c.in-Tops.is in record {
+pub returns-in-Ok : goal.returns-in-Ok
+returns-in-Ok c = let b : AreBytes c.args.image.now = record { below = λ i. omega (arith, c.shared_slice_known-1.given i) } in let h = sound c.args.image.now c.check_image.ensures c.in_ok-check_image.was b in let o = taken-image c.args.image.now h.is c.args.heights.now (length c.args.output.now) (c.judge.ensures h.image h.is).answers c.in-Ok.is in record {
   answers = c.run_chunk.ensures.answers h.image h.is ∙ sym (ap outcome_answer o);
   writes = c.run_chunk.ensures.writes h.image h.is ∙ sym (ap (λ o. outcome_into o c.args.output.now) o);
 }

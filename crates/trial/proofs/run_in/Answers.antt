@@ -3,11 +3,7 @@ use Rattle.std.proofs.Common.{replicate, ap, ◌∙◌}
 use Rattle.trial.proofs.run_in.Goals as goal
 
 pub run_image-answer-requires : goal.run_image-answer-requires
-run_image-answer-requires c = c.clear.ensures ∙ ap (λ n. replicate n 0) (c.requires)
+run_image-answer-requires c = c.fill.ensures.after (λ y e. e) ∙ ap (λ n. replicate n 0) c.requires
 
-pub returns : goal.returns
-returns c = record {
-  answers = c.run_image-answer.ensures.answers;
-  writes = c.run_image-answer.ensures.writes;
-  clears = c.clear-2.ensures ∙ ap (λ n. replicate n 0) (c.run_image-answer.auto.work ∙ c.clear.auto.work ∙ c.requires);
-}
+pub returns-clause-clears : goal.returns-clause-clears
+returns-clause-clears c = c.fill-2.ensures.after (λ y e. e) ∙ ap (λ n. replicate n 0) (c.run_image-answer.auto.work ∙ c.fill.auto.self ∙ c.requires)

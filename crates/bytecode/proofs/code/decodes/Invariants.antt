@@ -1,11 +1,7 @@
 -- `bytecode::code::decodes` meets its contract: one byte a turn, from the end; four bits say what was found behind it.
-use Prim.Native.Nat.{◌-◌}
 use Rattle.definition.specs.Basic.{byte_at}
 use Rattle.bytecode.proofs.Backward.{BackLoop}
 use Rattle.bytecode.proofs.code.decodes.Given as goal
 
 abbrev pub invariant-loop-at : goal.invariant-loop-at
 invariant-loop-at l = BackLoop (byte_at l.bytes) l.end l.start l.at l.good
-
-abbrev pub decreases-loop-at : goal.decreases-loop-at
-decreases-loop-at l = l.at - l.start

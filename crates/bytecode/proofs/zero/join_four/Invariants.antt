@@ -1,11 +1,6 @@
 -- `bytecode::zero::join_four` meets its contract: a byte of each part a turn, joined by `or`.
-use Prim.Native.Nat.{◌-◌}
-use lib.ListN.{length}
 use Rattle.bytecode.proofs.Zeros.{FourJoining}
 use Rattle.bytecode.proofs.zero.join_four.Given as goal
 
 abbrev pub invariant-loop-i : goal.invariant-loop-i
 invariant-loop-i l = FourJoining l.one l.two l.three l.four l.any l.i
-
-abbrev pub decreases-loop-i : goal.decreases-loop-i
-decreases-loop-i l = length l.one - l.i

@@ -3,7 +3,7 @@ use mathlib.Core.Path.{sym}
 use lib.Seq.{set_out}
 use Rattle.chin.proofs.row.put_tag.Goals as goal
 
-pub returns-then-output-at : goal.returns-then-output-at
-returns-then-output-at c =
+pub returns-else-at-output : goal.returns-else-at-output
+returns-else-at-output c =
     let a = c.args in
-    sym (set_out a.output.now a.at a.tag c.if-output-at.true)
+    sym (set_out a.output.now a.at a.tag c.if-at-output.false)

@@ -1,11 +1,11 @@
 -- `chin::row::turn_instruction` meets its contract: by the number of operand bytes, then by the operand.
-use Prim.Native.Nat.{◌+◌, ◌-◌, ◌*◌}
+use Prim.Native.Nat.{◌+◌, ◌-◌}
 use native.Mathlib.Omega.{arith}
 use mathlib.Core.Path.{◌∙◌, ap, sym, subst}
 use Rattle.definition.specs.Basic.{byte_at}
-use Rattle.chin.specs.declared.operand.Jumps.TheVariants.{Fine}
-use Rattle.chin.specs.Rows.{jump_of, wide_operand, operand_answer, TurnsInstr}
-use Rattle.chin.proofs.Instruction.{turns_narrow, turns_lacking, turns_wide, is_none, is_some}
+use Rattle.std.specs.Prelude.{Ok}
+use Rattle.chin.specs.Rows.{jump_of, wide_operand, TurnsInstr}
+use Rattle.chin.proofs.Instruction.{turns_narrow, turns_lacking, turns_wide}
 use Rattle.chin.proofs.row.turn_instruction.Goals as goal
 
 pub returns-then-size-lt3 : goal.returns-then-size-lt3
@@ -40,8 +40,8 @@ other_operand-requires c = omega (arith, c.requires.order, c.requires.within)
 pub put_operand-requires : goal.put_operand-requires
 put_operand-requires c = omega (arith, c.requires.within)
 
-pub returns-in-Lacking : goal.returns-in-Lacking
-returns-in-Lacking c =
+pub returns-in-None : goal.returns-in-None
+returns-in-None c =
     let start = c in
     let a = start.args in
     let b = a.image.now in
@@ -49,12 +49,12 @@ returns-in-Lacking c =
     let end = a.at - a.start + a.size in
     let other = c.other_operand in
     let word = c.word-operand in
-    let is = other.ensures ∙ ap (λ n. operand_answer (wide_operand jump (byte_at b a.at) end n)) word.ensures.is in
+    let is = other.ensures ∙ ap (wide_operand jump (byte_at b a.at) end) word.ensures.is in
     turns_lacking jump b a.start a.at a.size start.requires c.if-size-lt3.false
-    (is_none (wide_operand jump (byte_at b a.at) end (byte_at b (a.at + 1) * 256 + byte_at b (a.at + 2))) is c.in-Lacking.is) _ _
+    (sym is ∙ c.in-None.is) _ _
 
-pub returns-in-Is : goal.returns-in-Is
-returns-in-Is c =
+pub returns-in-Some : goal.returns-in-Some
+returns-in-Some c =
     let start = c in
     let a = start.args in
     let b = a.image.now in
@@ -63,9 +63,8 @@ returns-in-Is c =
     let end = a.at - a.start + a.size in
     let other = c.other_operand in
     let word = c.word-operand in
-    let operand = c.in-Is in
-    let is = other.ensures ∙ ap (λ n. operand_answer (wide_operand jump (byte_at b a.at) end n)) word.ensures.is in
+    let is = other.ensures ∙ ap (wide_operand jump (byte_at b a.at) end) word.ensures.is in
     let turned =
     turns_wide jump b a.start a.at a.size start.requires c.if-size-lt3.false
-    (is_some (wide_operand jump (byte_at b a.at) end (byte_at b (a.at + 1) * 256 + byte_at b (a.at + 2))) is operand.is) o in
-    subst (λ z. TurnsInstr jump b a.start a.at a.size o z Fine) (sym c.put_operand.ensures) turned
+    (sym is ∙ c.in-Some.is) o in
+    subst (λ z. TurnsInstr jump b a.start a.at a.size o z (Ok tt)) (sym c.put_operand.ensures) turned

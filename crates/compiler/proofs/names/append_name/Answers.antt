@@ -1,6 +1,8 @@
 -- `append_name` appends a name's field, whether the name is among the session's own or in the tree. Assumes nothing.
+use Prim.Native.Nat.{◌+◌}
 use native.Mathlib.Omega.{arith}
-use Rattle.compiler.proofs.Appending.{has_old, old_appended, has_new, new_appended}
+use mathlib.Core.Path.{◌∙◌}
+use Rattle.compiler.proofs.Appending.{has_old, old_appended, has_new, new_appended, copied_within}
 use Rattle.compiler.proofs.names.append_name.Goals as goal
 
 pub length_at-n-requires : goal.length_at-n-requires
@@ -9,17 +11,13 @@ length_at-n-requires c =
     let o = has_old c.requires t.if-place-lt-IN_TREE.true in
     omega (arith, o.before, o.room)
 
-pub repeat-requires : goal.repeat-requires
-repeat-requires c =
-    let k = c in
-    let t = k in
-    let o = has_old c.requires t.if-place-lt-IN_TREE.true in
-    omega (arith, o.before, o.room, k.length_at-n.ensures.is, c.put_head.auto.out)
-
 pub returns-then-place-lt-IN_TREE : goal.returns-then-place-lt-IN_TREE
 returns-then-place-lt-IN_TREE c h =
     let k = c in
-    old_appended h k.if-place-lt-IN_TREE.true k.length_at-n.ensures.is c.put_head.ensures c.repeat.ensures
+    let o = has_old k.requires k.if-place-lt-IN_TREE.true in
+    let same = c.put_head.auto.out in
+    old_appended h k.if-place-lt-IN_TREE.true k.length_at-n.ensures.is c.put_head.ensures
+    (c.copy_within.ensures.after ∙ copied_within _ (k.args.v + 3) k.length_at-n.result (k.args.at + 3) (omega (arith, o.before, o.room, k.length_at-n.ensures.is, same)) (omega (arith, o.room, k.length_at-n.ensures.is, same)))
 
 pub content_at-name-requires : goal.content_at-name-requires
 content_at-name-requires c = record { fits = c.requires.stands.new c.if-place-lt-IN_TREE.false }

@@ -1,5 +1,5 @@
 -- `field::names::distinct_names` meets its contract: one field a turn, searched behind it.
-use mathlib.Core.Path.{◌≡◌, subst₂}
+use mathlib.Core.Path.{◌≡◌, subst₂, sym, ◌∙◌}
 use native.Mathlib.Omega.{arith}
 use Rattle.definition.specs.SymbolTable.{find_builtin}
 use Rattle.field.specs.Row.{HasRow, found_of}
@@ -18,14 +18,14 @@ content_at-requires c = record { fits = compare_fits c.loop-at.invariant (omega 
 pub find_name-requires : goal.find_name-requires
 find_name-requires c = rw c.after_at-next.ensures.is (compare_behind c.loop-at.invariant (omega arith))
 
-pub returns-in-At : goal.returns-in-At
-returns-in-At c =
+pub returns-then-is_some : goal.returns-then-is_some
+returns-then-is_some c =
     let start = c in
     let loop = c.loop-at in
     let after-at = c.after_at-next in
     let content-at = c.content_at in
     let find-name = c.find_name in
-    compare_twice loop.invariant (omega arith) _ (subst₂ (λ n x. (h : HasRow start.args.bytes.now n start.args.to) → found_of find-name.result ≡ find_builtin x h.names 0) after-at.ensures.is content-at.ensures find-name.ensures) c.in-At.is
+    compare_twice loop.invariant (omega arith) _ (subst₂ (λ n x. (h : HasRow start.args.bytes.now n start.args.to) → found_of find-name.result ≡ find_builtin x h.names 0) after-at.ensures.is content-at.ensures find-name.ensures) (sym c.is_some.ensures ∙ c.if-is_some.true)
 
 pub loop-at-smaller : goal.loop-at-smaller
 loop-at-smaller c = omega (arith, c.after_at-next.ensures.is)
@@ -38,7 +38,7 @@ loop-at-preserved c =
     let content-at = c.content_at in
     let find-name = c.find_name in
     rw after-at.ensures.is
-    (compare_again loop.invariant (omega arith) _ (subst₂ (λ n x. (h : HasRow start.args.bytes.now n start.args.to) → found_of find-name.result ≡ find_builtin x h.names 0) after-at.ensures.is content-at.ensures find-name.ensures) c.in_default.is)
+    (compare_again loop.invariant (omega arith) _ (subst₂ (λ n x. (h : HasRow start.args.bytes.now n start.args.to) → found_of find-name.result ≡ find_builtin x h.names 0) after-at.ensures.is content-at.ensures find-name.ensures) (sym c.is_some.ensures ∙ c.if-is_some.false))
 
 pub returns : goal.returns
 returns c = compare_none c.loop-at.invariant (omega arith)

@@ -1,12 +1,8 @@
 -- The loop's invariant: what is left of the two names decides.
-use Prim.Native.Nat.{◌≤◌, ◌-◌}
 use mathlib.Core.Path.{◌≡◌}
-use lib.ListN.{length, drop}
+use lib.ListN.{drop}
 use Rattle.definition.specs.SymbolTable.{same}
 use Rattle.field.proofs.names.same_name.Given as goal
 
 abbrev pub invariant-loop-i : goal.invariant-loop-i
-invariant-loop-i l = (l.i ≤ length l.x) × (same l.x l.y ≡ same (drop l.i l.x) (drop l.i l.y))
-
-abbrev pub decreases-loop-i : goal.decreases-loop-i
-decreases-loop-i l = length l.x - l.i
+invariant-loop-i l = same l.x l.y ≡ same (drop l.i l.x) (drop l.i l.y)

@@ -1,48 +1,64 @@
 -- `heights::chunk::pass` meets its contract: an instruction a turn; the marks are those of the pass so far.
-use native.Mathlib.Omega.{arith}
-use mathlib.Core.Path.{ap, ◌∙◌}
+use Rattle.std.proofs.Common.{◌+◌, ap, ◌∙◌, refl, sym, subst}
 use Rattle.heights.specs.Pass.{greater as greatest}
-use Rattle.heights.proofs.Loops.{loop_begins, loop_ends, not_refused, turn, spot, too_few, step_fails, step-on}
+use Rattle.heights.proofs.EachInstruction.{over_new, starts_at, over_again, read_at, all_read}
+use Rattle.heights.proofs.Loops.{PassLoop, loop_begins, loop_ends, not_refused, spot, too_few, step_fails, step-on}
+use Rattle.heights.proofs.Stepping.{max_greater}
 use Rattle.heights.proofs.chunk.pass.Goals as goal
 
 pub loop-at-init : goal.loop-at-init
-loop-at-init c = let s = c in loop_begins s.args.image.now s.args.start s.args.end s.args.heights.now s.args.first s.args.marks.now s.requires
-
-pub shape_of-marks-in-Refused : goal.shape_of-marks-in-Refused
-shape_of-marks-in-Refused c = let loop = c.loop-at in loop.invariant.long
-
-pub returns-in-Refused : goal.returns-in-Refused
-returns-in-Refused c = let enum_told = c.in-Refused in let decode-at = c.decode_at in let loop-test = c.loop-at-test in let loop = c.loop-at in let s = c in absurd (not_refused s.args.image.now s.args.start s.args.end s.args.heights.now s.args.first loop.invariant s.requires loop-test.true decode-at.ensures enum_told.is)
-
-pub shape_of-marks-then-heights-k : goal.shape_of-marks-then-heights-k
-shape_of-marks-then-heights-k c = let loop = c.loop-at in loop.invariant.long
+loop-at-init c =
+    let a = c.args in
+    let n = c.new-at-items.ensures in
+    let e = c.into_iter-at-iterator.ensures.into_iter_gives in
+    record {
+      over = over_new e n.code n.end;
+      so_far = subst (λ at. PassLoop a.image.now a.start a.end a.heights.now a.first a.marks.now a.marks.now at a.first 0) (starts_at e n.at) (loop_begins a.image.now a.start a.end a.heights.now a.first a.marks.now c.requires);
+    }
 
 pub returns-then-heights-k : goal.returns-then-heights-k
-returns-then-heights-k c = let if1 = c.if-heights-k in let i = c.in-Instr in let decode-at = c.decode_at in let loop-test = c.loop-at-test in let loop = c.loop-at in let s = c in too_few s.args.image.now s.args.start s.args.end s.args.heights.now s.args.first loop.invariant s.requires loop-test.true decode-at.ensures i.is if1.true
-
-pub bounds-marks-at : goal.bounds-marks-at
-bounds-marks-at c = let loop-test = c.loop-at-test in let loop = c.loop-at in let s = c in omega (arith, loop.invariant.long, s.requires.room, loop-test.true)
+returns-then-heights-k c =
+    let a = c.args in
+    let l = c.loop-at in
+    let n = c.in-Some.ensures.steps in
+    let r = read_at l.invariant.over n in
+    let p = subst (λ at. PassLoop a.image.now a.start a.end a.heights.now a.first a.marks.now l.marks at l.k l.top) (sym n.here) l.invariant.so_far in
+    too_few a.image.now a.start a.end a.heights.now a.first p c.requires r.before refl r.read c.if-heights-k.true
 
 pub step-requires : goal.step-requires
-step-requires c = let i = c.in-Instr in let decode-at = c.decode_at in let loop-test = c.loop-at-test in let loop = c.loop-at in let s = c in spot s.args.image.now s.args.start s.args.end s.args.heights.now s.args.first loop.invariant s.requires loop-test.true decode-at.ensures i.is
-
-pub shape_of-marks-then-not-step : goal.shape_of-marks-then-not-step
-shape_of-marks-then-not-step c = let step = c.step in let loop = c.loop-at in step.auto.marks ∙ loop.invariant.long
+step-requires c =
+    let a = c.args in
+    let l = c.loop-at in
+    let n = c.in-Some.ensures.steps in
+    let r = read_at l.invariant.over n in
+    let p = subst (λ at. PassLoop a.image.now a.start a.end a.heights.now a.first a.marks.now l.marks at l.k l.top) (sym n.here) l.invariant.so_far in
+    spot a.image.now a.start a.end a.heights.now a.first p c.requires r.before refl r.read
 
 pub returns-then-not-step : goal.returns-then-not-step
-returns-then-not-step c = let if2 = c.if-not-step in let step = c.step in let if1 = c.if-heights-k in let i = c.in-Instr in let decode-at = c.decode_at in let loop-test = c.loop-at-test in let loop = c.loop-at in let s = c in step_fails s.args.image.now s.args.start s.args.end s.args.heights.now s.args.first loop.invariant s.requires loop-test.true decode-at.ensures i.is if1.false step.ensures if2.true
-
-pub overflow_add-k : goal.overflow_add-k
-overflow_add-k c = let if1 = c.if-heights-k in omega (arith, if1.false)
-
-pub loop-at-smaller : goal.loop-at-smaller
-loop-at-smaller c = let i = c.in-Instr in let decode-at = c.decode_at in let loop-test = c.loop-at-test in let loop = c.loop-at in let s = c in let w = turn s.args.image.now s.args.start s.args.end s.args.heights.now s.args.first loop.invariant s.requires loop-test.true decode-at.ensures i.is in omega (arith, w.sized, w.within)
+returns-then-not-step c =
+    let a = c.args in
+    let l = c.loop-at in
+    let n = c.in-Some.ensures.steps in
+    let r = read_at l.invariant.over n in
+    let p = subst (λ at. PassLoop a.image.now a.start a.end a.heights.now a.first a.marks.now l.marks at l.k l.top) (sym n.here) l.invariant.so_far in
+    step_fails a.image.now a.start a.end a.heights.now a.first p c.requires r.before refl r.read c.if-heights-k.false c.step.ensures c.if-not-step.true
 
 pub loop-at-preserved : goal.loop-at-preserved
-loop-at-preserved c = let greater = c.greater-top in let height = c.height in let if2 = c.if-not-step in let step = c.step in let if1 = c.if-heights-k in let i = c.in-Instr in let decode-at = c.decode_at in let loop-test = c.loop-at-test in let loop = c.loop-at in let s = c in step-on s.args.image.now s.args.start s.args.end s.args.heights.now s.args.first loop.invariant s.requires loop-test.true decode-at.ensures i.is if1.false step.ensures if2.false step.auto.marks (greater.ensures ∙ ap (greatest _) height.ensures)
-
-pub shape_of-marks : goal.shape_of-marks
-shape_of-marks c = let loop = c.loop-at in loop.invariant.long
+loop-at-preserved c =
+    let a = c.args in
+    let l = c.loop-at in
+    let n = c.in-Some.ensures.steps in
+    let r = read_at l.invariant.over n in
+    let p = subst (λ at. PassLoop a.image.now a.start a.end a.heights.now a.first a.marks.now l.marks at l.k l.top) (sym n.here) l.invariant.so_far in
+    let q = step-on a.image.now a.start a.end a.heights.now a.first p c.requires r.before refl r.read c.if-heights-k.false c.step.ensures c.if-not-step.false c.step.auto.marks (c.max-top.ensures ∙ max_greater _ _ ∙ ap (greatest _) c.height.ensures) in
+    record {
+      over = over_again l.invariant.over n;
+      so_far = subst (λ at. PassLoop a.image.now a.start a.end a.heights.now a.first a.marks.now c.step.new.marks at (l.k + 1) c.max-top.result) (sym n.behind) q;
+    }
 
 pub returns : goal.returns
-returns c = let loop-test = c.loop-at-test in let loop = c.loop-at in let s = c in loop_ends s.args.image.now s.args.start s.args.end s.args.heights.now s.args.first loop.invariant loop-test.false
+returns c =
+    let a = c.args in
+    let l = c.loop-at in
+    let e = all_read l.invariant.over c.in-None.ensures.steps (λ h q t. not_refused a.image.now a.start a.end a.heights.now a.first l.invariant.so_far c.requires h refl t) in
+    loop_ends a.image.now a.start a.end a.heights.now a.first l.invariant.so_far e

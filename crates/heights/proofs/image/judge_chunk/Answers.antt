@@ -2,12 +2,12 @@
 use Rattle.heights.proofs.Judges.{judged_fails, judged-on}
 use Rattle.heights.proofs.image.judge_chunk.Goals as goal
 
-pub returns-in-Fails : goal.returns-in-Fails
-returns-in-Fails c =
+pub returns-in_err-chunk : goal.returns-in_err-chunk
+returns-in_err-chunk c =
     let a = c.args in
-    λ d k kind q. judged_fails a.before (c.check_chunk.ensures d k kind q) a.output.now c.in-Fails.is
+    λ d k kind q. judged_fails a.before (c.check_chunk.ensures d k kind q) a.output.now c.in_err-chunk.was c.from_residual.ensures
 
-pub returns-in-Top : goal.returns-in-Top
-returns-in-Top c =
+pub returns : goal.returns
+returns c =
     let a = c.args in
-    λ d k kind q. judged-on a.before (c.check_chunk.ensures d k kind q) a.output.now c.in-Top.is c.put.ensures
+    λ d k kind q. judged-on a.before (c.check_chunk.ensures d k kind q) a.output.now c.in_ok-chunk.was c.put.ensures

@@ -1,15 +1,8 @@
 -- `heights::image::judge_constant` meets its contract: by its tag.
-use native.Mathlib.Omega.{arith}
 use Rattle.heights.specs.Judgement.{Kind}
 use mathlib.Core.Path.{refl}
-use Rattle.heights.proofs.Judges.{standing_within, standing_head, no_chunk, chunk, chunk_judges, chunk_ready}
+use Rattle.heights.proofs.Judges.{no_chunk, chunk, chunk_judges, chunk_ready}
 use Rattle.heights.proofs.image.judge_constant.Goals as goal
-
-pub bounds-image-at : goal.bounds-image-at
-bounds-image-at c =
-    let start = c in
-    let s = start.requires.stands.is in
-    omega (arith, standing_within start.args.image.now s, standing_head start.args.image.now s)
 
 pub returns-then-image-at-ne-FUNCTION_CONST : goal.returns-then-image-at-ne-FUNCTION_CONST
 returns-then-image-at-ne-FUNCTION_CONST c =

@@ -7,12 +7,12 @@ use Rattle.listing.proofs.code.list_code.Goals as goal
 pub loop-position-init : goal.loop-position-init
 loop-position-init c = code-begins _ _ _ _ _ c.requires.1.is.order
 
-pub shape_of-output-in-Refused : goal.shape_of-output-in-Refused
-shape_of-output-in-Refused c = kept c.loop-position.invariant.puts
+pub shape_of-output-in-Err : goal.shape_of-output-in-Err
+shape_of-output-in-Err c = kept c.loop-position.invariant.puts
 
-pub returns-in-Refused : goal.returns-in-Refused
-returns-in-Refused c =
-    let enum_told = c.in-Refused in
+pub returns-in-Err : goal.returns-in-Err
+returns-in-Err c =
+    let enum_told = c.in-Err in
     let decode-at = c.decode_at in
     let loop-test = c.loop-position-test in
     let loop = c.loop-position in
@@ -24,7 +24,7 @@ overflow_sub-position c = omega (arith, c.loop-position.invariant.size_is)
 
 pub put_line-next-requires : goal.put_line-next-requires
 put_line-next-requires c =
-    let i = c.in-Instr in
+    let i = c.in-Ok in
     let decode-at = c.decode_at in
     let loop-test = c.loop-position-test in
     let loop = c.loop-position in
@@ -34,7 +34,7 @@ put_line-next-requires c =
 
 pub loop-position-smaller : goal.loop-position-smaller
 loop-position-smaller c =
-    let i = c.in-Instr in
+    let i = c.in-Ok in
     let decode-at = c.decode_at in
     let loop-test = c.loop-position-test in
     let loop = c.loop-position in
@@ -45,7 +45,7 @@ loop-position-smaller c =
 pub loop-position-preserved : goal.loop-position-preserved
 loop-position-preserved c =
     let put-line = c.put_line-next in
-    let i = c.in-Instr in
+    let i = c.in-Ok in
     let decode-at = c.decode_at in
     let loop-test = c.loop-position-test in
     let loop = c.loop-position in

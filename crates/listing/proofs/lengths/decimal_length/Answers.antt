@@ -1,4 +1,5 @@
 -- `listing::lengths::decimal_length` meets its contract: a digit a turn; those of the rest decide.
+use mathlib.Core.Path.{◌≡◌, ◌∙◌}
 use native.Mathlib.Omega.{arith}
 use Rattle.listing.proofs.Digits.{counting_begins, counting_again, counting_few, counting_full}
 use Rattle.listing.proofs.lengths.decimal_length.Goals as goal
@@ -14,19 +15,14 @@ returns-then-rest-lt10 c =
       small = omega (arith, loop.invariant.high);
     }
 
-pub overflow_add-count : goal.overflow_add-count
-overflow_add-count c = omega arith
-
-pub loop-count-smaller : goal.loop-count-smaller
-loop-count-smaller c = omega arith
-
 pub loop-count-preserved : goal.loop-count-preserved
 loop-count-preserved c = search counting_again
 
 pub returns : goal.returns
 returns c =
     let loop = c.loop-count in
+    let e : 20 ≡ loop.count = omega arith in
     record {
-      is = counting_full loop.invariant c.loop-count-test.false;
+      is = e ∙ counting_full loop.invariant c.loop-count-test.false;
       small = omega (arith, loop.invariant.high);
     }

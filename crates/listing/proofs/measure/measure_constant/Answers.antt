@@ -1,68 +1,41 @@
 -- `listing::measure::measure_constant` meets its contract: by its head, and then its content.
-use mathlib.Core.Path.{◌∙◌, ap, sym}
+use mathlib.Core.Path.{ap, sym}
 use native.Mathlib.Omega.{arith}
+use Rattle.std.proofs.Common.{rules}
+use Rattle.std.proofs.lemmas.Result.{err_from_is_err_and}
 use Rattle.definition.specs.Basic.{byte_at}
+use Rattle.bytecode.proofs.Heads.{fitting, unfitting}
 use Rattle.definition.specs.Decode.{read_content}
+use Rattle.definition.specs.Field.{Head}
 use Rattle.bytecode.specs.Checked.{is_constant}
 use Rattle.bytecode.specs.declared.Form.TheVariants.{Plain}
-use Rattle.bytecode.proofs.Heads.{fitting, after_cut, after_bad, after_good}
 use Rattle.listing.specs.Measured.{constant_measured}
 use Rattle.listing.proofs.measure.measure_constant.Goals as goal
 
-pub returns-then-not-constant_head : goal.returns-then-not-constant_head
-returns-then-not-constant_head c =
-    let if1 = c.if-not-constant_head in
-    let constant-head = c.constant_head in
-    let tag = c.in-Whole in
-    let head_at = c.head_at in
-    let start = c in
-    let byte = byte_at start.args.image.now in
-    record {
-      is = sym (ap constant_measured (after_bad byte start.args.at start.args.end (is_constant Plain) (read_content byte) head_at.ensures tag.is constant-head.ensures if1.true));
-      small = omega arith;
-    }
-
-pub overflow_add-at : goal.overflow_add-at
-overflow_add-at c =
-    let tag = c.in-Whole in
-    let head_at = c.head_at in
-    let start = c in
-    let f = fitting (byte_at start.args.image.now) start.args.at start.args.end head_at.ensures tag.is in
-    omega (arith, f.within, start.requires.within)
+pub returns-in_err-head-clause-is : goal.returns-in_err-head-clause-is
+returns-in_err-head-clause-is c =
+    let p = err_from_is_err_and c.from_residual.result c.from_residual.ensures.1 in
+    let a = c.args in
+    let e = c.head_where.ensures (is_constant Plain) (λ h r q. search rules) in
+    rw (p.1, p.2) (sym (ap constant_measured (unfitting (byte_at a.image.now) a.at a.end (is_constant Plain) e c.in_err-head.was (read_content (byte_at a.image.now)))))
 
 pub measure_content-requires : goal.measure_content-requires
 measure_content-requires c =
-    let if1 = c.if-not-constant_head in
-    let constant-head = c.constant_head in
-    let tag = c.in-Whole in
-    let head_at = c.head_at in
-    let start = c in
-    let f = fitting (byte_at start.args.image.now) start.args.at start.args.end head_at.ensures tag.is in
-    (record { order = omega arith; within = omega (arith, f.within, start.requires.within); few = omega (arith, f.within, start.requires.few) }, sym constant-head.ensures ∙ if1.false)
+    let a = c.args in
+    let e = c.head_where.ensures (is_constant Plain) (λ h r q. search rules) in
+    let f = fitting (byte_at a.image.now) a.at a.end (is_constant Plain) e c.in_ok-head.was in
+    (record { order = omega arith; within = omega (arith, f.within, c.requires.within); few = omega (arith, f.within, c.requires.few) }, f.is_good)
 
-pub returns-in-Cut : goal.returns-in-Cut
-returns-in-Cut c =
-    let enum_told = c.in-Cut in
-    let head_at = c.head_at in
-    let start = c in
-    let byte = byte_at start.args.image.now in
-    record {
-      is = sym (ap constant_measured (after_cut byte start.args.at start.args.end (is_constant Plain) (read_content byte) head_at.ensures enum_told.is));
-      small = omega arith;
-    }
+pub returns-clause-is : goal.returns-clause-is
+returns-clause-is c =
+    let a = c.args in
+    let e = c.head_where.ensures (is_constant Plain) (λ h r q. search rules) in
+    let f = fitting (byte_at a.image.now) a.at a.end (is_constant Plain) e c.in_ok-head.was in
+    rw f.reads c.measure_content.ensures.is
 
-pub returns-else-not-constant_head : goal.returns-else-not-constant_head
-returns-else-not-constant_head c =
-    let measure-content = c.measure_content in
-    let if1 = c.if-not-constant_head in
-    let constant-head = c.constant_head in
-    let tag = c.in-Whole in
-    let head_at = c.head_at in
-    let start = c in
-    let byte = byte_at start.args.image.now in
-    let f = fitting byte start.args.at start.args.end head_at.ensures tag.is in
-    let e = after_good byte start.args.at start.args.end (is_constant Plain) (read_content byte) head_at.ensures tag.is constant-head.ensures if1.false in
-    record {
-      is = measure-content.ensures.is ∙ sym (ap constant_measured e);
-      small = omega (arith, measure-content.ensures.small, f.is_len);
-    }
+pub returns-clause-small : goal.returns-clause-small
+returns-clause-small c =
+    let a = c.args in
+    let e = c.head_where.ensures (is_constant Plain) (λ h r q. search rules) in
+    let f = fitting (byte_at a.image.now) a.at a.end (is_constant Plain) e c.in_ok-head.was in
+    omega (arith, c.measure_content.ensures.small, ap (λ (h : Head). h.len) f.is)

@@ -1,73 +1,48 @@
 -- `listing::measure::measure_main` meets its contract: by its head, and then its code.
-use mathlib.Core.Path.{◌∙◌, ap, sym}
+use mathlib.Core.Path.{ap, sym}
 use native.Mathlib.Omega.{arith}
+use Rattle.std.proofs.Common.{rules}
+use Rattle.std.proofs.lemmas.Result.{err_from_is_err_and}
+use Rattle.definition.specs.Basic.{byte_at}
+use Rattle.bytecode.proofs.Heads.{fitting, unfitting}
 use native.Mathlib.Nat.{le_refl}
 use lib.ListN.{length}
-use Rattle.definition.specs.Basic.{byte_at}
 use Rattle.bytecode.specs.Checked.{is_main}
 use Rattle.bytecode.specs.declared.Form.TheVariants.{Plain}
-use Rattle.bytecode.proofs.Heads.{fitting, after_cut, after_bad, after_good}
 use Rattle.bytecode.proofs.Fields.{main_content}
 use Rattle.listing.specs.Measured.{code_measured}
 use Rattle.listing.proofs.Measures.{main_short}
 use Rattle.listing.proofs.measure.measure_main.Goals as goal
 
-pub returns-then-not-main_head : goal.returns-then-not-main_head
-returns-then-not-main_head c =
-    let if1 = c.if-not-main_head in
-    let main-head = c.main_head in
-    let tag = c.in-Whole in
-    let head_at = c.head_at in
-    let start = c in
-    let b = start.args.image.now in
-    record {
-      is = sym (ap code_measured (after_bad (byte_at b) 0 (length b) (is_main Plain) (main_content (byte_at b)) head_at.ensures tag.is main-head.ensures if1.true));
-      small = omega arith;
-    }
+pub returns-in_err-head-clause-is : goal.returns-in_err-head-clause-is
+returns-in_err-head-clause-is c =
+    let p = err_from_is_err_and c.from_residual.result c.from_residual.ensures.1 in
+    let b = c.args.image.now in
+    let e = c.head_where.ensures (is_main Plain) (λ h r q. search rules) in
+    rw (p.1, p.2) (sym (ap code_measured (unfitting (byte_at b) 0 (length b) (is_main Plain) e c.in_err-head.was (main_content (byte_at b)))))
 
-pub overflow_add-len : goal.overflow_add-len
-overflow_add-len c =
-    let if1 = c.if-not-main_head in
-    let main-head = c.main_head in
-    let tag = c.in-Whole in
-    let s = main_short tag.tag tag.len (sym main-head.ensures ∙ if1.false) in
+pub overflow_add-head : goal.overflow_add-head
+overflow_add-head c =
+    let b = c.args.image.now in
+    let f = fitting (byte_at b) 0 (length b) (is_main Plain) (c.head_where.ensures (is_main Plain) (λ h r q. search rules)) c.in_ok-head.was in
     omega arith
 
 pub measure_code-requires : goal.measure_code-requires
 measure_code-requires c =
-    let if1 = c.if-not-main_head in
-    let main-head = c.main_head in
-    let tag = c.in-Whole in
-    let head_at = c.head_at in
-    let start = c in
-    let b = start.args.image.now in
-    let f = fitting (byte_at b) 0 (length b) head_at.ensures tag.is in
-    let s = main_short tag.tag tag.len (sym main-head.ensures ∙ if1.false) in
+    let b = c.args.image.now in
+    let f = fitting (byte_at b) 0 (length b) (is_main Plain) (c.head_where.ensures (is_main Plain) (λ h r q. search rules)) c.in_ok-head.was in
+    let s = main_short c.in_ok-head.head f.is_good in
     record { order = omega arith; within = omega (arith, f.within); few = omega arith }
 
-pub returns-in-Cut : goal.returns-in-Cut
-returns-in-Cut c =
-    let enum_told = c.in-Cut in
-    let head_at = c.head_at in
-    let start = c in
-    let b = start.args.image.now in
-    record {
-      is = sym (ap code_measured (after_cut (byte_at b) 0 (length b) (is_main Plain) (main_content (byte_at b)) head_at.ensures enum_told.is));
-      small = omega arith;
-    }
+pub returns-clause-is : goal.returns-clause-is
+returns-clause-is c =
+    let b = c.args.image.now in
+    let f = fitting (byte_at b) 0 (length b) (is_main Plain) (c.head_where.ensures (is_main Plain) (λ h r q. search rules)) c.in_ok-head.was in
+    rw f.reads (c.measure_code.ensures.is c.in_ok-head.head.len (le_refl _))
 
-pub returns-else-not-main_head : goal.returns-else-not-main_head
-returns-else-not-main_head c =
-    let measure-code = c.measure_code in
-    let if1 = c.if-not-main_head in
-    let main-head = c.main_head in
-    let tag = c.in-Whole in
-    let head_at = c.head_at in
-    let start = c in
-    let b = start.args.image.now in
-    let s = main_short tag.tag tag.len (sym main-head.ensures ∙ if1.false) in
-    let e = after_good (byte_at b) 0 (length b) (is_main Plain) (main_content (byte_at b)) head_at.ensures tag.is main-head.ensures if1.false in
-    record {
-      is = measure-code.ensures.is tag.len (le_refl _) ∙ sym (ap code_measured e);
-      small = omega (arith, measure-code.ensures.small);
-    }
+pub returns-clause-small : goal.returns-clause-small
+returns-clause-small c =
+    let b = c.args.image.now in
+    let f = fitting (byte_at b) 0 (length b) (is_main Plain) (c.head_where.ensures (is_main Plain) (λ h r q. search rules)) c.in_ok-head.was in
+    let s = main_short c.in_ok-head.head f.is_good in
+    omega (arith, c.measure_code.ensures.small)

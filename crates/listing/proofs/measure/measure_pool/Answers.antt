@@ -1,72 +1,46 @@
 -- `listing::measure::measure_pool` meets its contract: by its head, and then its constants.
-use mathlib.Core.Path.{◌∙◌, ap, sym}
+use mathlib.Core.Path.{ap, sym}
 use native.Mathlib.Omega.{arith}
-use lib.ListN.{length}
+use Rattle.std.proofs.Common.{rules}
+use Rattle.std.proofs.lemmas.Result.{err_from_is_err_and}
 use Rattle.definition.specs.Basic.{byte_at}
+use Rattle.bytecode.proofs.Heads.{fitting, unfitting}
+use lib.ListN.{length}
 use Rattle.bytecode.specs.Checked.{is_pool}
-use Rattle.bytecode.proofs.Heads.{fitting, after_cut, after_bad, after_good}
 use Rattle.bytecode.proofs.Fields.{pool_content}
 use Rattle.listing.specs.Measured.{pool_measured}
 use Rattle.listing.proofs.Measures.{pool_short}
 use Rattle.listing.proofs.measure.measure_pool.Goals as goal
 
-pub returns-then-not-pool_head : goal.returns-then-not-pool_head
-returns-then-not-pool_head c =
-    let if1 = c.if-not-pool_head in
-    let pool-head = c.pool_head in
-    let tag = c.in-Whole in
-    let head_at = c.head_at in
-    let start = c in
-    let b = start.args.image.now in
-    record {
-      is = sym (ap pool_measured (after_bad (byte_at b) start.args.at (length b) is_pool (pool_content (byte_at b)) head_at.ensures tag.is pool-head.ensures if1.true));
-      small = omega arith;
-    }
+pub returns-in_err-head-clause-is : goal.returns-in_err-head-clause-is
+returns-in_err-head-clause-is c =
+    let p = err_from_is_err_and c.from_residual.result c.from_residual.ensures.1 in
+    let b = c.args.image.now in
+    let e = c.head_where.ensures is_pool (λ h r q. search rules) in
+    rw (p.1, p.2) (sym (ap pool_measured (unfitting (byte_at b) c.args.at (length b) is_pool e c.in_err-head.was (pool_content (byte_at b)))))
 
-pub overflow_add-at-in-Whole-2 : goal.overflow_add-at-in-Whole-2
-overflow_add-at-in-Whole-2 c =
-    let tag = c.in-Whole in
-    let head_at = c.head_at in
-    let start = c in
-    let b = start.args.image.now in
-    let f = fitting (byte_at b) start.args.at (length b) head_at.ensures tag.is in
+pub overflow_add-at-3 : goal.overflow_add-at-3
+overflow_add-at-3 c =
+    let b = c.args.image.now in
+    let f = fitting (byte_at b) c.args.at (length b) is_pool (c.head_where.ensures is_pool (λ h r q. search rules)) c.in_ok-head.was in
     omega arith
 
 pub measure_constants-requires : goal.measure_constants-requires
 measure_constants-requires c =
-    let if1 = c.if-not-pool_head in
-    let pool-head = c.pool_head in
-    let tag = c.in-Whole in
-    let head_at = c.head_at in
-    let start = c in
-    let b = start.args.image.now in
-    let f = fitting (byte_at b) start.args.at (length b) head_at.ensures tag.is in
-    let s = pool_short tag.tag tag.len (sym pool-head.ensures ∙ if1.false) in
+    let b = c.args.image.now in
+    let f = fitting (byte_at b) c.args.at (length b) is_pool (c.head_where.ensures is_pool (λ h r q. search rules)) c.in_ok-head.was in
+    let s = pool_short c.in_ok-head.head f.is_good in
     record { order = omega arith; within = omega (arith, f.within); few = omega arith }
 
-pub returns-in-Cut : goal.returns-in-Cut
-returns-in-Cut c =
-    let enum_told = c.in-Cut in
-    let head_at = c.head_at in
-    let start = c in
-    let b = start.args.image.now in
-    record {
-      is = sym (ap pool_measured (after_cut (byte_at b) start.args.at (length b) is_pool (pool_content (byte_at b)) head_at.ensures enum_told.is));
-      small = omega arith;
-    }
+pub returns-clause-is : goal.returns-clause-is
+returns-clause-is c =
+    let b = c.args.image.now in
+    let f = fitting (byte_at b) c.args.at (length b) is_pool (c.head_where.ensures is_pool (λ h r q. search rules)) c.in_ok-head.was in
+    rw f.reads c.measure_constants.ensures.is
 
-pub returns-else-not-pool_head : goal.returns-else-not-pool_head
-returns-else-not-pool_head c =
-    let measure-constants = c.measure_constants in
-    let if1 = c.if-not-pool_head in
-    let pool-head = c.pool_head in
-    let tag = c.in-Whole in
-    let head_at = c.head_at in
-    let start = c in
-    let b = start.args.image.now in
-    let s = pool_short tag.tag tag.len (sym pool-head.ensures ∙ if1.false) in
-    let e = after_good (byte_at b) start.args.at (length b) is_pool (pool_content (byte_at b)) head_at.ensures tag.is pool-head.ensures if1.false in
-    record {
-      is = measure-constants.ensures.is ∙ sym (ap pool_measured e);
-      small = omega (arith, measure-constants.ensures.small);
-    }
+pub returns-clause-small : goal.returns-clause-small
+returns-clause-small c =
+    let b = c.args.image.now in
+    let f = fitting (byte_at b) c.args.at (length b) is_pool (c.head_where.ensures is_pool (λ h r q. search rules)) c.in_ok-head.was in
+    let s = pool_short c.in_ok-head.head f.is_good in
+    omega (arith, c.measure_constants.ensures.small)

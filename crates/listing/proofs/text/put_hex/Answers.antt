@@ -9,21 +9,12 @@ use Rattle.listing.proofs.text.put_hex.Goals as goal
 pub loop-k-init : goal.loop-k-init
 loop-k-init c = begins _ _ _ _ _ (omega arith)
 
-pub bounds-image-k : goal.bounds-image-k
-bounds-image-k c = omega arith
-
 pub put_hex_byte-next-requires : goal.put_hex_byte-next-requires
 put_hex_byte-next-requires c =
     let start = c in
     let loop = c.loop-k in
     let byte = byte_at start.args.image.now in
     omega (arith, loop.invariant.count, start.requires, length_hexed byte start.args.from (start.args.end - start.args.from), length_hexed byte loop.k (start.args.end - loop.k))
-
-pub overflow_add-k : goal.overflow_add-k
-overflow_add-k c = omega arith
-
-pub loop-k-smaller : goal.loop-k-smaller
-loop-k-smaller c = omega arith
 
 pub loop-k-preserved : goal.loop-k-preserved
 loop-k-preserved c =

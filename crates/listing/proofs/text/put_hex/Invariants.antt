@@ -9,6 +9,3 @@ use Rattle.listing.proofs.text.put_hex.Given as goal
 abbrev pub invariant-loop-k : goal.invariant-loop-k
 invariant-loop-k l =
     Putting l.end (λ i. hex (bytes (byte_at l.image) i (l.end - i))) l.initial.output l.at (hex (bytes (byte_at l.image) l.from (l.end - l.from))) l.output l.next l.k
-
-abbrev pub decreases-loop-k : goal.decreases-loop-k
-decreases-loop-k l = l.end - l.k

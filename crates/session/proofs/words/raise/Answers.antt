@@ -6,4 +6,4 @@ pub returns : goal.returns
 returns c =
     let moved = c in
     let start = moved in
-    six_raised start.args.session.now start.args.end moved.move_up.ensures c.copy.ensures
+    six_raised start.args.session.now start.args.end moved.requires moved.copy_within.ensures.after c.copy.ensures

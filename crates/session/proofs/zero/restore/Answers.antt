@@ -7,4 +7,4 @@ use Rattle.session.proofs.zero.restore.Goals as goal
 pub returns : goal.returns
 returns c =
     let a = c.args in
-    part_zeroed a.session.now a.from (a.to - a.from) (omega arith) c.clear.ensures
+    part_zeroed a.session.now a.from (a.to - a.from) (omega arith) (c.fill.ensures.after (λ y e. e))

@@ -17,5 +17,5 @@ returns-then-has_room c = search adds_on
 pub returns-else-has_room : goal.returns-else-has_room
 returns-else-has_room c = search adds_full
 
-pub returns-in-Stop : goal.returns-in-Stop
-returns-in-Stop c = search adds_stop
+pub returns-in-Err : goal.returns-in-Err
+returns-in-Err c = adds_stop c.in-Err.is

@@ -12,5 +12,5 @@ pub returns : goal.returns
 unfolding free_in
 returns c = record {
   value = refl;
-  part_after = rw (c.entry-v.ensures, c.count-n.ensures, c.wide32-k.ensures);
+  part_after = rw (c.entry-v.ensures, c.count-n.ensures);
 }

@@ -19,8 +19,8 @@ loop-k-init c =
     let t = c.tagged_below-k in
     (omega (arith, t.ensures.order), ap (λ m. find a.name.now (back (entry_of a.tree.now) a.part.now entries_at m)) (sym n) ∙ find_passed a.tree.now a.part.now a.name.now a.n t.result (λ i l. s.requires.good_table.each i (omega arith)) (ap (λ h. h % 128) s.requires.hash_value) t.ensures)
 
-pub name_at-requires : goal.name_at-requires
-name_at-requires c = rw c.wide32.ensures (c.requires.good_table.each (c.loop-k.k - 1) (omega arith)).stands
+pub content_at-requires : goal.content_at-requires
+content_at-requires c = record { fits = (c.requires.good_table.each (c.loop-k.k - 1) (omega arith)).stands }
 
 pub returns-then-same_name : goal.returns-then-same_name
 returns-then-same_name c =

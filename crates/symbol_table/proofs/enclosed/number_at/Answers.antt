@@ -1,9 +1,10 @@
--- `symbol_table::enclosed::number_at` meets its contract: an element of a part is one of the area.
-use Prim.Native.Nat.{◌<◌}
+-- `symbol_table::enclosed::number_at` meets its contract: a number of the part.
 use native.Mathlib.Omega.{arith}
-use lib.Seq.{get_or-take, get_or-drop}
-use Rattle.symbol_table.specs.Layout.{part_size}
+use Rattle.symbol_table.proofs.Levels.{part_length}
 use Rattle.symbol_table.proofs.enclosed.number_at.Goals as goal
 
+pub bounds-part-i : goal.bounds-part-i
+bounds-part-i c = rw c.part.ensures (omega (arith, part_length c.args.level c.args.table.now c.requires.part_size_in_bounds))
+
 pub returns : goal.returns
-returns c = let h : c.args.i < part_size = omega arith in rw (get_or-take, get_or-drop)
+returns c = rw c.part.ensures

@@ -1,6 +1,5 @@
 -- The loop's invariant: the entries behind the k-th have other tags.
 use native.Mathlib.Omega.{arith}
-use mathlib.Core.Path.{◌∙◌}
 use Rattle.symbol_table.proofs.Back.{passed_none, passed_more}
 use Rattle.symbol_table.proofs.enclosed.tagged_below.Goals as goal
 
@@ -10,8 +9,8 @@ loop-k-init c = passed_none _ _ _
 pub overflow_sub-v : goal.overflow_sub-v
 overflow_sub-v c = omega arith
 
-pub returns-then-wide32-tag : goal.returns-then-wide32-tag
-returns-then-wide32-tag c = c.loop-k.invariant
+pub returns-then-v-tag : goal.returns-then-v-tag
+returns-then-v-tag c = c.loop-k.invariant
 
 pub overflow_sub-k : goal.overflow_sub-k
 overflow_sub-k c = omega arith
@@ -23,7 +22,7 @@ pub loop-k-preserved : goal.loop-k-preserved
 loop-k-preserved c =
     let l = c.loop-k in
     let a = c.args in
-    passed_more a.part.now a.from a.tag l.k c.loop-k-test.true (λ e. c.if-wide32-tag.false (c.wide32.ensures ∙ e)) l.invariant
+    passed_more a.part.now a.from a.tag l.k c.loop-k-test.true (λ e. c.if-v-tag.false e) l.invariant
 
 pub returns : goal.returns
 returns c = c.loop-k.invariant

@@ -10,8 +10,8 @@ find_place-place-requires c =
     record {
       globals_len = a.size;
       globals_bound = a.room;
-      hash_value = a.named.is ∙ ap hash_of (sym c.name_at.ensures);
-      by_index = (a.found, rw (c.name_at.ensures, a.named.is) a.way);
+      hash_value = a.named.is ∙ ap hash_of (sym c.content_at.ensures);
+      by_index = (a.found, rw (c.content_at.ensures, a.named.is) a.way);
     }
 
 pub push_global-requires : goal.push_global-requires
@@ -20,8 +20,8 @@ push_global-requires c =
     record {
       globals_len = a.size;
       globals_bound = a.room;
-      at_lt_globals_size = place_to a c.name_at.ensures c.find_place-place.ensures;
+      at_lt_globals_size = place_to a c.content_at.ensures c.find_place-place.ensures;
     }
 
 pub returns : goal.returns
-returns c = added c.requires.addable c.name_at.ensures c.find_place-place.ensures c.push_global.ensures
+returns c = added c.requires.addable c.content_at.ensures c.find_place-place.ensures c.push_global.ensures

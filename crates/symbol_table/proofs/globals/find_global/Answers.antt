@@ -4,11 +4,11 @@ use Rattle.symbol_table.specs.Contract.{hit_of}
 use Rattle.symbol_table.proofs.Seeking.{found_new, found_old}
 use Rattle.symbol_table.proofs.globals.find_global.Goals as goal
 
-pub returns-in-At : goal.returns-in-At
-returns-in-At c =
+pub returns-in-Some : goal.returns-in-Some
+returns-in-Some c =
     let s = c in
     let x = s.requires.good_globals.finds s.args.name.now in
-    rw x.latest (found_new x.old x.new refl (ap hit_of (sym c.in-At.is) ∙ c.find_side.ensures x))
+    rw x.latest (found_new x.old x.new refl (ap hit_of (sym c.in-Some.is) ∙ c.find_side.ensures x))
 
 pub returns : goal.returns
 returns c =

@@ -13,4 +13,4 @@ returns-then-name-i c = rw (le-ltb _ 22 c.if-depth-lt-SIDE_BITS.false, le-leb _ 
 
 pub returns : goal.returns
 unfolding side_of
-returns c = rw (le-ltb _ 22 c.if-depth-lt-SIDE_BITS.false, lt-leb _ _ c.if-name-i.false, c.wide.ensures.is)
+returns c = rw (le-ltb _ 22 c.if-depth-lt-SIDE_BITS.false, lt-leb _ _ c.if-name-i.false, c.from.ensures)

@@ -15,27 +15,24 @@ loop-at-init c =
 pub hash_at-hash-requires : goal.hash_at-hash-requires
 hash_at-hash-requires c = let x = c.loop-at.invariant in omega (arith, x.within, (begun_here _ _ _ _ _ x c.requires.has_items (omega arith)).fits)
 
-pub slice_bounds-add_old-end : goal.slice_bounds-add_old-end
-slice_bounds-add_old-end c = sym (length-take-le _ _ c.loop-at.invariant.within)
+pub slice_bounds-add_global-end : goal.slice_bounds-add_global-end
+slice_bounds-add_global-end c = sym (length-take-le _ _ c.loop-at.invariant.within)
 
-pub add_old-requires : goal.add_old-requires
-add_old-requires c =
+pub add_global-requires : goal.add_global-requires
+add_global-requires c =
     let x = c.loop-at.invariant in
-    begun_addable _ _ _ _ _ x _ c.requires.session_len_bound (begun_here _ _ _ _ _ x c.requires.has_items (omega arith)) c.hash_at-hash.ensures.is
+    record {
+      addable = begun_addable _ _ _ _ _ x _ c.requires.session_len_bound (begun_here _ _ _ _ _ x c.requires.has_items (omega arith)) c.hash_at-hash.ensures.is;
+      side_bound = omega arith;
+    }
 
-pub overflow_add-at : goal.overflow_add-at
-overflow_add-at c = let x = c.loop-at.invariant in omega (arith, x.within, (begun_here _ _ _ _ _ x c.requires.has_items (omega arith)).fits)
-
-pub length_at-requires : goal.length_at-requires
-length_at-requires c = let x = c.loop-at.invariant in omega (arith, x.within, (begun_here _ _ _ _ _ x c.requires.has_items (omega arith)).fits)
-
-pub overflow_add-at-in-loop-at : goal.overflow_add-at-in-loop-at
-overflow_add-at-in-loop-at c = let x = c.loop-at.invariant in omega (arith, x.within, (begun_here _ _ _ _ _ x c.requires.has_items (omega arith)).fits)
+pub after_at-at-requires : goal.after_at-at-requires
+after_at-at-requires c = let x = c.loop-at.invariant in record { fits = omega (arith, x.within, (begun_here _ _ _ _ _ x c.requires.has_items (omega arith)).fits) }
 
 pub loop-at-preserved : goal.loop-at-preserved
 loop-at-preserved c =
     let x = c.loop-at.invariant in
-    rw c.length_at.ensures.is (begun-step _ _ _ _ _ x _ c.requires.session_len_bound (begun_here _ _ _ _ _ x c.requires.has_items (omega arith)) c.add_old.ensures)
+    rw c.after_at-at.ensures.is (begun-step _ _ _ _ _ x _ c.requires.session_len_bound (begun_here _ _ _ _ _ x c.requires.has_items (omega arith)) c.add_global.ensures)
 
 pub shape_of-globals : goal.shape_of-globals
 shape_of-globals c = omega (arith, (c.loop-at.invariant.good []).size)

@@ -1,17 +1,15 @@
--- The loop's invariant: what stands before the marks is as it was.
-use mathlib.Core.Path.{refl, ◌∙◌}
+-- `symbol_table::marks::clear_marks` meets its contract: what stands before the marks is as it was.
+use Prim.Native.Nat.{◌<◌}
+use mathlib.Core.Path.{◌≡◌, ◌∙◌}
 use native.Mathlib.Omega.{arith}
-use lib.ListN.{length-set}
-use lib.Seq.{get_or-set_other}
+use lib.ListN.{length, take, get_or-append}
+use lib.Seq.{get_or-take, length-take-le}
+use Rattle.symbol_table.specs.Layout.{marks_at}
 use Rattle.symbol_table.proofs.marks.clear_marks.Goals as goal
 
-pub loop-i-init : goal.loop-i-init
-loop-i-init c = (omega arith, c.requires, λ j l. refl)
-
-pub loop-i-preserved : goal.loop-i-preserved
-loop-i-preserved c =
-    let l = c.loop-i in
-    (omega arith, simp length-set l.invariant.1, λ j h. get_or-set_other l.part _ j _ 0 (omega arith) ∙ l.invariant.2 j h)
-
 pub returns : goal.returns
-returns c = c.loop-i.invariant.2
+returns c = λ j h.
+    let l : length (take marks_at c.args.part.now) ≡ marks_at = length-take-le marks_at c.args.part.now (omega arith) in
+    let b : j < length (take marks_at c.args.part.now) = omega arith in
+    let i : j < marks_at = h in
+    get_or-append (take marks_at c.args.part.now) _ 0 j b ∙ rw get_or-take

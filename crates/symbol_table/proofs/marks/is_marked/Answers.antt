@@ -7,4 +7,4 @@ use Rattle.symbol_table.proofs.marks.is_marked.Goals as goal
 pub returns : goal.returns
 returns c = λ e h.
     let a = c.args in
-    eqb-false (get_or a.part.now (771 + c.wide32.result) 0 / 2 ^ (a.code % 1280 % 32) % 2) 1 e (rw c.wide32.ensures h)
+    eqb-false (get_or a.part.now (771 + a.code % 1280 / 32) 0 / 2 ^ (a.code % 1280 % 32) % 2) 1 e h

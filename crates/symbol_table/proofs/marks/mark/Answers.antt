@@ -7,4 +7,4 @@ use Rattle.symbol_table.proofs.marks.mark.Goals as goal
 
 pub returns : goal.returns
 unfolding mark_in
-returns c = rw (c.wide32-at.ensures, shifted (c.args.code % 1280 % 32) (omega arith))
+returns c = rw (shifted (c.args.code % 1280 % 32) (omega arith))

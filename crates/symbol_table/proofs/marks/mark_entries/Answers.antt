@@ -4,13 +4,13 @@ use Rattle.symbol_table.proofs.Remarking.{globals_then, marks-start, marks_done,
 use Rattle.symbol_table.proofs.marks.mark_entries.Goals as goal
 
 pub loop-i-init : goal.loop-i-init
-loop-i-init c = rw (c.wide32-i.ensures, c.number_at.ensures) (marks-start _ _ _ _ _ c.requires.good_part)
+loop-i-init c = rw c.number_at-from.ensures (marks-start _ _ _ _ _ c.requires.good_part)
 
 pub overflow_add-i : goal.overflow_add-i
 overflow_add-i c = omega (arith, c.requires.good_part.table.sized, c.requires.n_value)
 
-pub number_at-requires-in-loop-i : goal.number_at-requires-in-loop-i
-number_at-requires-in-loop-i c =
+pub number_at-requires : goal.number_at-requires
+number_at-requires c =
     record {
       part_size_in_bounds = omega (arith, c.loop-i.invariant.size);
       i_lt_part_size = omega (arith, c.requires.good_part.table.sized, c.requires.n_value);
@@ -18,7 +18,7 @@ number_at-requires-in-loop-i c =
 
 pub hash_at-hash-requires : goal.hash_at-hash-requires
 hash_at-hash-requires c =
-    rw (c.wide32-name.ensures, c.number_at-in-loop-i.ensures) (marks_stands _ _ _ _ _ c.requires.good_part _ _ c.loop-i.invariant (omega arith))
+    rw c.number_at.ensures (marks_stands _ _ _ _ _ c.requires.good_part _ _ c.loop-i.invariant (omega arith))
 
 pub code_outermost-code-requires : goal.code_outermost-code-requires
 code_outermost-code-requires c =
@@ -27,7 +27,7 @@ code_outermost-code-requires c =
       has_words = c.requires.has_words;
       globals_size_in_bounds = omega (arith, l.invariant.size);
       good_globals = rw (globals_then _ _ _ _ _ c.requires.good_part _ l.invariant.remarked) c.requires.good_globals;
-      name = record { stands = rw (c.wide32-name.ensures, c.number_at-in-loop-i.ensures) (marks_stands _ _ _ _ _ c.requires.good_part _ _ l.invariant (omega arith)); is = c.hash_at-hash.ensures.is };
+      name = record { stands = rw c.number_at.ensures (marks_stands _ _ _ _ _ c.requires.good_part _ _ l.invariant (omega arith)); is = c.hash_at-hash.ensures.is };
       hash_lt_hash_bound = c.hash_at-hash.ensures.small;
     }
 
@@ -43,7 +43,7 @@ pub loop-i-preserved : goal.loop-i-preserved
 loop-i-preserved c =
     let l = c.loop-i in
     marks_next _ _ _ _ _ c.requires.good_part _ _ l.invariant (omega arith) _ _ c.requires.part_size_in_bounds
-    (rw (globals_then _ _ _ _ _ c.requires.good_part _ l.invariant.remarked, c.wide32-name.ensures, c.number_at-in-loop-i.ensures) at c.code_outermost-code.ensures)
+    (rw (globals_then _ _ _ _ _ c.requires.good_part _ l.invariant.remarked, c.number_at.ensures) at c.code_outermost-code.ensures)
     c.next_at.auto.table c.next_at.ensures
 
 pub shape_of-table : goal.shape_of-table

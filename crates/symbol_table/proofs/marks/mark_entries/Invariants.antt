@@ -1,5 +1,4 @@
 -- The loop's invariant: the first i entries are marked, and nothing else changed.
-use Prim.Native.Nat.{◌-◌}
 use Rattle.definition.specs.Decode.{words_in}
 use Rattle.symbol_table.specs.Layout.{globals_in}
 use Rattle.symbol_table.proofs.Remarking.{Marks}
@@ -7,6 +6,3 @@ use Rattle.symbol_table.proofs.marks.mark_entries.Given as goal
 
 abbrev pub invariant-loop-i : goal.invariant-loop-i
 invariant-loop-i l = Marks (words_in l.names) (globals_in l.tree l.names l.initial.table) l.tree l.level l.i l.initial.table l.table
-
-abbrev pub decreases-loop-i : goal.decreases-loop-i
-decreases-loop-i l = l.n - l.i

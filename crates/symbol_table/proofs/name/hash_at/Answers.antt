@@ -5,6 +5,6 @@ use Rattle.symbol_table.proofs.name.hash_at.Goals as goal
 
 pub returns : goal.returns
 returns c = record {
-  is = c.hash_name.ensures.is ∙ ap hash_of c.name_at.ensures;
+  is = c.hash_name.ensures.is ∙ ap hash_of c.content_at.ensures;
   small = c.hash_name.ensures.small;
 }

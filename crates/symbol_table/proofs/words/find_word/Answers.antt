@@ -5,16 +5,16 @@ use Rattle.symbol_table.proofs.words.find_word.Goals as goal
 
 pub overflow_cast-result : goal.overflow_cast-result
 overflow_cast-result c =
-    omega (arith, word_index c.requires.has_row c.requires.names_len_bound _ c.find_name.ensures c.in-At.is)
+    omega (arith, word_index c.requires.has_row c.requires.names_len_bound _ c.find_name.ensures c.in-Some.is)
 
 pub overflow_add-result : goal.overflow_add-result
 overflow_add-result c =
-    omega (arith, word_index c.requires.has_row c.requires.names_len_bound _ c.find_name.ensures c.in-At.is)
+    omega (arith, word_index c.requires.has_row c.requires.names_len_bound _ c.find_name.ensures c.in-Some.is)
 
-pub returns-in-At : goal.returns-in-At
-returns-in-At c =
-    word_hit c.requires.has_row c.requires.names_len_bound _ c.find_name.ensures c.in-At.is
+pub returns-in-Some : goal.returns-in-Some
+returns-in-Some c =
+    word_hit c.requires.has_row c.requires.names_len_bound _ c.find_name.ensures c.in-Some.is
 
-pub returns-in-Nothing : goal.returns-in-Nothing
-returns-in-Nothing c =
-    word_none c.requires.has_row c.requires.names_len_bound _ c.find_name.ensures c.in-Nothing.is
+pub returns-in-None : goal.returns-in-None
+returns-in-None c =
+    word_none c.requires.has_row c.requires.names_len_bound _ c.find_name.ensures c.in-None.is

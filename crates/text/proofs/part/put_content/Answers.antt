@@ -1,8 +1,12 @@
 -- `put_content` meets its contract, by the token's kind.
-use Prim.Native.Nat.{◌+◌, ◌-◌}
-use Rattle.definition.proofs.Bytes.{length-bytes}
+use Prim.Native.Nat.{◌+◌, ◌-◌, ◌≤◌}
+use lib.ListN.{length}
+use Rattle.definition.proofs.Bytes.{length-bytes, bytes_slice}
 use Rattle.definition.specs.Basic.{byte_at}
-use Rattle.text.proofs.Contents.{content_integer, content_string, content_true, content_false, content-bytes, put_done}
+use Rattle.text.specs.Kind.{number_of}
+use Rattle.text.specs.declared.kind.Kind.TheVariants.{Integer, String, True, False}
+use Rattle.text.proofs.Contents.{content_integer, content_string, content_true, content_false, content-bytes, put_done, part_small}
+use Rattle.text.proofs.Numbers.{apart}
 use Rattle.text.proofs.RowAt.{end_within}
 use mathlib.Core.Path.{sym, ap, ◌∙◌}
 use native.Mathlib.Omega.{arith}
@@ -11,35 +15,58 @@ use Rattle.text.proofs.part.put_content.Goals as goal
 pub value-requires : goal.value-requires
 value-requires c = omega (arith, c.requires.0.within, end_within c.args.text.now)
 
-pub overflow_add-token : goal.overflow_add-token
-overflow_add-token c = omega (arith, c.requires.0.within, end_within c.args.text.now)
+pub slice_bounds-put-end-in-String : goal.slice_bounds-put-end-in-String
+slice_bounds-put-end-in-String c = omega (arith, c.requires.0.within, end_within c.args.text.now)
 
-pub overflow_sub-token : goal.overflow_sub-token
-overflow_sub-token c = omega (arith, c.requires.0.string c.in-4.is)
+pub put-requires-in-String : goal.put-requires-in-String
+put-requires-in-String c =
+    let h = c.requires.0 in
+    let k = h.string (ap number_of c.in-String.is) in
+    (part_small c.args.text.now (c.args.token.start + 1) (c.args.token.end - 1 - (c.args.token.start + 1)) (omega (arith, k, h.within)), c.requires.1)
 
-pub put_bytes-requires : goal.put_bytes-requires
-put_bytes-requires c = (omega (arith, c.requires.0.string c.in-4.is), omega (arith, c.requires.0.within, end_within c.args.text.now), omega arith)
+pub slice_bounds-put-end-in_default : goal.slice_bounds-put-end-in_default
+slice_bounds-put-end-in_default c = omega (arith, c.requires.0.within, end_within c.args.text.now)
 
-pub put_bytes-requires-in_default : goal.put_bytes-requires-in_default
-put_bytes-requires-in_default c = (c.requires.0.order, omega (arith, c.requires.0.within, end_within c.args.text.now), omega arith)
+pub put-requires-in_default : goal.put-requires-in_default
+put-requires-in_default c =
+    let h = c.requires.0 in
+    (part_small c.args.text.now c.args.token.start (c.args.token.end - c.args.token.start) (omega (arith, h.order, h.within)), c.requires.1)
 
-pub returns-in-3 : goal.returns-in-3
-returns-in-3 c = let facts = put_done c.args.text.now c.args.token c.args.to c.args.output.now (content_integer c.args.text.now c.args.token c.in-3.is (c.requires.0.integer c.in-3.is) _ c.value.ensures) c.put_eight.ensures.behind c.put_eight.ensures.puts (omega arith) in
+pub returns-in-Integer : goal.returns-in-Integer
+returns-in-Integer c =
+    let k = ap number_of c.in-Integer.is in
+    let b = c.to_be_bytes.ensures in
+    let facts = put_done c.args.text.now c.args.token c.args.to c.args.output.now (content_integer c.args.text.now c.args.token k (c.requires.0.integer k) _ (sym c.unwrap.ensures ∙ c.value.ensures) ∙ sym b) c.put.ensures.behind c.put.ensures.puts (omega (arith, ap length b)) in
     record { behind = facts.0; stored = facts.1.0; most = facts.1.1 }
 
-pub returns-in-4 : goal.returns-in-4
-returns-in-4 c = let facts = put_done c.args.text.now c.args.token c.args.to c.args.output.now (content_string c.args.text.now c.args.token c.in-4.is) (c.put_bytes.ensures.behind ∙ ap (λ n. c.args.to + n) (sym (length-bytes _ _ _))) c.put_bytes.ensures.puts (omega (arith, length-bytes (byte_at c.args.text.now) (c.args.token.start + 1) (c.args.token.end - 1 - (c.args.token.start + 1)))) in
+pub returns-in-String : goal.returns-in-String
+returns-in-String c =
+    let h = c.requires.0 in
+    let k = ap number_of c.in-String.is in
+    let from = c.args.token.start + 1 in
+    let n = c.args.token.end - 1 - from in
+    let w : from + n ≤ length c.args.text.now = omega (arith, h.string k, h.within, end_within c.args.text.now) in
+    let b = bytes_slice c.args.text.now from n w in
+    let facts = put_done c.args.text.now c.args.token c.args.to c.args.output.now (content_string c.args.text.now c.args.token k ∙ b) c.put-in-String.ensures.behind c.put-in-String.ensures.puts (omega (arith, ap length b, length-bytes (byte_at c.args.text.now) from n)) in
     record { behind = facts.0; stored = facts.1.0; most = facts.1.1 }
 
-pub returns-in-5 : goal.returns-in-5
-returns-in-5 c = let facts = put_done c.args.text.now c.args.token c.args.to c.args.output.now (content_true c.args.text.now c.args.token c.in-5.is) c.put_flag.ensures.behind c.put_flag.ensures.stored (omega arith) in
+pub returns-in-True : goal.returns-in-True
+returns-in-True c =
+    let facts = put_done c.args.text.now c.args.token c.args.to c.args.output.now (content_true c.args.text.now c.args.token (ap number_of c.in-True.is)) c.put-in-True.ensures.behind c.put-in-True.ensures.puts (omega arith) in
     record { behind = facts.0; stored = facts.1.0; most = facts.1.1 }
 
-pub returns-in-6 : goal.returns-in-6
-returns-in-6 c = let facts = put_done c.args.text.now c.args.token c.args.to c.args.output.now (content_false c.args.text.now c.args.token c.in-6.is) c.put_flag-in-6.ensures.behind c.put_flag-in-6.ensures.stored (omega arith) in
+pub returns-in-False : goal.returns-in-False
+returns-in-False c =
+    let facts = put_done c.args.text.now c.args.token c.args.to c.args.output.now (content_false c.args.text.now c.args.token (ap number_of c.in-False.is)) c.put-in-False.ensures.behind c.put-in-False.ensures.puts (omega arith) in
     record { behind = facts.0; stored = facts.1.0; most = facts.1.1 }
 
 pub returns-in_default : goal.returns-in_default
 returns-in_default c =
-    let facts = put_done c.args.text.now c.args.token c.args.to c.args.output.now (content-bytes c.args.text.now c.args.token (λ e. omega arith) (λ e. omega arith) (λ e. omega arith) (λ e. omega arith)) (c.put_bytes-in_default.ensures.behind ∙ ap (λ n. c.args.to + n) (sym (length-bytes _ _ _))) c.put_bytes-in_default.ensures.puts (omega (arith, length-bytes (byte_at c.args.text.now) c.args.token.start (c.args.token.end - c.args.token.start))) in
+    let h = c.requires.0 in
+    let o = c.in_default in
+    let from = c.args.token.start in
+    let n = c.args.token.end - from in
+    let w : from + n ≤ length c.args.text.now = omega (arith, h.order, h.within, end_within c.args.text.now) in
+    let b = bytes_slice c.args.text.now from n w in
+    let facts = put_done c.args.text.now c.args.token c.args.to c.args.output.now (content-bytes c.args.text.now c.args.token (apart _ Integer o.not-Integer) (apart _ String o.not-String) (apart _ True o.not-True) (apart _ False o.not-False) ∙ b) c.put-in_default.ensures.behind c.put-in_default.ensures.puts (omega (arith, ap length b, length-bytes (byte_at c.args.text.now) from n)) in
     record { behind = facts.0; stored = facts.1.0; most = facts.1.1 }

@@ -1,14 +1,14 @@
 -- `put_names` meets its contract: name by name.
 use Rattle.text.proofs.Contents.{sees_on}
 use Rattle.text.proofs.Larger.{larger_is}
-use Rattle.text.proofs.Looping.{looping_begins, names_name, names-comma, names-end}
+use Rattle.text.proofs.Looping.{names_name, names-comma, names-end}
 use Rattle.text.proofs.RowAt.{sees_ahead}
 use mathlib.Core.Path.{ap}
+use Rattle.text.specs.Kind.{number_of}
+use Rattle.text.specs.declared.kind.Kind.TheVariants.{Name, Comma}
+use Rattle.text.proofs.Numbers.{apart}
 use native.Mathlib.Omega.{arith}
 use Rattle.text.proofs.part.put_names.Goals as goal
-
-pub loop-output-init : goal.loop-output-init
-loop-output-init c = (λ left. looping_begins _ _ left c.requires.within c.empty_part-so_far.ensures, omega (arith, ap (λ p. p.levels) c.empty_part-so_far.ensures))
 
 pub token_at-token-requires : goal.token_at-token-requires
 token_at-token-requires c = (c.loop-output.invariant.0 0).bounds.within
@@ -19,34 +19,31 @@ put_name-requires c =
     let b = (c.loop-output.invariant.0 0).bounds in
     (record { order = s.order; within = s.within; string = s.string; integer = s.integer }, omega (arith, b.room, b.within, b.onward, c.requires.room))
 
-pub loop-output-smaller-then-token-eq-NAME : goal.loop-output-smaller-then-token-eq-NAME
-loop-output-smaller-then-token-eq-NAME c =
+pub loop-output-smaller-in-Name : goal.loop-output-smaller-in-Name
+loop-output-smaller-in-Name c =
     let s = c.token_at-token.ensures in
-    let k = c.if-token-eq-NAME.true in
+    let k = ap number_of c.in-Name.is in
     omega (arith, ap (λ p. p.at) c.joined-so_far.ensures, ap (λ p. p.at) c.put_name.ensures.part, sees_ahead s (c.loop-output.invariant.0 0).bounds.within (λ z. omega arith), s.within)
 
-pub loop-output-preserved-then-token-eq-NAME : goal.loop-output-preserved-then-token-eq-NAME
-loop-output-preserved-then-token-eq-NAME c =
+pub loop-output-preserved-in-Name : goal.loop-output-preserved-in-Name
+loop-output-preserved-in-Name c =
     let s = c.token_at-token.ensures in
-    let k = c.if-token-eq-NAME.true in
+    let k = ap number_of c.in-Name.is in
     let j = c.joined-so_far.ensures in
     let l = ap (λ p. p.levels) c.put_name.ensures.part in
     (λ left. names_name (c.loop-output.invariant.0 left) s k (sees_ahead s (c.loop-output.invariant.0 0).bounds.within (λ z. omega arith)) c.put_name.ensures j, omega (arith, ap (λ p. p.levels) j, (larger_is c.loop-output.so_far.levels c.put_name.result.levels).least 1 c.loop-output.invariant.1 (omega arith)))
 
-pub shape_of-output-then-token-ne-COMMA : goal.shape_of-output-then-token-ne-COMMA
-shape_of-output-then-token-ne-COMMA c = (c.loop-output.invariant.0 0).bounds.lengths
-
-pub returns-then-token-ne-COMMA : goal.returns-then-token-ne-COMMA
-returns-then-token-ne-COMMA c = record {
-  writes = λ left. names-end (c.loop-output.invariant.0 left) c.token_at-token.ensures c.if-token-eq-NAME.false c.if-token-ne-COMMA.true (sees_on c.token_at-token.ensures) c.moved_on-so_far.ensures;
-  flat = omega (arith, ap (λ p. p.levels) c.moved_on-so_far.ensures, c.loop-output.invariant.1);
+pub returns-in_default : goal.returns-in_default
+returns-in_default c = record {
+  writes = λ left. names-end (c.loop-output.invariant.0 left) c.token_at-token.ensures (apart _ Name c.in_default.not-Name) (apart _ Comma c.in_default.not-Comma) (sees_on c.token_at-token.ensures) c.moved_on.ensures;
+  flat = omega (arith, ap (λ p. p.levels) c.moved_on.ensures, c.loop-output.invariant.1);
 }
 
 pub loop-output-smaller : goal.loop-output-smaller
 loop-output-smaller c =
     let s = c.token_at-token.ensures in
-    let k = c.if-token-ne-COMMA.false in
+    let k = ap number_of c.in-Comma.is in
     omega (arith, ap (λ p. p.at) c.moved_on-so_far.ensures, sees_ahead s (c.loop-output.invariant.0 0).bounds.within (λ z. omega arith), s.within)
 
 pub loop-output-preserved : goal.loop-output-preserved
-loop-output-preserved c = (λ left. names-comma (c.loop-output.invariant.0 left) c.token_at-token.ensures c.if-token-ne-COMMA.false (sees_on c.token_at-token.ensures) c.moved_on-so_far.ensures, omega (arith, ap (λ p. p.levels) c.moved_on-so_far.ensures, c.loop-output.invariant.1))
+loop-output-preserved c = (λ left. names-comma (c.loop-output.invariant.0 left) c.token_at-token.ensures (ap number_of c.in-Comma.is) (sees_on c.token_at-token.ensures) c.moved_on-so_far.ensures, omega (arith, ap (λ p. p.levels) c.moved_on-so_far.ensures, c.loop-output.invariant.1))

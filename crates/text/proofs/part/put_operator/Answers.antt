@@ -2,12 +2,8 @@
 use Rattle.definition.specs.Tag.{tag_operator}
 use Rattle.text.proofs.Contents.{field_stored}
 use mathlib.Core.List.{[], ◌∷◌}
-use mathlib.Core.Path.{refl}
 use native.Mathlib.Omega.{arith}
 use Rattle.text.proofs.part.put_operator.Goals as goal
 
-pub returns : goal.returns
-returns c = record {
-  part = refl;
-  stored = field_stored tag_operator (_ ∷ []) c.args.to c.args.output.now c.put.ensures (omega arith) c.put_head.ensures;
-}
+pub returns-clause-stored : goal.returns-clause-stored
+returns-clause-stored c = field_stored tag_operator (_ ∷ []) c.args.to c.args.output.now c.put.ensures.puts (omega arith) c.put_head.ensures

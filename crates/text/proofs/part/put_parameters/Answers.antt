@@ -4,15 +4,6 @@ use Rattle.text.proofs.Writing.{parameters_writes}
 use native.Mathlib.Omega.{arith}
 use Rattle.text.proofs.part.put_parameters.Goals as goal
 
-pub token_at-token-requires : goal.token_at-token-requires
-token_at-token-requires c = c.requires.within
-
-pub put_names-names-requires : goal.put_names-names-requires
-put_names-names-requires c =
-    let s = c.token_at-token.ensures in
-    let r = c.requires in
-    record { within = s.within; room = omega (arith, sees_on s, r.room); small = omega arith; few = omega arith }
-
 pub close-requires : goal.close-requires
 close-requires c =
     let s = c.token_at-token.ensures in

@@ -1,7 +1,6 @@
--- `put` meets its contract, by its test.
-use mathlib.Core.Path.{sym}
-use lib.Seq.{set_out}
+-- `put` meets its contract, byte by byte.
+use Rattle.text.proofs.Storing.{taken_one}
 use Rattle.text.proofs.put.put.Goals as goal
 
-pub returns-else-to-output : goal.returns-else-to-output
-returns-else-to-output c = sym (set_out _ _ _ c.if-to-output.false)
+pub loop-k-preserved : goal.loop-k-preserved
+loop-k-preserved c = taken_one c.args.output.now c.args.to c.args.bytes.now c.loop-k.k c.loop-k-test.true c.loop-k.invariant c.store.ensures

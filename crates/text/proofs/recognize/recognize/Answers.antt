@@ -1,51 +1,54 @@
 -- `recognize` meets its contract: what is left of the text decides.
 use native.Mathlib.Omega.{arith}
-use mathlib.Core.Path.{refl, ◌∙◌}
+use mathlib.Core.Path.{ap, ◌∙◌}
+use Rattle.std.specs.Prelude.{Err}
+use Rattle.text.specs.Kind.{an_integer}
+use Rattle.text.specs.Machine.{step}
+use Rattle.text.specs.Recognize.{refused_at, end_at, large_step}
+use Rattle.text.specs.Steps.{mode_of, under}
 use Rattle.text.proofs.Turns.{begins, at-end, at_broken, at-large, token_seen, at_stuck, goes-on}
 use Rattle.text.proofs.recognize.recognize.Goals as goal
+use Rattle.definition.specs.Number.{bad_script}
 
 pub loop-end-init : goal.loop-end-init
-loop-end-init c = begins _ _ refl
+loop-end-init c = begins _ _
 
-pub top-open-requires : goal.top-open-requires
-top-open-requires c = omega (arith, c.loop-end.invariant.low, c.loop-end.invariant.early)
-
-pub next_token-requires : goal.next_token-requires
-next_token-requires c = c.loop-end.invariant.within
-
-pub returns-in-Finished : goal.returns-in-Finished
-returns-in-Finished c =
+pub returns-in-Err-Finished : goal.returns-in-Err-Finished
+returns-in-Err-Finished c =
     let loop = c.loop-end in
-    at-end _ _ _ _ _ loop.invariant c.next_token.ensures c.in-Finished.is c.top-open.ensures c.at_end.ensures
+    let i = c.in-Err-Finished in
+    at-end _ _ _ _ _ loop.invariant c.next_token.ensures (i.is ∙ ap Err i.field-0-is) c.top-top.ensures (λ s. c.at_end.ensures s ∙ ap (λ e. end_at e (mode_of loop.mode) (under c.top-top.result s)) i.end-is)
 
-pub returns-in-Broken : goal.returns-in-Broken
-returns-in-Broken c =
+pub returns-in-Err-Broken : goal.returns-in-Err-Broken
+returns-in-Err-Broken c =
     let loop = c.loop-end in
-    c.refused.ensures ∙ at_broken _ _ _ _ _ loop.invariant c.next_token.ensures c.in-Broken.is
+    let i = c.in-Err-Broken in
+    c.refused.ensures ∙ ap (refused_at bad_script) i.start-is ∙ at_broken _ _ _ _ _ loop.invariant c.next_token.ensures (i.is ∙ ap Err i.field-0-is)
 
-pub returns-in-Large : goal.returns-in-Large
-returns-in-Large c =
+pub returns-in-Err-Large : goal.returns-in-Err-Large
+returns-in-Err-Large c =
     let loop = c.loop-end in
-    at-large _ _ _ _ _ loop.invariant c.next_token.ensures c.in-Large.is c.top-open.ensures c.at_large.ensures
+    let i = c.in-Err-Large in
+    at-large _ _ _ _ _ loop.invariant c.next_token.ensures (i.is ∙ ap Err i.field-0-is) c.top-top.ensures (λ s. c.at_large.ensures s ∙ ap (λ e. large_step e (step (mode_of loop.mode) (under c.top-top.result s) an_integer)) i.start-is)
 
 pub returns-in_default : goal.returns-in_default
 returns-in_default c =
     let loop = c.loop-end in
-    c.refused-in_default.ensures ∙ at_stuck _ _ _ _ _ loop.invariant c.next_token.ensures c.in-Found.is _ c.top-open.ensures c.step.ensures c.in_default.is
+    c.refused-in_default.ensures ∙ at_stuck _ _ _ _ _ loop.invariant c.next_token.ensures c.in-Ok.is _ c.top-top.ensures c.step.ensures c.in_default.is
 
-pub changed-height-requires : goal.changed-height-requires
-changed-height-requires c =
+pub change-requires : goal.change-requires
+change-requires c =
     let loop = c.loop-end in
-    let seen = token_seen _ _ _ _ _ loop.invariant c.next_token.ensures c.in-Found.is in
-    (omega (arith, loop.invariant.low, seen.behind, seen.early), loop.invariant.full)
+    let seen = token_seen _ _ _ _ _ loop.invariant c.next_token.ensures c.in-Ok.is in
+    omega (arith, loop.invariant.low, seen.behind, seen.early)
 
 pub loop-end-smaller : goal.loop-end-smaller
 loop-end-smaller c =
     let loop = c.loop-end in
-    let seen = token_seen _ _ _ _ _ loop.invariant c.next_token.ensures c.in-Found.is in
+    let seen = token_seen _ _ _ _ _ loop.invariant c.next_token.ensures c.in-Ok.is in
     omega (arith, seen.behind, seen.inside)
 
 pub loop-end-preserved : goal.loop-end-preserved
 loop-end-preserved c =
     let loop = c.loop-end in
-    goes-on _ _ _ _ _ loop.invariant c.next_token.ensures c.in-Found.is _ c.top-open.ensures c.step.ensures c.in-Go.is c.changed-height.ensures.is c.changed-height.ensures.low c.changed-height.ensures.full
+    goes-on _ _ _ _ _ loop.invariant c.next_token.ensures c.in-Ok.is _ c.top-top.ensures c.step.ensures c.in-Some.is c.change.ensures.is c.change.ensures.low

@@ -5,7 +5,7 @@ use Rattle.text.proofs.Turns.{Going}
 use Rattle.text.proofs.recognize.recognize.Given as goal
 
 abbrev pub invariant-loop-end : goal.invariant-loop-end
-invariant-loop-end l = Going l.text l.stack l.height l.mode l.at
+invariant-loop-end l = Going l.text l.open.contexts l.open.height l.mode l.at
 
 abbrev pub decreases-loop-end : goal.decreases-loop-end
 decreases-loop-end l = length l.text - l.at

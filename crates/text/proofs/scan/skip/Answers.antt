@@ -1,10 +1,7 @@
 -- `skip` meets its contract. What is left of the run decides.
-use mathlib.Core.Path.{refl, sym, ◌∙◌}
-use Rattle.text.proofs.Skips.{skip_step, skip_stop, skip_done}
+use mathlib.Core.Path.{sym, ◌∙◌}
+use Rattle.text.proofs.Skips.{skip_step, skip_stop, skip_over}
 use Rattle.text.proofs.scan.skip.Goals as goal
-
-pub loop-at-init : goal.loop-at-init
-loop-at-init c = refl
 
 pub returns-then-not-belongs : goal.returns-then-not-belongs
 returns-then-not-belongs c =
@@ -17,4 +14,4 @@ loop-at-preserved c =
     loop.invariant ∙ skip_step _ _ _ _ _ c.loop-at-test.true (sym c.belongs.ensures ∙ c.if-not-belongs.false)
 
 pub returns : goal.returns
-returns c = sym (c.loop-at.invariant ∙ skip_done _ _ _ _ _ c.loop-at-test.false)
+returns c = c.max.ensures ∙ skip_over _ _ _ _ _ c.loop-at.at c.loop-at-test.false c.loop-at.auto.at-end c.loop-at.invariant

@@ -9,6 +9,3 @@ use Rattle.text.proofs.scan.skip.Given as goal
 
 abbrev pub invariant-loop-at : goal.invariant-loop-at
 invariant-loop-at l = skip (byte_at l.text) (length l.text) (belongs_to l.class) (l.end - l.from) l.from ≡ skip (byte_at l.text) (length l.text) (belongs_to l.class) (l.end - l.at) l.at
-
-abbrev pub decreases-loop-at : goal.decreases-loop-at
-decreases-loop-at l = l.end - l.at

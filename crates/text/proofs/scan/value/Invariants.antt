@@ -8,6 +8,3 @@ use Rattle.text.proofs.scan.value.Given as goal
 
 abbrev pub invariant-loop-k : goal.invariant-loop-k
 invariant-loop-k l = (l.n ≤ integer_limit) × (value 0 (bytes (byte_at l.text) l.from (l.end - l.from)) ≡ value l.n (bytes (byte_at l.text) l.k (l.end - l.k)))
-
-abbrev pub decreases-loop-k : goal.decreases-loop-k
-decreases-loop-k l = l.end - l.k

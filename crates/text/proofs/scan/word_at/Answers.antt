@@ -9,7 +9,8 @@ use Rattle.text.specs.Kind.{a_name}
 use Rattle.text.specs.Scan.{is_letter, smaller, up_to, kind_in, words}
 use Rattle.text.proofs.RealTokens.{skip-on}
 use Rattle.text.proofs.Skips.{skip_most}
-use Rattle.text.proofs.Pieces.{smaller_left, word_long, word_short}
+use Rattle.text.proofs.Pieces.{word_short}
+use Rattle.text.proofs.Smaller.{smaller_left}
 use Rattle.text.proofs.scan.word_at.Goals as goal
 
 -- the word ends behind its beginning and within the text
@@ -25,9 +26,6 @@ within text start end h e =
 
 pub overflow_sub-end : goal.overflow_sub-end
 overflow_sub-end c = behind _ _ _ c.run_end-end.ensures
-
-pub returns-then-end-start-gt-NAME_LIMIT : goal.returns-then-end-start-gt-NAME_LIMIT
-returns-then-end-start-gt-NAME_LIMIT c = word_long _ _ _ _ c.run_end-end.ensures c.if-end-start-gt-NAME_LIMIT.true
 
 pub slice_bounds-word_kind-count : goal.slice_bounds-word_kind-count
 slice_bounds-word_kind-count c = behind _ _ _ c.run_end-end.ensures

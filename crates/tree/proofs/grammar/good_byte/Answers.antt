@@ -6,4 +6,4 @@ pub returns-then-len-ne1 : goal.returns-then-len-ne1
 returns-then-len-ne1 c = rw (ne_eqb _ _ c.if-len-ne1.true)
 
 pub returns : goal.returns
-returns c = rw (c.if-len-ne1.false, c.wide.ensures.is)
+returns c = rw (c.if-len-ne1.false, c.from.ensures)

@@ -1,24 +1,34 @@
 -- `trial::cells::calculate` meets its contract: an operator a way.
-use Rattle.std.proofs.Common.{sym, ◌∙◌, subst, arith}
-use mathlib.Core.Option.{some}
-use Rattle.trial.specs.Value.{integer, boolean, signed_of, combined}
-use Rattle.trial.specs.Words.{word_sum, word_difference, word_product, word_quotient}
-use Rattle.trial.specs.Cells.{Keeps}
-use Rattle.trial.proofs.Words.{sum_law, difference_law, product_law, quotient_law, less_law}
-use Rattle.trial.proofs.CellLaws.{is_infix, is_greater}
+use Rattle.std.proofs.Common.{◌≡◌, ◌+ℤ◌, ◌-ℤ◌, ◌*ℤ◌, ap, ◌∙◌, arith, rules}
+use Rattle.std.specs.Prelude.{Some as some, option_map, int_lt}
+use Rattle.std.specs.Int.{w64, cast_signed, cast_unsigned}
+use Rattle.std.proofs.lemmas.Int.{to_z-of_z}
+use Rattle.trial.specs.Value.{integer, boolean, combined}
+use Rattle.trial.proofs.CellLaws.{is_infix, is_greater, fit, fit_law, divided, divided_law, mapped}
 use Rattle.trial.proofs.cells.calculate.Goals as goal
 
-pub returns-then-op-eq-ADD : goal.returns-then-op-eq-ADD
-returns-then-op-eq-ADD c = λ o i n m. is_infix (λ o. Keeps c.from_word.result.kind c.from_word.result.word (combined o (integer (signed_of c.args.a)) (integer (signed_of c.args.b)))) 0x01 i c.if-op-eq-ADD.true (subst (Keeps c.from_word.result.kind c.from_word.result.word) (sym (sum_law c.args.a c.args.b (omega arith) (omega arith))) (c.from_word.ensures (word_sum c.args.a c.args.b) c.sum.ensures))
+pub returns-in-1 : goal.returns-in-1
+returns-in-1 c = λ o i n m.
+    let e : c.checked_add.result ≡ fit (c.args.a +ℤ c.args.b) = search rules in
+    is_infix (λ o. c.map.result ≡ combined o (integer c.args.a) (integer c.args.b)) 0x01 i c.in-1.is (mapped _ _ c.map.ensures.cases ∙ ap (option_map integer) e ∙ fit_law (c.args.a +ℤ c.args.b))
 
-pub returns-then-op-eq-SUB : goal.returns-then-op-eq-SUB
-returns-then-op-eq-SUB c = λ o i n m. is_infix (λ o. Keeps c.from_word-then-op-eq-SUB.result.kind c.from_word-then-op-eq-SUB.result.word (combined o (integer (signed_of c.args.a)) (integer (signed_of c.args.b)))) 0x03 i c.if-op-eq-SUB.true (subst (Keeps c.from_word-then-op-eq-SUB.result.kind c.from_word-then-op-eq-SUB.result.word) (sym (difference_law c.args.a c.args.b (omega arith) (omega arith))) (c.from_word-then-op-eq-SUB.ensures (word_difference c.args.a c.args.b) c.difference.ensures))
+pub returns-in-3 : goal.returns-in-3
+returns-in-3 c = λ o i n m.
+    let e : c.checked_sub.result ≡ fit (c.args.a -ℤ c.args.b) = search rules in
+    is_infix (λ o. c.map-in-3.result ≡ combined o (integer c.args.a) (integer c.args.b)) 0x03 i c.in-3.is (mapped _ _ c.map-in-3.ensures.cases ∙ ap (option_map integer) e ∙ fit_law (c.args.a -ℤ c.args.b))
 
-pub returns-then-op-eq-MUL : goal.returns-then-op-eq-MUL
-returns-then-op-eq-MUL c = λ o i n m. is_infix (λ o. Keeps c.from_word-then-op-eq-MUL.result.kind c.from_word-then-op-eq-MUL.result.word (combined o (integer (signed_of c.args.a)) (integer (signed_of c.args.b)))) 0x04 i c.if-op-eq-MUL.true (subst (Keeps c.from_word-then-op-eq-MUL.result.kind c.from_word-then-op-eq-MUL.result.word) (sym (product_law c.args.a c.args.b (omega arith) (omega arith))) (c.from_word-then-op-eq-MUL.ensures (word_product c.args.a c.args.b) c.product.ensures))
+pub returns-in-4 : goal.returns-in-4
+returns-in-4 c = λ o i n m.
+    let e : c.checked_mul.result ≡ fit (c.args.a *ℤ c.args.b) = search rules in
+    is_infix (λ o. c.map-in-4.result ≡ combined o (integer c.args.a) (integer c.args.b)) 0x04 i c.in-4.is (mapped _ _ c.map-in-4.ensures.cases ∙ ap (option_map integer) e ∙ fit_law (c.args.a *ℤ c.args.b))
 
-pub returns-then-op-eq-DIV : goal.returns-then-op-eq-DIV
-returns-then-op-eq-DIV c = λ o i n m. is_infix (λ o. Keeps c.from_word-then-op-eq-DIV.result.kind c.from_word-then-op-eq-DIV.result.word (combined o (integer (signed_of c.args.a)) (integer (signed_of c.args.b)))) 0x05 i c.if-op-eq-DIV.true (subst (Keeps c.from_word-then-op-eq-DIV.result.kind c.from_word-then-op-eq-DIV.result.word) (sym (quotient_law c.args.a c.args.b (omega arith) (omega arith))) (c.from_word-then-op-eq-DIV.ensures (word_quotient c.args.a c.args.b) c.quotient.ensures))
+pub returns-in-5 : goal.returns-in-5
+returns-in-5 c = λ o i n m.
+    let e : c.checked_div.result ≡ divided c.args.a c.args.b = search rules in
+    is_infix (λ o. c.map-in-5.result ≡ combined o (integer c.args.a) (integer c.args.b)) 0x05 i c.in-5.is (mapped _ _ c.map-in-5.ensures.cases ∙ ap (option_map integer) e ∙ divided_law c.args.a c.args.b)
 
-pub returns : goal.returns
-returns c = λ o i n m. is_greater (λ o. Keeps c.from_bool.result.kind c.from_bool.result.word (combined o (integer (signed_of c.args.a)) (integer (signed_of c.args.b)))) i c.if-op-eq-ADD.false c.if-op-eq-SUB.false c.if-op-eq-MUL.false c.if-op-eq-DIV.false n m (subst (λ b. Keeps c.from_bool.result.kind c.from_bool.result.word (some (boolean b))) (c.less.ensures ∙ sym (less_law c.args.b c.args.a (omega arith) (omega arith))) c.from_bool.ensures)
+pub returns-in_default : goal.returns-in_default
+returns-in_default c = λ o i n m.
+    let a = to_z-of_z w64 c.args.a c.ranges.a in
+    let b = to_z-of_z w64 c.args.b c.ranges.b in
+    is_greater (λ o. some (boolean (int_lt (cast_signed w64 (cast_unsigned w64 c.args.b)) (cast_signed w64 (cast_unsigned w64 c.args.a)))) ≡ combined o (integer c.args.a) (integer c.args.b)) i (λ e. omega arith) (λ e. omega arith) (λ e. omega arith) (λ e. omega arith) n m (λ j. some (boolean (int_lt (b j) (a j))))

@@ -1,0 +1,88 @@
+// The heads of fields: their tag and content length, and which field they begin.
+ghost use Rattle.std.specs.Prelude.{◌≡◌, Bool};
+ghost use Rattle.definition.specs.Basic.{byte_at};
+ghost use Rattle.definition.specs.Field.{Head as FieldHead};
+ghost use Rattle.definition.specs.Decode.{read_head};
+ghost use Rattle.bytecode.specs.Checked.{Part, head_of, is_constant, is_pool, is_main, is_name, head_answer, found};
+
+use crate::{Form, Malformed, function_tag, main_tag};
+use definition::{limit, tag};
+use field::length_at;
+
+// A field's tag and content length.
+#[derive(Clone, Copy)]
+pub struct Head {
+    pub tag: u8,
+    pub len: usize,
+}
+
+impl Head {
+    // Whether it is a constant's.
+    pub fn is_constant(self, form: Form) -> bool
+        ensures { result ≡ is_constant form (head_of self) }
+    {
+        if self.tag == tag::INTEGER_CONST {
+            return self.len == 8;
+        }
+        if self.tag == tag::STRING_CONST {
+            return true;
+        }
+        self.tag == function_tag(form) && 3 <= self.len
+    }
+
+    // Whether it is a pool's.
+    pub fn is_pool(self) -> bool
+        ensures { result ≡ is_pool (head_of self) }
+    {
+        self.tag == tag::POOL && self.len <= limit::POOL_LIMIT
+    }
+
+    // Whether it is that of an image's main code.
+    pub fn is_main(self, form: Form) -> bool
+        ensures { result ≡ is_main form (head_of self) }
+    {
+        self.tag == main_tag(form) && self.len <= limit::CODE_SIZE
+    }
+
+    // Whether it is a name's.
+    pub fn is_name(self) -> bool
+        ensures { result ≡ is_name (head_of self) }
+    {
+        self.tag == tag::NAME_BYTE && 1 <= self.len && self.len <= limit::NAME_LIMIT
+    }
+}
+
+// The head of the field at `at`, if the field stands whole before `end`.
+pub fn head_at(bytes: &[u8], at: usize, end: usize) -> Option<Head>
+    requires { Part bytes.now at end }
+    ensures { result ≡ head_answer (byte_at bytes.now) at end }
+{
+    if end - at < 3 {
+        return None;
+    }
+    let len = length_at(bytes, at);
+    if end - at - 3 < len {
+        return None;
+    }
+    Some(Head {
+        tag: bytes[at],
+        len: len,
+    })
+}
+
+// The head of the field at `at`, if the field stands whole before `end` and its head passes a test.
+pub fn head_where<F: Fn(Head) -> bool>(
+    bytes: &[u8],
+    at: usize,
+    end: usize,
+    test: F,
+) -> Result<Head, Malformed>
+    requires part { Part bytes.now at end }
+    requires calls { F.IsAlwaysCallable test }
+    ensures { (good : FieldHead → Bool) → ((h : Head) (r : Bool) → F.post test h r → r ≡ good (head_of h)) → result ≡ found (read_head (byte_at bytes.now) good at end) }
+{
+    match head_at(bytes, at, end) {
+        Some(head) if test(head) => Ok(head),
+        _ => Err(Malformed { place: at }),
+    }
+}

@@ -1,8 +1,0 @@
--- `symbol_table::globals::add_new` meets its contract.
-use mathlib.Core.Path.{sym, ◌∙◌}
-use native.Mathlib.Omega.{arith}
-use Rattle.symbol_table.proofs.Adding.{added_first}
-use Rattle.symbol_table.proofs.globals.add_new.Goals as goal
-
-pub returns-then-child-eq0 : goal.returns-then-child-eq0
-returns-then-child-eq0 c = added_first c.requires (sym c.child.ensures ∙ c.if-child-eq0.true) (omega arith) c.add_first.ensures
