@@ -19,7 +19,7 @@ use Rattle.bytecode.specs.declared.Malformed.{Malformed}
 use Rattle.bytecode.specs.Checked.{item, checked, main_code, image_answer}
 use Rattle.bytecode.proofs.Items.{ended}
 use Rattle.bytecode.proofs.Fields.{item_next, item_wrong, head_read, main_content}
-use Rattle.bytecode.proofs.Constants.{checked_good, checked_wrong}
+use Rattle.bytecode.proofs.ReadConstants.{checked_good, checked_wrong}
 
 -- the plain form is read as the definition reads an image
 pub read_plain : (b : Bytes) → read_form Plain b ≡ read_image b

@@ -5,9 +5,10 @@ pub mod Limited
 pub mod Counted
 pub mod Backward
 pub mod Instructions
-pub mod Constants
+pub mod ReadConstants
 pub mod Zeros
 pub mod Images
 pub mod Words
 pub mod Sessions
 pub mod Laid
+pub mod EachConstant

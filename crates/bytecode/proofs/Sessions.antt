@@ -24,7 +24,7 @@ use Rattle.bytecode.specs.declared.SessionLayout.{SessionLayout}
 use Rattle.bytecode.specs.Checked.{item, checked, layout, layout_of, layout_answer, session_answer, WordsEnd, LaysOut}
 use Rattle.bytecode.proofs.Items.{unlike, ended}
 use Rattle.bytecode.proofs.Fields.{item_next, item_wrong, then_read, head_read, names_content, pool_content}
-use Rattle.bytecode.proofs.Constants.{checked_good, checked_wrong}
+use Rattle.bytecode.proofs.ReadConstants.{checked_good, checked_wrong}
 
 -- what a result was whose value was taken
 pub was_ok : {T E : Type 0} (r : Result T E) {x : T} → Some x ≡ result_ok r → r ≡ Ok x

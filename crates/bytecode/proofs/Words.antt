@@ -20,7 +20,7 @@ use Rattle.bytecode.specs.declared.item_check.Items.{Items}
 use Rattle.bytecode.specs.declared.Malformed.{Malformed}
 use Rattle.bytecode.specs.Checked.{item, wrong, checked, is_read, name_fields}
 use Rattle.bytecode.proofs.Fields.{head_read, names_content}
-use Rattle.bytecode.proofs.Constants.{checked_good, checked_wrong}
+use Rattle.bytecode.proofs.ReadConstants.{checked_good, checked_wrong}
 
 -- Words that are handed over
 

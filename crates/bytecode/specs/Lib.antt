@@ -1,3 +1,4 @@
 pub mod Form
 pub mod Checked
 pub mod Layout
+pub mod Constants

@@ -5,7 +5,7 @@ ghost use Rattle.definition.specs.Field.{Head as FieldHead};
 ghost use Rattle.definition.specs.Decode.{read_head};
 ghost use Rattle.bytecode.specs.Checked.{Part, head_of, is_constant, is_pool, is_main, is_name, head_answer, found};
 
-use crate::{Form, Malformed, function_tag, main_tag};
+use crate::{Form, Malformed};
 use definition::{limit, tag};
 use field::length_at;
 
@@ -27,7 +27,7 @@ impl Head {
         if self.tag == tag::STRING_CONST {
             return true;
         }
-        self.tag == function_tag(form) && 3 <= self.len
+        self.tag == form.tags().function && 3 <= self.len
     }
 
     // Whether it is a pool's.
@@ -41,7 +41,7 @@ impl Head {
     pub fn is_main(self, form: Form) -> bool
         ensures { result ≡ is_main form (head_of self) }
     {
-        self.tag == main_tag(form) && self.len <= limit::CODE_SIZE
+        self.tag == form.tags().main && self.len <= limit::CODE_SIZE
     }
 
     // Whether it is a name's.

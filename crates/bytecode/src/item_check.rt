@@ -24,6 +24,7 @@ pub fn check_items<F: Fn(usize) -> Result<usize, Malformed>>(
     requires ahead { (at next : ℕ) → at < end → F.post check at (Ok next) → (at < next) × (next ≤ end) }
     ensures { (next : ℕ → Result ℕ Wrong) → ((at : ℕ) (r : Result ℕ Wrong) → at < end → F.post check at r → r ≡ next at) → result ≡ counted next end most 0 start }
 {
+    // Kept: a `while`, since `check` answers the next offset; a `for` over the counts has two ends, and is no plainer.
     let mut at = start;
     let mut count = 0;
     while at < end {

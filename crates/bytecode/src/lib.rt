@@ -2,8 +2,10 @@
 #![tactic(auto)]
 
 mod code;
+pub mod constants;
 mod field_head;
 mod item_check;
+mod span;
 mod zero;
 
 ghost use Rattle.std.specs.Prelude.{◌≡◌, length};
@@ -18,6 +20,7 @@ use definition::{Reason, Refusal, limit, tag};
 use field::names::distinct_names;
 pub use field_head::{Head, head_at, head_where};
 use item_check::{Items, check_items};
+pub use span::Span;
 use zero::all_zero;
 
 // The tags of the chin unit's main code and functions.
@@ -32,24 +35,29 @@ pub enum Form {
     Chin,
 }
 
-// The tag of main code in a form.
-// Kept: a function for each of the two tags, since one that gives both is no plainer.
-pub fn main_tag(form: Form) -> u8
-    ensures { result ≡ tag_main_in form }
-{
-    match form {
-        Form::Plain => tag::MAIN,
-        Form::Chin => CHIN_MAIN,
-    }
+// The tags of a form: its main code's, and its functions'.
+#[derive(Clone, Copy)]
+pub struct Tags {
+    pub main: u8,
+    pub function: u8,
 }
 
-// The tag of a function in a form.
-pub fn function_tag(form: Form) -> u8
-    ensures { result ≡ tag_function_in form }
-{
-    match form {
-        Form::Plain => tag::FUNCTION_CONST,
-        Form::Chin => CHIN_FUNCTION,
+impl Form {
+    // The tags of this form.
+    pub fn tags(self) -> Tags
+        ensures main { result.main ≡ tag_main_in self }
+        ensures function { result.function ≡ tag_function_in self }
+    {
+        match self {
+            Form::Plain => Tags {
+                main: tag::MAIN,
+                function: tag::FUNCTION_CONST,
+            },
+            Form::Chin => Tags {
+                main: CHIN_MAIN,
+                function: CHIN_FUNCTION,
+            },
+        }
     }
 }
 
@@ -88,10 +96,15 @@ fn check_constant(bytes: &[u8], at: usize, end: usize, form: Form) -> Result<usi
 {
     let head = head_where(bytes, at, end, |head| head.is_constant(form))?;
     let next = at + 3 + head.len;
-    if head.tag != function_tag(form) {
+    if head.tag != form.tags().function {
         return Ok(next);
     }
-    check_code(bytes, at + 3 + 3, next)
+    let code = Span {
+        bytes,
+        start: at + 3 + 3,
+        end: next,
+    };
+    check_code(code)
 }
 
 // Check the pool at `at`: how many constants it has, and the offset after it.
@@ -111,7 +124,12 @@ fn check_main(image: &[u8], form: Form) -> Result<usize, Malformed>
     ensures { result ≡ item (main_code (byte_at image.now) form (length image.now)) }
 {
     let head = head_where(image, 0, image.len(), |head| head.is_main(form))?;
-    check_code(image, 3, 3 + head.len)
+    let code = Span {
+        bytes: image,
+        start: 3,
+        end: 3 + head.len,
+    };
+    check_code(code)
 }
 
 // Check an image of a form: how many constants it has; or 17 at its first wrong field or instruction.

@@ -4,8 +4,7 @@ use native.Mathlib.Omega.{arith}
 use mathlib.Core.Bool.{Bool, true, false}
 use mathlib.Core.Path.{◌≡◌, refl, sym, ap, subst, ◌∙◌}
 use mathlib.Core.List.{List}
-use lib.Dec.{T, ltb, leb, ltb→lt}
-use borrow.Author.Tests.{ne_eqb}
+use lib.Dec.{T, ltb, leb}
 use lib.ListN.{length, take}
 use Rattle.definition.specs.Basic.{Bytes, pick}
 use Rattle.definition.specs.Limit.{session_size}
@@ -18,8 +17,7 @@ use Rattle.definition.specs.Valid.{AreBytes}
 use Rattle.definition.specs.declared.reason.Refusal.{Refusal}
 use Rattle.definition.specs.Answer.{Answer}
 use Rattle.std.specs.Prelude.{Ok, Err}
-use Rattle.definition.proofs.Basic.{pick_false}
-use Rattle.definition.proofs.Numbers.{each, of_each, below}
+use Rattle.definition.proofs.Numbers.{each, below}
 use Rattle.definition.proofs.Places.{Within, made_within, made-words_within, call_within_limit}
 use Rattle.definition.proofs.ListingLength.{list_within}
 use Rattle.text.specs.Script.{read_text, answer_of as readAnswer}

@@ -1,3 +1,4 @@
+pub mod Mapped
 pub mod Fits
 pub mod Sound
 pub mod Framed

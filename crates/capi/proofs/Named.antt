@@ -9,12 +9,14 @@ use Rattle.definition.specs.Limit.{session_size, code_size, tree_limit, image_li
 use Rattle.definition.specs.Valid.{AreBytes}
 use Rattle.definition.specs.Call.{Lent}
 use Rattle.definition.specs.Answer.{Answer}
-use Rattle.std.specs.Prelude.{Ok}
+use Rattle.std.specs.Prelude.{Result, Ok}
 use Rattle.definition.proofs.Places.{Within}
 use Rattle.definition.proofs.Numbers.{below}
 use Rattle.records.specs.Call.{records_numbers}
 use Rattle.records.proofs.Logged.{records_within_limit}
+use Rattle.definition.specs.declared.reason.Refusal.{Refusal}
 use Rattle.trace.specs.declared.CallTrace.{CallTrace}
+use Rattle.trace.specs.Promise.{answer_of, count_of}
 use Rattle.names.specs.Promise.{call_names, blanks, Names}
 use Rattle.capi.specs.Packed.{half_bound, Fits, Packs}
 use Rattle.capi.specs.Framed.{Pairs}
@@ -47,12 +49,12 @@ names-pairs tree l xs a {v} p n e =
     short (Within.wrote h) = omega arith
 
 -- what the call promises, as one number
-module _ {tree : Bytes} {l l' : Lent} {xs xs' : List ℕ} {r : CallTrace} (a : AreBytes (take session_size l.session)) (h : Names tree l xs r l' xs') where
-  same : names_answer r.answer r.count ≡ names_answer (call_names tree l xs).called.answer (call_names tree l xs).count
+module _ {tree : Bytes} {l l' : Lent} {xs xs' : List ℕ} {r : Result CallTrace Refusal} (a : AreBytes (take session_size l.session)) (h : Names tree l xs r l' xs') where
+  same : names_answer (answer_of r) (count_of r) ≡ names_answer (call_names tree l xs).called.answer (call_names tree l xs).count
   same = λ i. names_answer (h.answer i) (h.count i)
 
-  pub fits-names : Fits (names_answer r.answer r.count)
+  pub fits-names : Fits (names_answer (answer_of r) (count_of r))
   fits-names = fits_as same (names-fits tree l xs a (subst (λ n. 4 * n ≤ code_size) h.count h.few))
 
-  pub packs_names : {x : Answer} {v : ℕ} → x ≡ names_answer r.answer r.count → Packs x v → NamesPacked tree l xs v l' xs'
+  pub packs_names : {x : Answer} {v : ℕ} → x ≡ names_answer (answer_of r) (count_of r) → Packs x v → NamesPacked tree l xs v l' xs'
   packs_names e p = let q = packs_as (e ∙ same) p in record { answer = q; parts = names-pairs tree l xs a q; lent = h.lent; rows = h.rows }

@@ -21,6 +21,11 @@ pub record Pairs (a b v : ℕ) : Type 0 where
   pub first : v / quarter_bound ≡ a
   pub second : v % quarter_bound ≡ b
 
+-- two numbers as a length
+abbrev pub pair_answer : Result (ℕ × ℕ) Refusal → Answer
+pair_answer (Ok p) = Ok (paired p.0 p.1)
+pair_answer (Err r) = Err r
+
 -- whole frames and rest, as a length
 abbrev pub count_answer : Result FrameCount Refusal → Answer
 count_answer (Ok c) = Ok (paired c.whole c.rest)

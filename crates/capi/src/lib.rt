@@ -3,17 +3,15 @@
 
 ghost use Rattle.std.specs.Prelude.{◌≡◌, ◌<◌};
 ghost use Rattle.compiler.specs.Stage.{lent_of};
-ghost use Rattle.capi.specs.Packed.{Fits, Packs, MakesPacked, WordsPacked, CompilesPacked, ListsPacked, LoadsPacked, ReadsPacked, half_bound};
+ghost use Rattle.capi.specs.Packed.{Fits, Packs, MakesPacked, WordsPacked, CompilesPacked, ListsPacked, LoadsPacked, ReadsPacked};
 ghost use Rattle.chin.specs.Chin.{to_chin, from_chin};
-ghost use Rattle.capi.specs.Named.{names_answer, NamesPacked};
+ghost use Rattle.capi.specs.Named.{NamesPacked};
 ghost use Rattle.capi.specs.Turned.{TurnsPacked};
 ghost use Rattle.capi.specs.Heights.{ChecksPacked, ProposesPacked};
-ghost use Rattle.capi.specs.Framed.{paired, count_answer, place_answer, refusal_answer, CountsPacked, PlacesPacked, RefusesPacked};
-ghost use Rattle.capi.specs.Trial.{ran_answer, RunsPacked};
+ghost use Rattle.capi.specs.Framed.{pair_answer, refusal_answer, CountsPacked, PlacesPacked, RefusesPacked};
+ghost use Rattle.capi.specs.Trial.{RunsPacked};
 
 use definition::Refusal;
-use frames::{FrameCount, FramePlace};
-use trial::Ran;
 
 // What the numbers of a half are below: 2 to the 32nd.
 const HALF_BOUND: u64 = 4294967296;
@@ -30,6 +28,15 @@ fn pack(answer: Result<usize, Refusal>) -> u64
         Ok(n) => n as u64,
         Err(r) => r.reason.number() * HALF_BOUND + r.place as u64,
     }
+}
+
+// Two numbers as one length, the first above the low 16 bits; or the refusal.
+fn pair(answer: Result<(usize, usize), Refusal>) -> Result<usize, Refusal>
+    requires { Fits (pair_answer answer) }
+    ensures { result ≡ pair_answer answer }
+{
+    let (first, second) = answer?;
+    Ok(first * QUARTER_BOUND + second)
 }
 
 // Makes a fresh session of document 01's two fields.
@@ -65,17 +72,6 @@ pub extern "C" fn monkey_compile(
     pack(answer)
 }
 
-// What a call with records answers.
-fn names_answer(answer: Result<usize, Refusal>, count: usize) -> Result<usize, Refusal>
-    requires { Fits (names_answer answer count) }
-    ensures { result ≡ names_answer answer count }
-{
-    match answer {
-        Ok(n) => pair(count, n),
-        Err(r) => Err(r),
-    }
-}
-
 // Compiles a tree as `monkey_compile` does, and writes how each of its names was resolved, four numbers for each Identifier in walk order: count × 65,536
 // + the image's length; or a refusal, 18 among them, and the numbers stay.
 #[unsafe(no_mangle)]
@@ -89,9 +85,8 @@ pub extern "C" fn monkey_compile_names(
 ) -> u64
     ensures { NamesPacked tree.now (lent_of session.old output.old code.old table.old) names.old result (lent_of session.new output.new code.new table.new) names.new }
 {
-    let t = names::compile_names(session, tree, output, code, table, names);
-    let found = t.answer;
-    let answer = names_answer(found, t.count);
+    let named = names::compile_names(session, tree, output, code, table, names);
+    let answer = pair(named.map(|t| (t.count, t.length)));
     pack(answer)
 }
 
@@ -103,36 +98,6 @@ pub extern "C" fn monkey_list_image(image: &[u8], output: &mut [u8]) -> u64
 {
     let answer = listing::list_image(image, output);
     pack(answer)
-}
-
-// Two numbers as one length: the first above the low 16 bits.
-fn pair(first: usize, second: usize) -> Result<usize, Refusal>
-    requires { paired first second < half_bound }
-    ensures { result ≡ Ok (paired first second) }
-{
-    Ok(first * QUARTER_BOUND + second)
-}
-
-// What the count of frames answers.
-fn count_answer(count: Result<FrameCount, Refusal>) -> Result<usize, Refusal>
-    requires { Fits (count_answer count) }
-    ensures { result ≡ count_answer count }
-{
-    match count {
-        Ok(count) => pair(count.whole, count.rest),
-        Err(r) => Err(r),
-    }
-}
-
-// What finding a frame answers.
-fn place_answer(place: Result<FramePlace, Refusal>) -> Result<usize, Refusal>
-    requires { Fits (place_answer place) }
-    ensures { result ≡ place_answer place }
-{
-    match place {
-        Ok(place) => pair(place.start, place.len),
-        Err(r) => Err(r),
-    }
 }
 
 // What a frame's refusal answers, or that there is none.
@@ -150,7 +115,8 @@ fn refusal_answer(refusal: Option<Refusal>) -> Result<usize, Refusal>
 pub extern "C" fn monkey_count_frames(image: &[u8], size: usize) -> u64
     ensures { CountsPacked image.now size result }
 {
-    let answer = count_answer(frames::count_frames(image, size));
+    let counted = frames::count_frames(image, size);
+    let answer = pair(counted.map(|c| (c.whole, c.rest)));
     pack(answer)
 }
 
@@ -159,7 +125,8 @@ pub extern "C" fn monkey_count_frames(image: &[u8], size: usize) -> u64
 pub extern "C" fn monkey_frame(image: &[u8], size: usize, number: usize) -> u64
     ensures { PlacesPacked image.now size number result }
 {
-    let answer = place_answer(frames::find_frame(image, size, number));
+    let found = frames::find_frame(image, size, number);
+    let answer = pair(found.map(|p| (p.start, p.len)));
     pack(answer)
 }
 
@@ -218,17 +185,6 @@ pub extern "C" fn monkey_propose_heights(image: &[u8], heights: &mut [u32]) -> u
     pack(answer)
 }
 
-// What a trial run answers.
-fn run_answer(answer: Result<Ran, Refusal>) -> Result<usize, Refusal>
-    requires { Fits (ran_answer answer) }
-    ensures { result ≡ ran_answer answer }
-{
-    match answer {
-        Ok(ran) => pair(ran.globals, ran.steps),
-        Err(r) => Err(r),
-    }
-}
-
 // Runs main of an image with the heights offered for it: globals × 65,536 + steps, and nine bytes for each global at the front of the output; or 1, 17 and
 // the place, 25 and the chunk, 27 and the offset, 15, 28 or 29 and the offset, and the output stays. The work area's first 4,096 numbers are 0 then, except
 // after 1.
@@ -241,7 +197,8 @@ pub extern "C" fn monkey_run(
 ) -> u64
     ensures { RunsPacked image.now heights.now work.old output.old result work.new output.new }
 {
-    let answer = run_answer(trial::run(image, heights, work, output));
+    let ran = trial::run(image, heights, work, output);
+    let answer = pair(ran.map(|r| (r.globals, r.steps)));
     pack(answer)
 }
 

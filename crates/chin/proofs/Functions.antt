@@ -15,7 +15,7 @@ use Rattle.definition.proofs.Instructions.{code-length, read-code}
 use Rattle.bytecode.specs.declared.Form.{Form}
 use Rattle.bytecode.specs.declared.Form.TheVariants.{Plain, Chin}
 use Rattle.bytecode.specs.Form.{tag_function_in, tag_in, const_in}
-use Rattle.bytecode.proofs.Constants.{not_integer, not_string}
+use Rattle.bytecode.proofs.ReadConstants.{not_integer, not_string}
 use Rattle.bytecode.proofs.Fields.{const_ends_in}
 use Rattle.std.specs.Prelude.{Result, Ok}
 use Rattle.chin.specs.Turn.{Made, made, stopped, along, turn_code, turn_const}

@@ -9,11 +9,12 @@ ghost use Rattle.definition.specs.Bytecode.{Image};
 ghost use Rattle.chin.specs.Chin.{translate as translated, to_chin, from_chin, answer_of, output_of};
 ghost use Rattle.chin.specs.Rows.{jump_of, other_form, ImageAt, HasImage, TurnsImage, Copied};
 
-use bytecode::{Form, check_form, main_tag};
+use bytecode::{Form, check_form};
+use definition::output::store;
 use definition::{Reason, Refusal};
 use field::length_at;
 use operand::other_form;
-use row::{put_tag, turn_code, turn_constants};
+use row::{turn_code, turn_constants};
 
 // Puts the other form of a sound image over its copy at the front of the output, up to a jump that has no operand there. Where the output is empty
 // it only looks for one.
@@ -22,8 +23,8 @@ fn put_form(output: &mut [u8], image: &[u8], from: Form) -> Result<(), usize>
     ensures { (m : Image) → ImageAt from image.now m → TurnsImage from m image.now output.old output.new result }
 {
     let end = 3 + length_at(image, 0);
-    let tag = main_tag(other_form(from));
-    put_tag(output, 0, tag);
+    let tag = other_form(from).tags().main;
+    store(output, 0, tag);
     turn_code(output, image, 3, end, from)?;
     turn_constants(output, image, end + 3, image.len(), from)
 }

@@ -1,22 +1,14 @@
 // Instructions and constants, one after the other: each is read in the image, and what differs is stored into its copy in the output, if there is room.
-ghost use Rattle.std.specs.Prelude.{◌≡◌, List, ◌+◌, ◌<◌, set};
+ghost use Rattle.std.specs.Prelude.{◌≡◌, List, ◌+◌, ◌<◌};
 ghost use Rattle.definition.specs.Bytecode.{Code, Const};
 ghost use Rattle.chin.specs.Rows.{jump_of, stored_operand, InstrIn, TurnsInstr, CodeAt, HasCode, TurnsCode, ConstAt, HasConst, TurnsConst, PoolAt, HasPool, TurnsPool};
 
 use crate::operand::{other_form, other_operand};
-use bytecode::{Form, function_tag};
+use bytecode::Form;
+use bytecode::constants::Constants;
+use definition::output::store;
 use field::{length_at, word};
-use opcode::size_at;
-
-// Puts a tag at an offset, if there is room.
-// Kept: a test of the offset, since over `get_mut` the proof did not close.
-pub fn put_tag(output: &mut [u8], at: usize, tag: u8)
-    ensures { output.new ≡ set output.old at tag }
-{
-    if at < output.len() {
-        output[at] = tag;
-    }
-}
+use opcode::instructions::Instructions;
 
 // Puts the operand of the instruction at an offset, high byte first, if there is room.
 fn put_operand(output: &mut [u8], at: usize, a: usize)
@@ -68,15 +60,9 @@ pub fn turn_code(
     requires { HasCode image.now start end }
     ensures { (c : Code) → CodeAt image.now start end c → TurnsCode (jump_of from) image.now start end c output.old output.new result }
 {
-    let mut at = start;
-    while at < end {
-        match size_at(image, at, end) {
-            Some(size) => {
-                turn_instruction(output, image, start, at, size, from)?;
-                at += size;
-            }
-            None => return Ok(()),
-        }
+    // Kept: two offsets, since with a `Span` in their place a translation takes 7 to 15 % more instructions.
+    for (at, _, next) in Instructions::new(image, start, end) {
+        turn_instruction(output, image, start, at, next - at, from)?;
     }
     Ok(())
 }
@@ -92,12 +78,12 @@ fn turn_constant(
     requires { HasConst from image.now at end }
     ensures { (x : Const) → ConstAt from image.now at end x → TurnsConst from image.now at x output.old output.new result }
 {
-    let function = function_tag(from);
+    let function = from.tags().function;
     if image[at] != function {
         return Ok(());
     }
-    let tag = function_tag(other_form(from));
-    put_tag(output, at, tag);
+    let tag = other_form(from).tags().function;
+    store(output, at, tag);
     let len = length_at(image, at);
     turn_code(output, image, at + 6, at + 3 + len, from)
 }
@@ -113,10 +99,8 @@ pub fn turn_constants(
     requires { HasPool from image.now start end }
     ensures { (cs : List Const) → PoolAt from image.now start end cs → TurnsPool from image.now start end cs output.old output.new result }
 {
-    let mut at = start;
-    while at < end {
+    for (at, _) in Constants::new(image, start, end) {
         turn_constant(output, image, at, end, from)?;
-        at = at + 3 + length_at(image, at);
     }
     Ok(())
 }

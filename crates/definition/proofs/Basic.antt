@@ -1,6 +1,11 @@
 -- Lemmas on choices by a test.
 use mathlib.Core.Bool.{Bool, true, false}
-use mathlib.Core.Path.{◌≡◌, refl, ap, subst}
+use mathlib.Core.Path.{◌≡◌, refl, ap, subst, ◌∙◌}
+use native.Mathlib.Omega.{arith}
+use Prim.Native.Nat.{ℕ}
+use Rattle.std.specs.Prelude.{Option, Some, None, Result, Err}
+use Rattle.std.specs.Result.{IsErrAnd}
+use Rattle.std.proofs.lemmas.Result.{err_from_is_err_and}
 use Rattle.definition.specs.Basic.{pick, both}
 
 -- a relation under two picks by one test
@@ -39,3 +44,16 @@ pick_true x y e = ap (λ b. pick b x y) e
 
 pub pick_false : {A : Type 0} (x y : A) {b : Bool} → b ≡ false → pick b x y ≡ y
 pick_false x y e = ap (λ b. pick b x y) e
+
+-- something was chosen, or nothing
+pub picked_some : {A : Type 0} {x y : A} (b : Bool) → Some y ≡ pick b (Some x) None → (b ≡ true) × (y ≡ x)
+picked_some {x = x} {y = y} true e = (refl, grind (arith, e))
+picked_some false e = let z : ◌≡◌ {A = ℕ} 0 1 = cc in absurd (omega arith)
+
+pub picked_none : {A : Type 0} (x : A) (b : Bool) → None ≡ pick b (Some x) None → b ≡ false
+picked_none x true e = let z : ◌≡◌ {A = ℕ} 0 1 = cc in absurd (omega arith)
+picked_none x false e = refl
+
+-- an error passed on by `?` is the same
+pub passed_on : {A E : Type 0} {r : Result A E} {z : E} → IsErrAnd r (λ y. y ≡ z) → r ≡ Err z
+passed_on {r = r} h = let p = err_from_is_err_and r h in p.1 ∙ ap Err p.2

@@ -3,6 +3,7 @@
 #![tactic(auto)]
 
 pub mod limit;
+pub mod output;
 pub mod reason;
 pub mod tag;
 

@@ -1,16 +1,11 @@
 -- The content of a whole field: as a part of the bytes, as the definition reads it, and its length.
-use Prim.Native.Nat.{ℕ, ◌+◌, ◌-◌}
-use native.Mathlib.Omega.{arith}
+use Prim.Native.Nat.{ℕ, ◌+◌}
 use mathlib.Core.Path.{◌≡◌, sym, ap, ◌∙◌}
-use lib.ListN.{length, take, drop}
+use lib.ListN.{length}
 use Rattle.definition.specs.Basic.{Bytes, byte_at}
 use Rattle.definition.specs.Field.{bytes}
 use Rattle.definition.proofs.Bytes.{bytes_slice, length-bytes}
-use Rattle.field.specs.Layout.{len, after, content, Whole}
-
--- the part up to the offset after the field
-pub content-part : (b : Bytes) (at end : ℕ) → end ≡ after b at → take (end - (at + 3)) (drop (at + 3) b) ≡ content b at
-content-part b at end e = let l : end - (at + 3) ≡ len b at = omega arith in ap (λ n. take n (drop (at + 3) b)) l
+use Rattle.field.specs.Layout.{len, content, Whole}
 
 module _ {b : Bytes} {at : ℕ} where
   -- what the definition reads there

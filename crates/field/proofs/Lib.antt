@@ -2,3 +2,4 @@ pub mod Content
 pub mod Same
 pub mod Rows
 pub mod Reading
+pub mod EachField

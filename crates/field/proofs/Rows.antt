@@ -6,7 +6,6 @@ use mathlib.Core.List.{List, [], ◌∷◌}
 use mathlib.Core.Option.{none, some}
 use Rattle.std.specs.Prelude.{Option, Some, None, is_some}
 use mathlib.Core.Path.{◌≡◌, refl, sym, ap, ◌∙◌}
-use lib.ListN.{length}
 use Rattle.definition.specs.Basic.{Bytes, pick}
 use Rattle.definition.specs.SymbolTable.{same, find_builtin, unfound, distinct}
 use Rattle.field.specs.Layout.{after, content}
@@ -72,13 +71,6 @@ module _ {b : Bytes} {from to : ℕ} where
   names_same g h = row_same g.row h.row
 
   module _ {name : Bytes} {at k : ℕ} (x : Searching b from to name at k) where
-    -- a whole field is there
-    pub search_fits : at < to → after b at ≤ length b
-    search_fits h = let f = row_first x.left.row h in omega (arith, f.fits, x.has.within)
-
-    pub search_near : at < to → after b at ≤ to
-    search_near h = (row_first x.left.row h).fits
-
     pub search_hit : at < to → same name (content b at) ≡ true → (h : HasRow b from to) → some k ≡ find_builtin name h.names 0
     search_hit l e h = left_hit x.left l e ∙ ap (λ ns. find_builtin name ns 0) (names_same x.has h)
 
@@ -100,12 +92,6 @@ module _ {b : Bytes} {from to : ℕ} where
   compare_begins h = record { has = h; names = h.names; row = h.row; same = refl }
 
   module _ {at : ℕ} (x : Comparing b from to at) where
-    pub compare_fits : at < to → after b at ≤ length b
-    compare_fits h = let f = row_first x.row h in omega (arith, f.fits, x.has.within)
-
-    pub compare_near : at < to → after b at ≤ to
-    compare_near h = (row_first x.row h).fits
-
     -- the fields behind the first
     abbrev pub compare_behind : at < to → HasRow b (after b at) to
     compare_behind h = let f = row_first x.row h in record { names = f.rest; row = f.row; within = x.has.within }

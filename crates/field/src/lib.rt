@@ -1,6 +1,7 @@
 // Reading and writing the parts of a field: a tag, a two-byte length, the content.
 #![tactic(auto)]
 
+pub mod fields;
 pub mod names;
 
 ghost use Rattle.std.specs.Prelude.{◌≡◌, ◌+◌, ◌*◌, ◌<◌, length};
@@ -9,6 +10,7 @@ ghost use Rattle.definition.specs.Field.{head};
 ghost use Rattle.field.specs.Layout.{Whole, after, content};
 
 // A byte as a length or an offset.
+// Kept: the library's conversion, with the bound that its callers cite.
 pub fn wide(x: u8) -> usize
     ensures is { result ≡ x }
     ensures small { result < 256 }
@@ -17,6 +19,7 @@ pub fn wide(x: u8) -> usize
 }
 
 // A number of two bytes, the high one first.
+// Kept: the library's conversions, with the equation and the bound that its callers cite.
 pub fn word(high: u8, low: u8) -> usize
     ensures is { result ≡ high * 256 + low }
     ensures small { result < 65536 }

@@ -3,6 +3,7 @@ ghost use Rattle.std.specs.Prelude.{◌≡◌};
 ghost use Rattle.definition.specs.SymbolTable.{same, find_builtin, distinct};
 ghost use Rattle.field.specs.Row.{HasRow, found_of};
 
+use super::fields::Fields;
 use super::{after_at, content_at};
 
 // Whether two names are the same.
@@ -22,18 +23,15 @@ pub fn same_name(x: &[u8], y: &[u8]) -> bool
 }
 
 // The first field of a name, among those from an offset up to an end.
+// Kept: the bytes with both offsets, since a row of fields stands amid others whose bytes its callers keep.
 pub fn find_name(bytes: &[u8], from: usize, to: usize, name: &[u8]) -> Option<usize>
     requires { HasRow bytes.now from to }
     ensures { (h : HasRow bytes.now from to) → found_of result ≡ find_builtin name.now h.names 0 }
 {
-    let mut at = from;
-    let mut k = 0;
-    while at < to {
+    for (k, at) in Fields::new(bytes, from, to).enumerate() {
         if same_name(name, content_at(bytes, at)) {
             return Some(k);
         }
-        at = after_at(bytes, at);
-        k += 1;
     }
     None
 }
@@ -43,13 +41,10 @@ pub fn distinct_names(bytes: &[u8], from: usize, to: usize) -> bool
     requires { HasRow bytes.now from to }
     ensures { (h : HasRow bytes.now from to) → result ≡ distinct h.names }
 {
-    let mut at = from;
-    while at < to {
-        let next = after_at(bytes, at);
-        if find_name(bytes, next, to, content_at(bytes, at)).is_some() {
+    for at in Fields::new(bytes, from, to) {
+        if find_name(bytes, after_at(bytes, at), to, content_at(bytes, at)).is_some() {
             return false;
         }
-        at = next;
     }
     true
 }

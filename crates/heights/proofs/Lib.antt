@@ -6,7 +6,6 @@ pub mod Refuses
 pub mod Verdicts
 pub mod Offered
 pub mod Compiled
-pub mod EachInstruction
 pub mod Tables
 pub mod Laws
 pub mod Steps

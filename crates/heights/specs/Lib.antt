@@ -1,6 +1,4 @@
 pub mod Judgement
-pub mod Instructions
-pub mod Constants
 pub mod Pass
 pub mod Marks
 pub mod Chunks

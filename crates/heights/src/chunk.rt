@@ -5,12 +5,12 @@ ghost use Rattle.definition.specs.Effect.{takes as taken};
 ghost use Rattle.opcode.specs.Decoding.{instr_of};
 ghost use Rattle.heights.specs.Pass.{agree as agreeing, behind as after, free as clear, fits as fitting, lastly};
 ghost use Rattle.definition.specs.Bytecode.{Code};
-ghost use Rattle.listing.specs.Reads.{CodeAt};
+ghost use Rattle.listing.specs.Reads.{CodeIn};
 ghost use Rattle.heights.specs.Marks.{with_arrival, Spot, Stepped, PassReady, PassEnds, ChunkReady, ChunkEnds};
 ghost use Rattle.heights.specs.Judgement.{Kind};
 
 use crate::effect::{falls, gives, leaps, takes};
-use crate::instructions::Instructions;
+use bytecode::Span;
 use opcode::Instruction;
 
 // A chunk that passes: its greatest height, and how many heights were read so far.
@@ -84,18 +84,17 @@ pub fn fall(marks: &mut [u32], goes: bool, next: usize, level: u32) -> bool
     !goes || arrive(marks, next, level)
 }
 
-// One instruction of the chunk from `start` up to `end`; whether it passes.
+// One instruction of a chunk; whether it passes.
 fn step(
     marks: &mut [u32],
-    start: usize,
-    end: usize,
+    code: Span<'_>,
     at: usize,
     next: usize,
     i: Instruction,
     offered: u32,
 ) -> bool
-    requires { Spot marks.old start end at next (instr_of i) }
-    ensures { Stepped marks.old start end at offered (instr_of i) result marks.new }
+    requires { Spot marks.old code.start code.end at next (instr_of i) }
+    ensures { Stepped marks.old code.entry.start code.entry.end at offered (instr_of i) result marks.new }
 {
     let level = marks[at];
     if !fits(i, level, offered) {
@@ -105,8 +104,8 @@ fn step(
         return false;
     }
     let after = behind(i, level);
-    let to = start + i.operand as usize;
-    if !leap(marks, leaps(i.op), next, end, to, after) {
+    let to = code.start + i.operand as usize;
+    if !leap(marks, leaps(i.op), next, code.end, to, after) {
         return false;
     }
     fall(marks, falls(i.op), next, after)
@@ -119,26 +118,19 @@ pub fn height(level: u32) -> u32
     level.saturating_sub(2)
 }
 
-// The instructions from `start` up to `end`, with the heights from `first` on.
-pub fn pass(
-    marks: &mut [u32],
-    image: &[u8],
-    start: usize,
-    end: usize,
-    heights: &[u32],
-    first: usize,
-) -> Option<ChunkTop>
-    requires { PassReady marks.old image.now start end }
-    ensures { (c : Code) → CodeAt image.now start end c → PassEnds heights.now first (end - start) start c result marks.new }
+// The instructions of a chunk, with the heights from `first` on.
+pub fn pass(marks: &mut [u32], code: Span<'_>, heights: &[u32], first: usize) -> Option<ChunkTop>
+    requires { PassReady marks.old code.bytes.now code.start code.end }
+    ensures { (c : Code) → CodeIn code.entry c → PassEnds heights.now first (code.entry.end - code.entry.start) code.entry.start c result marks.new }
 {
     let mut k = first;
     let mut top = 0u32;
-    for (at, i, next) in Instructions::new(image, start, end) {
+    for (at, i, next) in code.instructions() {
         if heights.len() <= k {
             return None;
         }
         let level = marks[at];
-        if !step(marks, start, end, at, next, i, heights[k]) {
+        if !step(marks, code, at, next, i, heights[k]) {
             return None;
         }
         top = top.max(height(level));
@@ -150,19 +142,17 @@ pub fn pass(
 // A chunk, at whose end no more than `last` may arrive.
 pub fn check_chunk(
     marks: &mut [u32],
-    image: &[u8],
-    start: usize,
-    end: usize,
+    code: Span<'_>,
     heights: &[u32],
     first: usize,
     last: u32,
 ) -> Option<ChunkTop>
-    requires { ChunkReady marks.old image.now start end }
-    ensures { (c : Code) → CodeAt image.now start end c → (kind : Kind) → last ≡ lastly kind → ChunkEnds heights.now kind first end c result marks.new }
+    requires { ChunkReady marks.old code.bytes.now code.start code.end }
+    ensures { (c : Code) → CodeIn code.entry c → (kind : Kind) → last ≡ lastly kind → ChunkEnds heights.now kind first code.entry.end c result marks.new }
 {
-    marks[start] = 2;
-    let chunk = pass(marks, image, start, end, heights, first)?;
-    if last < marks[end] {
+    marks[code.start] = 2;
+    let chunk = pass(marks, code, heights, first)?;
+    if last < marks[code.end] {
         return None;
     }
     Some(chunk)

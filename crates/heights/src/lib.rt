@@ -2,10 +2,8 @@
 #![tactic(auto)]
 
 pub mod chunk;
-pub mod constants;
 pub mod effect;
 pub mod image;
-pub mod instructions;
 mod propose;
 
 ghost use Rattle.std.specs.Prelude.{◌≡◌, length, drop};

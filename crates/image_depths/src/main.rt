@@ -2,9 +2,9 @@
 // at index 4 of the pool. The heights are proposed here and then checked. A refusal is a sentence on standard error, and standard output stays empty.
 #![tactic(auto)]
 
+use bytecode::constants::Constants;
 use definition::{Refusal, tag};
 use field::length_at;
-use heights::constants::Constants;
 use report::{print_in_heights, read_full};
 use std::io;
 

@@ -4,7 +4,7 @@ use native.Mathlib.Omega.{arith}
 use mathlib.Core.Path.{◌≡◌, refl, sym, ap, ◌∙◌}
 use mathlib.Core.List.{[], ◌∷◌, ◌++◌}
 use lib.ListN.{length, set, length-append}
-use lib.Seq.{sets, set_out, length-sets}
+use lib.Seq.{sets, length-sets}
 use Rattle.definition.specs.Basic.{Bytes}
 use Rattle.session.proofs.Stores.{sets_append}
 use Rattle.listing.specs.Put.{Puts}
@@ -13,12 +13,9 @@ use Rattle.listing.specs.Put.{Puts}
 pub none : (o : Bytes) (at : ℕ) {most : ℕ} → Puts most o o at at []
 none o at = record { stored = refl; counted = omega arith; short = omega arith }
 
--- a byte where there is room, and past the end
+-- a byte; past the end a store does nothing
 pub one : (o : Bytes) (at b : ℕ) → Puts 1 o (set o at b) at (at + 1) (b ∷ [])
 one o at b = record { stored = refl; counted = refl; short = omega arith }
-
-pub past : (o : Bytes) (at b : ℕ) → length o ≤ at → Puts 1 o o at (at + 1) (b ∷ [])
-past o at b h = record { stored = sym (set_out o at b h); counted = refl; short = omega arith }
 
 -- a text, and another behind it
 pub both : {m n : ℕ} {o o₁ o₂ : Bytes} {a b c : ℕ} {s t : Bytes} → Puts m o o₁ a b s → Puts n o₁ o₂ b c t → Puts (m + n) o o₂ a c (s ++ t)

@@ -7,6 +7,7 @@ use Rattle.definition.specs.Bytecode.{Code, Const, Image}
 use Rattle.definition.specs.Listing.{also, newline, constant_lines}
 use Rattle.definition.specs.Decode.{decoded, read_code, read_const, read_image}
 use Rattle.bytecode.specs.Checked.{constants}
+use Rattle.bytecode.specs.declared.span.Span.{Span}
 
 -- code from an offset up to another
 pub record CodeAt (b : Bytes) (start end : ℕ) (c : Code) : Type 0 where
@@ -36,6 +37,19 @@ pub record PoolAt (b : Bytes) (start end : ℕ) (cs : List Const) : Type 0 where
 pub record HasPool (b : Bytes) (start end : ℕ) : Type 0 where
   pub pool : List Const
   pub is : PoolAt b start end pool
+
+-- code and a pool that are a part of an image
+abbrev pub CodeIn : Span → Code → Type 0
+CodeIn s c = CodeAt s.bytes.now s.start s.end c
+
+abbrev pub HasCodeIn : Span → Type 0
+HasCodeIn s = HasCode s.bytes.now s.start s.end
+
+abbrev pub PoolIn : Span → List Const → Type 0
+PoolIn s cs = PoolAt s.bytes.now s.start s.end cs
+
+abbrev pub HasPoolIn : Span → Type 0
+HasPoolIn s = HasPool s.bytes.now s.start s.end
 
 -- an image
 pub record ImageAt (b : Bytes) (m : Image) : Type 0 where

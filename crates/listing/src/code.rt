@@ -4,14 +4,16 @@ ghost use Rattle.definition.specs.Bytecode.{Code};
 ghost use Rattle.definition.specs.Listing.{word, operand_fields, code_line, code_lines};
 ghost use Rattle.opcode.specs.Decoding.{instr_of};
 ghost use Rattle.listing.specs.Put.{Room, Puts, per_byte};
-ghost use Rattle.listing.specs.Reads.{CodeAt, HasCode};
+ghost use Rattle.listing.specs.Reads.{CodeIn, HasCodeIn};
 
 use crate::text::{put, put_bytes, put_field, put_newline, put_padded};
+use bytecode::Span;
 use field::wide;
 use opcode::table::WORDS;
-use opcode::{Instruction, decode_at, operand_length, word_start};
+use opcode::{Instruction, operand_length, word_start};
 
 // Puts the word of an instruction byte.
+// Kept: beside `opcode::write_word`, which refuses where there is no room and writes nothing; here what does not fit is counted.
 fn put_word(output: &mut [u8], at: usize, op: u8) -> usize
     requires { Room 193 at × (op < 30) }
     ensures { Puts 193 output.old output.new at result (word op) }
@@ -57,21 +59,14 @@ fn put_line(output: &mut [u8], at: usize, position: usize, i: Instruction) -> us
     put_newline(output, after_operands)
 }
 
-// Puts the lines of code that stands from an offset up to another.
-pub fn list_code(output: &mut [u8], at: usize, image: &[u8], start: usize, end: usize) -> usize
-    requires { Room (per_byte * (end - start)) at × HasCode image.now start end }
-    ensures { (c : Code) → CodeAt image.now start end c → Puts (per_byte * (end - start)) output.old output.new at result (code_lines c) }
+// Puts the lines of code.
+pub fn list_code(output: &mut [u8], at: usize, code: Span<'_>) -> usize
+    requires { Room (per_byte * (code.end - code.start)) at × HasCodeIn code }
+    ensures { (c : Code) → CodeIn code.entry c → Puts (per_byte * (code.entry.end - code.entry.start)) output.old output.new at result (code_lines c) }
 {
     let mut next = at;
-    let mut position = start;
-    while position < end {
-        match decode_at(image, position, end) {
-            Err(_) => return next,
-            Ok(found) => {
-                next = put_line(output, next, position - start, found.instruction);
-                position = found.after;
-            }
-        }
+    for (place, i, _) in code.instructions() {
+        next = put_line(output, next, place - code.start, i);
     }
     next
 }

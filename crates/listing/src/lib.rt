@@ -14,6 +14,7 @@ ghost use Rattle.definition.specs.Listing.{listing, list_answer, list_into};
 ghost use Rattle.listing.specs.Put.{text_limit, Puts};
 ghost use Rattle.listing.specs.Reads.{ImageAt, HasImage};
 
+use bytecode::Span;
 use code::list_code;
 use definition::{Reason, Refusal};
 use field::length_at;
@@ -31,8 +32,18 @@ fn put_listing(output: &mut [u8], image: &[u8], constants: usize) -> usize
     let after_word = put_bytes(output, 0, b"main");
     let after_size = put_field(output, after_word, size);
     let next = put_newline(output, after_size);
-    let after_code = list_code(output, next, image, 3, end);
-    list_pool(output, after_code, image, end + 3, image.len(), constants)
+    let code = Span {
+        bytes: image,
+        start: 3,
+        end,
+    };
+    let after_code = list_code(output, next, code);
+    let pool = Span {
+        bytes: image,
+        start: end + 3,
+        end: image.len(),
+    };
+    list_pool(output, after_code, pool, constants)
 }
 
 // Checks an image and lists it: the length of its listing, which stands at the start of the output then; or 17 where the image is wrong; or 15

@@ -44,6 +44,7 @@ fn measure_code(image: &[u8], start: usize, end: usize) -> Result<Measured, Malf
     ensures small { text_of result ≤ per_byte * (end - start) }
 {
     let lengths = WORD_LENGTHS;
+    // Kept: a `while`, since over `Instructions` the check of an image takes 4 to 6 % more instructions.
     let mut at = start;
     let mut text = 0;
     while at < end {

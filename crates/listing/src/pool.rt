@@ -5,10 +5,11 @@ ghost use Rattle.definition.specs.Field.{bytes, head};
 ghost use Rattle.definition.specs.Bytecode.{Code, Const};
 ghost use Rattle.definition.specs.Listing.{constant_fields, constant_lines};
 ghost use Rattle.listing.specs.Put.{Room, Puts, per_byte};
-ghost use Rattle.listing.specs.Reads.{CodeAt, HasCode, ConstantAt, HasConstant, PoolAt, HasPool, function_of, function_head, pool_text};
+ghost use Rattle.listing.specs.Reads.{CodeAt, HasCode, ConstantAt, HasConstant, PoolIn, HasPoolIn, function_of, function_head, pool_text};
 
 use crate::code::list_code;
 use crate::text::{put_bytes, put_decimal, put_field, put_hex_field, put_newline, put_signed};
+use bytecode::Span;
 use definition::tag;
 use field::{length_at, wide, word};
 
@@ -63,14 +64,21 @@ fn list_function(output: &mut [u8], at: usize, image: &[u8], from: usize, len: u
         wide(image[from + 2]),
         len - 3,
     );
-    list_code(output, next, image, from + 3, from + len)
+    let code = Span {
+        bytes: image,
+        start: from + 3,
+        end: from + len,
+    };
+    list_code(output, next, code)
 }
 
-// Puts a constant behind its index, by its tag.
-fn list_content(output: &mut [u8], at: usize, image: &[u8], from: usize, end: usize) -> usize
-    requires { Room (per_byte * (1 + (head (byte_at image.now) from).len)) at × HasConstant image.now from end }
-    ensures { (x : Const) → ConstantAt image.now from end x → Puts (per_byte * (1 + (head (byte_at image.now) from).len)) output.old output.new at result (constant_fields x) }
+// Puts the constant at the start of a part behind its index, by its tag.
+fn list_content(output: &mut [u8], at: usize, part: Span<'_>) -> usize
+    requires { Room (per_byte * (1 + (head (byte_at part.bytes.now) part.start).len)) at × HasConstant part.bytes.now part.start part.end }
+    ensures { (x : Const) → ConstantAt part.entry.bytes.now part.entry.start part.entry.end x → Puts (per_byte * (1 + (head (byte_at part.entry.bytes.now) part.entry.start).len)) output.old output.new at result (constant_fields x) }
 {
+    let image = part.bytes;
+    let from = part.start;
     let tag = image[from];
     let len = length_at(image, from);
     if tag == tag::INTEGER_CONST {
@@ -82,37 +90,28 @@ fn list_content(output: &mut [u8], at: usize, image: &[u8], from: usize, end: us
     list_function(output, at, image, from + 3, len)
 }
 
-// Puts the lines of the constants that fill the part from an offset up to another.
-fn list_constants(output: &mut [u8], at: usize, image: &[u8], start: usize, end: usize) -> usize
-    requires { Room (per_byte * (end - start)) at × HasPool image.now start end }
-    ensures { (cs : List Const) → PoolAt image.now start end cs → Puts (per_byte * (end - start)) output.old output.new at result (constant_lines cs) }
+// Puts the lines of the constants of a pool.
+fn list_constants(output: &mut [u8], at: usize, pool: Span<'_>) -> usize
+    requires { Room (per_byte * (pool.end - pool.start)) at × HasPoolIn pool }
+    ensures { (cs : List Const) → PoolIn pool.entry cs → Puts (per_byte * (pool.entry.end - pool.entry.start)) output.old output.new at result (constant_lines cs) }
 {
     let mut next = at;
-    let mut position = start;
-    let mut count = 0;
-    while position < end {
-        let after_index = put_decimal(output, next, count);
-        next = list_content(output, after_index, image, position, end);
-        position = position + 3 + length_at(image, position);
-        count += 1;
+    let mut index = 0;
+    for (start, _) in pool.constants() {
+        let after_index = put_decimal(output, next, index);
+        next = list_content(output, after_index, Span { start, ..pool });
+        index += 1;
     }
     next
 }
 
-// Puts the lines of the pool whose constants, so many, fill the part from an offset up to another.
-pub fn list_pool(
-    output: &mut [u8],
-    at: usize,
-    image: &[u8],
-    start: usize,
-    end: usize,
-    count: usize,
-) -> usize
-    requires { Room (26 + per_byte * (end - start)) at × HasPool image.now start end }
-    ensures { (cs : List Const) → PoolAt image.now start end cs → count ≡ length cs → Puts (26 + per_byte * (end - start)) output.old output.new at result (pool_text cs) }
+// Puts the lines of a pool, which has so many constants.
+pub fn list_pool(output: &mut [u8], at: usize, pool: Span<'_>, count: usize) -> usize
+    requires { Room (26 + per_byte * (pool.end - pool.start)) at × HasPoolIn pool }
+    ensures { (cs : List Const) → PoolIn pool.entry cs → count ≡ length cs → Puts (26 + per_byte * (pool.entry.end - pool.entry.start)) output.old output.new at result (pool_text cs) }
 {
     let after_word = put_bytes(output, at, b"pool");
     let after_count = put_field(output, after_word, count);
     let next = put_newline(output, after_count);
-    list_constants(output, next, image, start, end)
+    list_constants(output, next, pool)
 }

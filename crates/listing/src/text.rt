@@ -6,15 +6,14 @@ ghost use Rattle.definition.specs.Text.{digit as digitOf, digits, decimal, padde
 ghost use Rattle.definition.specs.Listing.{newline, also, hex_field};
 ghost use Rattle.listing.specs.Put.{Room, Puts};
 
+use definition::output::store;
+
 // Puts a byte.
 pub fn put(output: &mut [u8], at: usize, b: u8) -> usize
     requires { Room 1 at }
     ensures { Puts 1 output.old output.new at result (b ∷ []) }
 {
-    if output.len() <= at {
-        return at + 1;
-    }
-    output[at] = b;
+    store(output, at, b);
     at + 1
 }
 
@@ -39,11 +38,12 @@ pub fn put_newline(output: &mut [u8], at: usize) -> usize
 }
 
 // A decimal digit.
+// Kept: arithmetic, since the text is bytes, and `char::from_digit` gives a character to convert.
 fn digit(d: usize) -> u8
     requires { d < 10 }
     ensures { result ≡ digitOf d }
 {
-    48 + d as u8
+    b'0' + d as u8
 }
 
 // Puts a number's last digits, at most so many.
@@ -106,6 +106,7 @@ pub fn put_field(output: &mut [u8], at: usize, n: usize) -> usize
 }
 
 // A number of eight bytes, high byte first.
+// Kept: eight indices, since `first_chunk` answers an option, whose none, which cannot be here, would want a number too.
 pub fn eight_bytes(image: &[u8], at: usize) -> usize
     requires { at + 8 ≤ length image.now }
     ensures { result ≡ number 0 (bytes (byte_at image.now) at 8) }

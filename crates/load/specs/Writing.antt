@@ -1,21 +1,20 @@
 -- What a function leaves that writes drawn fields at the start of what it is lent.
-use Rattle.std.specs.Prelude.{◌≡◌, ◌≤◌, length}
+use Rattle.std.specs.Prelude.{◌≡◌, ℕ, ◌≤◌, length}
 use Rattle.definition.specs.Basic.{Bytes}
 use Rattle.definition.specs.Output.{over}
 use Rattle.load.specs.Node.{Node, Nodes, written, written_all, size, size_all}
 use Rattle.load.specs.Draw.{Drawn}
-use Rattle.load.specs.declared.Grown.{Grown}
 
 -- a field: its bytes, its length and the new state; it keeps to what was lent
-pub record Wrote (x : Drawn Node) (r : Grown) (before after : Bytes) : Type 0 where
+pub record Wrote (x : Drawn Node) (n s : ℕ) (before after : Bytes) : Type 0 where
   pub bytes : after ≡ over (written x.value) before
-  pub len : r.len ≡ size x.value
-  pub state : r.state ≡ x.state
+  pub len : n ≡ size x.value
+  pub state : s ≡ x.state
   pub within : size x.value ≤ length before
 
 -- fields in a row
-pub record WroteAll (xs : Drawn Nodes) (r : Grown) (before after : Bytes) : Type 0 where
+pub record WroteAll (xs : Drawn Nodes) (n s : ℕ) (before after : Bytes) : Type 0 where
   pub bytes : after ≡ over (written_all xs.value) before
-  pub len : r.len ≡ size_all xs.value
-  pub state : r.state ≡ xs.state
+  pub len : n ≡ size_all xs.value
+  pub state : s ≡ xs.state
   pub within : size_all xs.value ≤ length before

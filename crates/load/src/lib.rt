@@ -3,480 +3,285 @@
 
 mod draw;
 mod leaf;
+mod row;
 
-ghost use Rattle.std.specs.Prelude.{◌≡◌, ◌+◌, ◌*◌, ◌<◌, ◌≤◌, [], ◌∷◌, ◌++◌, length, slice_index_or};
+ghost use Rattle.std.specs.Prelude.{◌≡◌, ◌+◌, ◌<◌, ◌≤◌, length, sum_by};
 ghost use Rattle.definition.specs.Output.{output_answer, output_after};
-ghost use Rattle.load.specs.Draw.{times, row};
+ghost use Rattle.load.specs.Draw.{row, field_of};
 ghost use Rattle.load.specs.Load as list;
-ghost use Rattle.load.specs.Load.{rows, simple, identifier, expression_of, prefix_operator, infix_operator, function_name, function_parameters, let_name, block_of, definitions, later_definitions, last_definitions, tree_of};
-ghost use Rattle.load.specs.Load.{an_expression, a_statement, a_block, a_branch, a_yielding};
+ghost use Rattle.load.specs.Load.{row_need, row_below, tree_of};
+ghost use Rattle.load.specs.Items.{need_of, part_of, parts};
 ghost use Rattle.load.specs.Writing.{Wrote, WroteAll};
 
 use definition::{Reason, Refusal, tag};
-use draw::{choice, step};
-use leaf::close;
+use draw::Draws;
+use leaf::{INFIXES, LETTER, function_word, put, put_leaf};
+use row::Item::{
+    Block, Branch, Definition, Expression, FunctionName, InfixOperator, Integer, LetName, Name,
+    Parameters, PrefixOperator, Statement, Yielding,
+};
+use row::{Item, LEAVES, Leaf, ROWS, Row, STATEMENT_ROWS, StatementRow, needs};
 
-// The bytes that a tree may take, and the least that its parts need.
+// The bytes that a tree may take.
 pub const TREE_MOST: usize = 2048;
-
-const EXPRESSION_NEED: usize = 11;
-
-const STATEMENT_NEED: usize = 18;
-
-const BLOCK_NEED: usize = 39;
 
 // The levels below a statement of Program.
 const STATEMENT_LEVELS: usize = 10;
 
-// What was written at the start of what was lent, and the state after it.
-#[derive(Clone, Copy)]
-pub struct Grown {
-    pub len: usize,
-    pub state: u32,
-}
+const NAMES: [Item; 2] = [LetName; 2];
 
-// How many rows are open to an expression without room for a branch: 10 with a level below and 48 bytes.
-fn few_choices(below: usize, most: usize) -> u32
-    ensures { result ≡ list.few_choices below most }
-{
-    if below < 1 {
-        return 4;
-    }
-    if most < 48 {
-        return 4;
-    }
-    10
-}
+const EXPRESSIONS: [Item; 6] = [Expression; 6];
+
+const STATEMENTS: [Item; 2] = [Statement; 2];
+
+// The definitions of a and b, and as many statements as a Program has at most.
+const PROGRAM: [Item; 10] = [
+    Definition(0x61),
+    Definition(0x62),
+    Statement,
+    Statement,
+    Statement,
+    Statement,
+    Statement,
+    Statement,
+    Statement,
+    Statement,
+];
+
+// The same, with the definition of c.
+const PROGRAM_WITH_C: [Item; 11] = [
+    Definition(0x61),
+    Definition(0x62),
+    Definition(0x63),
+    Statement,
+    Statement,
+    Statement,
+    Statement,
+    Statement,
+    Statement,
+    Statement,
+    Statement,
+];
 
 // How many rows are open to an expression with so many levels below and so many bytes.
-fn choices(below: usize, most: usize) -> u32
+fn choices(below: usize, most: usize) -> usize
     ensures { result ≡ list.choices below most }
 {
-    if below < 3 {
-        return few_choices(below, most);
+    if 3 <= below && 96 <= most {
+        13
+    } else if 1 <= below && 48 <= most {
+        10
+    } else {
+        4
     }
-    if most < 96 {
-        return few_choices(below, most);
-    }
-    13
 }
 
 // How many rows are open to a statement.
-fn statement_choices(below: usize, most: usize) -> u32
+fn statement_choices(below: usize, most: usize) -> usize
     ensures { result ≡ list.statement_choices below most }
 {
-    if below < 3 {
-        return 3;
-    }
-    if most < 48 {
-        return 3;
-    }
-    4
+    if 3 <= below && 48 <= most { 4 } else { 3 }
 }
 
-// A row of one part and the rest behind it.
-fn joined(at: usize, rest: Grown) -> Grown
-    requires { at + rest.len ≤ 18446744073709551615 }
-    ensures { result ≡ record { len = at + rest.len; state = rest.state } }
+// Items one after the other, with so many levels below. Each may take what those behind it leave.
+#[cycle(items)]
+fn put_items(out: &mut [u8], items: &[Item], below: usize, draws: &mut Draws) -> usize
+    requires { sum_by need_of items.now ≤ length out.old }
+    ensures { WroteAll (row (parts below items.now) (length out.old) draws.old.state) result draws.new.state out.old out.new }
 {
-    Grown {
-        len: at + rest.len,
-        state: rest.state,
+    let [item, rest @ ..] = items else {
+        return 0;
+    };
+    let end = out.len() - needs(rest);
+    let n = put_item(&mut out[..end], *item, below, draws);
+    n + put_items(&mut out[n..], rest, below, draws)
+}
+
+// A field of items.
+#[cycle(items)]
+fn put_node(
+    out: &mut [u8],
+    field_tag: usize,
+    items: &[Item],
+    below: usize,
+    draws: &mut Draws,
+) -> usize
+    requires is_tag { field_tag < 256 }
+    requires in_bounds { 3 + sum_by need_of items.now ≤ length out.old }
+    ensures { Wrote (field_of field_tag (parts below items.now) (length out.old) draws.old.state) result draws.new.state out.old out.new }
+{
+    let n = put_items(&mut out[3..], items, below, draws);
+    session::write::put_head(out, 0, field_tag as u8, n);
+    3 + n
+}
+
+// An item.
+#[cycle(items)]
+fn put_item(out: &mut [u8], item: Item, below: usize, draws: &mut Draws) -> usize
+    requires { need_of item ≤ length out.old }
+    ensures { Wrote ((part_of below item).make (length out.old) draws.old.state) result draws.new.state out.old out.new }
+{
+    match item {
+        PrefixOperator => put(out, tag::OPERATOR, &[2 + draws.draw(2) as u8]),
+        InfixOperator => put(out, tag::OPERATOR, &[INFIXES[draws.draw(8)]]),
+        Name(letter) => put(out, tag::NAME, &[letter]),
+        LetName => put(out, tag::NAME, &[LETTER + draws.draw(3) as u8]),
+        FunctionName => put(out, tag::NAME, function_word(draws.draw(4))),
+        Parameters => {
+            let n = draws.draw(3);
+            put_node(out, tag::PARAMS, &NAMES[..n], below, draws)
+        }
+        Integer => put_leaf(out, Leaf::Integer, draws),
+        Definition(letter) => put_node(out, tag::LET, &[Name(letter), Integer], below, draws),
+        Expression => put_expression(out, below, draws),
+        Statement => put_statement(out, below, draws),
+        Yielding => put_yielding(out, below, draws),
+        Block => put_block(out, below, draws),
+        Branch => put_branch(out, below, draws),
     }
 }
 
-// No parts.
-fn nothing(state: u32) -> Grown
-    ensures { result ≡ record { len = 0; state = state } }
-{
-    Grown { len: 0, state }
-}
-
-// An expression, with so many levels below.
-#[cycle(rows)]
-fn expression(out: &mut [u8], below: usize, state: u32) -> Grown
-    requires in_bounds { 11 ≤ length out.old }
-    requires below_bound { below ≤ 12 }
-    ensures { Wrote (list.expression below (length out.old) state) result out.old out.new }
-{
-    let s = step(state);
-    if below == 0 {
-        return leaf::put_leaf(out, choice(s, 4), s);
-    }
-    let k = choice(s, choices(below, out.len()));
-    if k < 4 {
-        return leaf::put_leaf(out, k, s);
-    }
-    if k < 10 {
-        return operation(out, below - 1, k, s);
-    }
-    construct(out, below - 1, k, s)
-}
-
-// The rows from Prefix to Hash, of expressions with so many levels below.
-#[cycle(rows)]
-fn operation(out: &mut [u8], below: usize, k: u32, s: u32) -> Grown
-    requires in_bounds { 48 ≤ length out.old }
-    requires below_bound { below ≤ 12 }
-    requires le_k { 4 ≤ k }
-    requires k_bound { k < 10 }
-    ensures { Wrote (expression_of (slice_index_or rows k (simple identifier)) (an_expression below) (a_branch below) (a_block below) (length out.old) s) result out.old out.new }
-{
-    if k == 4 {
-        let row = prefix_row(&mut out[3..], below, s);
-        return close(out, tag::PREFIX as u8, row);
-    }
-    if k == 5 {
-        let row = infix_row(&mut out[3..], below, s);
-        return close(out, tag::INFIX as u8, row);
-    }
-    if k == 8 {
-        let row = expressions(&mut out[3..], below, 2, s);
-        return close(out, tag::INDEX as u8, row);
-    }
-    counted(out, below, k, s)
-}
-
-// Call, Array and Hash: a number of expressions is drawn.
-#[cycle(rows)]
-fn counted(out: &mut [u8], below: usize, k: u32, s: u32) -> Grown
-    requires in_bounds { 48 ≤ length out.old }
-    requires below_bound { below ≤ 12 }
-    requires le_k { 6 ≤ k }
-    requires k_bound { k < 10 }
-    requires fact { (k ≡ 8) → ⊥ }
-    ensures { Wrote (expression_of (slice_index_or rows k (simple identifier)) (an_expression below) (a_branch below) (a_block below) (length out.old) s) result out.old out.new }
-{
-    let t = step(s);
-    if k == 6 {
-        let n = 1 + choice(t, 3) as usize;
-        let row = expressions(&mut out[3..], below, n, t);
-        return close(out, tag::CALL as u8, row);
-    }
-    if k == 7 {
-        let n = choice(t, 4) as usize;
-        let row = expressions(&mut out[3..], below, n, t);
-        return close(out, tag::ARRAY as u8, row);
-    }
-    let n = 2 * choice(t, 3) as usize;
-    let row = expressions(&mut out[3..], below, n, t);
-    close(out, tag::HASH as u8, row)
-}
-
-// If, If with else, and Function.
-#[cycle(rows)]
-fn construct(out: &mut [u8], below: usize, k: u32, s: u32) -> Grown
-    requires in_bounds { 96 ≤ length out.old }
-    requires below_bound { below ≤ 12 }
-    requires le_k { 10 ≤ k }
-    requires k_bound { k < 13 }
-    ensures { Wrote (expression_of (slice_index_or rows k (simple identifier)) (an_expression below) (a_branch below) (a_block below) (length out.old) s) result out.old out.new }
-{
-    if k == 10 {
-        let row = if_row(&mut out[3..], below, 1, s);
-        return close(out, tag::IF as u8, row);
-    }
-    if k == 11 {
-        let row = if_row(&mut out[3..], below, 2, s);
-        return close(out, tag::IF as u8, row);
-    }
-    let row = function_row(&mut out[3..], below, s);
-    close(out, tag::FUNCTION as u8, row)
-}
-
-// So many expressions, one after the other.
-#[cycle(rows)]
-fn expressions(out: &mut [u8], below: usize, n: usize, state: u32) -> Grown
-    requires n_in_bounds { 11 * n ≤ length out.old }
-    requires below_bound { below ≤ 12 }
-    requires n_bound { n ≤ 8 }
-    ensures { WroteAll (row (times n (an_expression below)) (length out.old) state) result out.old out.new }
-{
-    if n == 0 {
-        return nothing(state);
-    }
-    let end = out.len() - (n - 1) * EXPRESSION_NEED;
-    let first = expression(&mut out[..end], below, state);
-    let at = first.len;
-    let rest = expressions(&mut out[at..], below, n - 1, first.state);
-    joined(at, rest)
-}
-
-// Minus or Bang, and an expression.
-#[cycle(rows)]
-fn prefix_row(out: &mut [u8], below: usize, state: u32) -> Grown
-    requires in_bounds { 15 ≤ length out.old }
-    requires below_bound { below ≤ 12 }
-    ensures { WroteAll (row (prefix_operator ∷ an_expression below ∷ []) (length out.old) state) result out.old out.new }
-{
-    let first = leaf::put_prefix_operator(out, state);
-    let rest = expression(&mut out[4..], below, first.state);
-    joined(4, rest)
-}
-
-// An operator, and an expression.
-#[cycle(rows)]
-fn operand_row(out: &mut [u8], below: usize, state: u32) -> Grown
-    requires in_bounds { 15 ≤ length out.old }
-    requires below_bound { below ≤ 12 }
-    ensures { WroteAll (row (infix_operator ∷ an_expression below ∷ []) (length out.old) state) result out.old out.new }
-{
-    let first = leaf::put_infix_operator(out, state);
-    let rest = expression(&mut out[4..], below, first.state);
-    joined(4, rest)
-}
-
-// An expression, an operator, an expression.
-#[cycle(rows)]
-fn infix_row(out: &mut [u8], below: usize, state: u32) -> Grown
-    requires in_bounds { 26 ≤ length out.old }
-    requires below_bound { below ≤ 12 }
-    ensures { WroteAll (row (an_expression below ∷ infix_operator ∷ an_expression below ∷ []) (length out.old) state) result out.old out.new }
-{
-    let end = out.len() - 15;
-    let first = expression(&mut out[..end], below, state);
-    let at = first.len;
-    let rest = operand_row(&mut out[at..], below, first.state);
-    joined(at, rest)
-}
-
-// A condition and so many branches.
-#[cycle(rows)]
-fn if_row(out: &mut [u8], below: usize, n: usize, state: u32) -> Grown
-    requires n_in_bounds { 11 + 39 * n ≤ length out.old }
-    requires below_bound { below ≤ 12 }
-    requires n_bound { n ≤ 2 }
-    ensures { WroteAll (row (an_expression below ∷ times n (a_branch below)) (length out.old) state) result out.old out.new }
-{
-    let end = out.len() - n * BLOCK_NEED;
-    let first = expression(&mut out[..end], below, state);
-    let at = first.len;
-    let rest = branches(&mut out[at..], below, n, first.state);
-    joined(at, rest)
-}
-
-// So many branches, one after the other.
-#[cycle(rows)]
-fn branches(out: &mut [u8], below: usize, n: usize, state: u32) -> Grown
-    requires n_in_bounds { 39 * n ≤ length out.old }
-    requires below_bound { below ≤ 12 }
-    requires n_bound { n ≤ 8 }
-    ensures { WroteAll (row (times n (a_branch below)) (length out.old) state) result out.old out.new }
-{
-    if n == 0 {
-        return nothing(state);
-    }
-    let end = out.len() - (n - 1) * BLOCK_NEED;
-    let first = branch(&mut out[..end], below, state);
-    let at = first.len;
-    let rest = branches(&mut out[at..], below, n - 1, first.state);
-    joined(at, rest)
-}
-
-// A function's name or none, its parameters, its Block.
-#[cycle(rows)]
-fn function_row(out: &mut [u8], below: usize, state: u32) -> Grown
-    requires in_bounds { 54 ≤ length out.old }
-    requires below_bound { below ≤ 12 }
-    ensures { WroteAll (row (function_name ∷ function_parameters ∷ a_block below ∷ []) (length out.old) state) result out.old out.new }
-{
-    let first = leaf::put_function_name(out, state);
-    let at = first.len;
-    let rest = signature_row(&mut out[at..], below, first.state);
-    joined(at, rest)
-}
-
-// A function's parameters and its Block.
-#[cycle(rows)]
-fn signature_row(out: &mut [u8], below: usize, state: u32) -> Grown
-    requires in_bounds { 50 ≤ length out.old }
-    requires below_bound { below ≤ 12 }
-    ensures { WroteAll (row (function_parameters ∷ a_block below ∷ []) (length out.old) state) result out.old out.new }
-{
-    let first = leaf::put_parameters(out, state);
-    let at = first.len;
-    let rest = body(&mut out[at..], below, first.state);
-    joined(at, rest)
-}
-
-// A statement, with so many levels below.
-#[cycle(rows)]
-fn one_statement(out: &mut [u8], below: usize, state: u32) -> Grown
-    requires in_bounds { 18 ≤ length out.old }
-    requires below_bound { below ≤ 12 }
-    ensures { Wrote (list.statement below (length out.old) state) result out.old out.new }
+// An expression.
+#[cycle(items)]
+fn put_expression(out: &mut [u8], below: usize, draws: &mut Draws) -> usize
+    requires { 11 ≤ length out.old }
+    ensures { Wrote (list.expression below (length out.old) draws.old.state) result draws.new.state out.old out.new }
 {
     if below == 0 {
-        return close(out, tag::BLOCK as u8, nothing(state));
+        return put_leaf(out, LEAVES[draws.draw(4)], draws);
     }
-    let s = step(state);
-    let k = choice(s, statement_choices(below, out.len()));
-    if k == 0 {
-        let row = expressions(&mut out[3..], below - 1, 1, s);
-        return close(out, tag::EXPR_STMT as u8, row);
-    }
-    if k == 1 {
-        let row = let_row(&mut out[3..], below - 1, s);
-        return close(out, tag::LET as u8, row);
-    }
-    if k == 2 {
-        let row = expressions(&mut out[3..], below - 1, 1, s);
-        return close(out, tag::RETURN as u8, row);
-    }
-    block(out, below - 1, s)
+    let k = draws.draw(choices(below, out.len()));
+    put_row(out, ROWS[k], below - 1, draws)
 }
 
-// A name and its value.
-#[cycle(rows)]
-fn let_row(out: &mut [u8], below: usize, state: u32) -> Grown
-    requires in_bounds { 15 ≤ length out.old }
-    requires below_bound { below ≤ 12 }
-    ensures { WroteAll (row (let_name ∷ an_expression below ∷ []) (length out.old) state) result out.old out.new }
+// A row of an expression, with so many levels below its items.
+#[cycle(items)]
+fn put_row(out: &mut [u8], row: Row, below: usize, draws: &mut Draws) -> usize
+    requires { row_need row ≤ length out.old }
+    ensures { Wrote (row_below below row (length out.old) draws.old.state) result draws.new.state out.old out.new }
 {
-    let first = leaf::put_let_name(out, state);
-    let rest = expression(&mut out[4..], below, first.state);
-    joined(4, rest)
-}
-
-// So many statements, one after the other.
-#[cycle(rows)]
-fn statements(out: &mut [u8], below: usize, n: usize, state: u32) -> Grown
-    requires n_in_bounds { 18 * n ≤ length out.old }
-    requires below_bound { below ≤ 12 }
-    requires n_bound { n ≤ 8 }
-    ensures { WroteAll (row (times n (a_statement below)) (length out.old) state) result out.old out.new }
-{
-    if n == 0 {
-        return nothing(state);
+    match row {
+        Row::Simple(leaf) => put_leaf(out, leaf, draws),
+        Row::Prefix => put_node(
+            out,
+            tag::PREFIX,
+            &[PrefixOperator, Expression],
+            below,
+            draws,
+        ),
+        Row::Infix => put_node(
+            out,
+            tag::INFIX,
+            &[Expression, InfixOperator, Expression],
+            below,
+            draws,
+        ),
+        Row::Call => {
+            let n = 1 + draws.draw(3);
+            put_node(out, tag::CALL, &EXPRESSIONS[..n], below, draws)
+        }
+        Row::Array => {
+            let n = draws.draw(4);
+            put_node(out, tag::ARRAY, &EXPRESSIONS[..n], below, draws)
+        }
+        Row::Index => put_node(out, tag::INDEX, &[Expression, Expression], below, draws),
+        Row::Hash => {
+            let n = 2 * draws.draw(3);
+            put_node(out, tag::HASH, &EXPRESSIONS[..n], below, draws)
+        }
+        Row::If => put_node(out, tag::IF, &[Expression, Branch], below, draws),
+        Row::IfElse => put_node(out, tag::IF, &[Expression, Branch, Branch], below, draws),
+        Row::Function => put_node(
+            out,
+            tag::FUNCTION,
+            &[FunctionName, Parameters, Block],
+            below,
+            draws,
+        ),
     }
-    let end = out.len() - (n - 1) * STATEMENT_NEED;
-    let first = one_statement(&mut out[..end], below, state);
-    let at = first.len;
-    let rest = statements(&mut out[at..], below, n - 1, first.state);
-    joined(at, rest)
 }
 
-// A Block of none to two statements, with so many levels below them.
-#[cycle(rows)]
-fn block(out: &mut [u8], below: usize, state: u32) -> Grown
-    requires in_bounds { 39 ≤ length out.old }
-    requires below_bound { below ≤ 12 }
-    ensures { Wrote (block_of (a_statement below) (length out.old) state) result out.old out.new }
-{
-    let s = step(state);
-    let n = choice(s, 3) as usize;
-    let row = statements(&mut out[3..], below, n, s);
-    close(out, tag::BLOCK as u8, row)
-}
-
-// The Block of a function, with so many levels below.
-#[cycle(rows)]
-fn body(out: &mut [u8], below: usize, state: u32) -> Grown
-    requires in_bounds { 39 ≤ length out.old }
-    requires below_bound { below ≤ 12 }
-    ensures { Wrote (list.block below (length out.old) state) result out.old out.new }
+// A statement.
+#[cycle(items)]
+fn put_statement(out: &mut [u8], below: usize, draws: &mut Draws) -> usize
+    requires { 18 ≤ length out.old }
+    ensures { Wrote (list.statement below (length out.old) draws.old.state) result draws.new.state out.old out.new }
 {
     if below == 0 {
-        return close(out, tag::BLOCK as u8, nothing(state));
+        return put_node(out, tag::BLOCK, &[], below, draws);
     }
-    block(out, below - 1, state)
+    let k = draws.draw(statement_choices(below, out.len()));
+    match STATEMENT_ROWS[k] {
+        StatementRow::Expression => put_node(out, tag::EXPR_STMT, &[Expression], below - 1, draws),
+        StatementRow::Let => put_node(out, tag::LET, &[LetName, Expression], below - 1, draws),
+        StatementRow::Return => put_node(out, tag::RETURN, &[Expression], below - 1, draws),
+        StatementRow::Block => put_block(out, below, draws),
+    }
+}
+
+// A Block of none to two statements.
+#[cycle(items)]
+fn put_block(out: &mut [u8], below: usize, draws: &mut Draws) -> usize
+    requires { 39 ≤ length out.old }
+    ensures { Wrote (list.block below (length out.old) draws.old.state) result draws.new.state out.old out.new }
+{
+    if below == 0 {
+        return put_node(out, tag::BLOCK, &[], below, draws);
+    }
+    let n = draws.draw(3);
+    put_node(out, tag::BLOCK, &STATEMENTS[..n], below - 1, draws)
 }
 
 // A branch: a statement or none, then one that yields a value.
-#[cycle(rows)]
-fn branch(out: &mut [u8], below: usize, state: u32) -> Grown
-    requires in_bounds { 39 ≤ length out.old }
-    requires below_bound { below ≤ 12 }
-    ensures { Wrote (list.branch below (length out.old) state) result out.old out.new }
+#[cycle(items)]
+fn put_branch(out: &mut [u8], below: usize, draws: &mut Draws) -> usize
+    requires { 39 ≤ length out.old }
+    ensures { Wrote (list.branch below (length out.old) draws.old.state) result draws.new.state out.old out.new }
 {
     if below == 0 {
-        return close(out, tag::BLOCK as u8, nothing(state));
+        return put_node(out, tag::BLOCK, &[], below, draws);
     }
-    let s = step(state);
-    let n = choice(s, 2) as usize;
-    let row = yield_row(&mut out[3..], below - 1, n, s);
-    close(out, tag::BLOCK as u8, row)
-}
-
-// A statement or none, and an ExprStmt.
-#[cycle(rows)]
-fn yield_row(out: &mut [u8], below: usize, n: usize, state: u32) -> Grown
-    requires in_bounds { 36 ≤ length out.old }
-    requires below_bound { below ≤ 12 }
-    requires n_bound { n ≤ 1 }
-    ensures { WroteAll (row (times n (a_statement below) ++ (a_yielding below ∷ [])) (length out.old) state) result out.old out.new }
-{
-    if n == 0 {
-        return yielding(out, below, state);
+    if draws.draw(2) == 0 {
+        return put_node(out, tag::BLOCK, &[Yielding], below - 1, draws);
     }
-    let end = out.len() - STATEMENT_NEED;
-    let first = one_statement(&mut out[..end], below, state);
-    let at = first.len;
-    let rest = yielding(&mut out[at..], below, first.state);
-    joined(at, rest)
+    put_node(out, tag::BLOCK, &[Statement, Yielding], below - 1, draws)
 }
 
 // The ExprStmt that a branch ends with.
-#[cycle(rows)]
-fn yielding(out: &mut [u8], below: usize, state: u32) -> Grown
-    requires in_bounds { 18 ≤ length out.old }
-    requires below_bound { below ≤ 12 }
-    ensures { Wrote (list.yielding below (length out.old) state) result out.old out.new }
+#[cycle(items)]
+fn put_yielding(out: &mut [u8], below: usize, draws: &mut Draws) -> usize
+    requires { 18 ≤ length out.old }
+    ensures { Wrote (list.yielding below (length out.old) draws.old.state) result draws.new.state out.old out.new }
 {
     if below == 0 {
-        return close(out, tag::BLOCK as u8, nothing(state));
+        return put_node(out, tag::BLOCK, &[], below, draws);
     }
-    let row = expressions(&mut out[3..], below - 1, 1, state);
-    close(out, tag::EXPR_STMT as u8, row)
-}
-
-// The definition of c or none, and so many statements.
-fn third_row(out: &mut [u8], k: u32, n: usize, state: u32) -> Grown
-    requires n_in_bounds { 18 + 18 * n ≤ length out.old }
-    requires n_bound { n ≤ 8 }
-    ensures { WroteAll (row (last_definitions k ++ times n (a_statement 10)) (length out.old) state) result out.old out.new }
-{
-    if k == 0 {
-        return statements(out, STATEMENT_LEVELS, n, state);
-    }
-    let first = leaf::put_definition(out, 2, state);
-    let rest = statements(&mut out[18..], STATEMENT_LEVELS, n, first.state);
-    joined(18, rest)
-}
-
-// The definitions of b and perhaps c, and so many statements.
-fn second_row(out: &mut [u8], k: u32, n: usize, state: u32) -> Grown
-    requires n_in_bounds { 36 + 18 * n ≤ length out.old }
-    requires n_bound { n ≤ 8 }
-    ensures { WroteAll (row (later_definitions k ++ times n (a_statement 10)) (length out.old) state) result out.old out.new }
-{
-    let first = leaf::put_definition(out, 1, state);
-    let rest = third_row(&mut out[18..], k, n, first.state);
-    joined(18, rest)
-}
-
-// The definitions of a, b and perhaps c, and so many statements.
-fn program_row(out: &mut [u8], k: u32, n: usize, state: u32) -> Grown
-    requires n_in_bounds { 54 + 18 * n ≤ length out.old }
-    requires n_bound { n ≤ 8 }
-    ensures { WroteAll (row (definitions k ++ times n (a_statement 10)) (length out.old) state) result out.old out.new }
-{
-    let first = leaf::put_definition(out, 0, state);
-    let rest = second_row(&mut out[18..], k, n, first.state);
-    joined(18, rest)
+    put_node(out, tag::EXPR_STMT, &[Expression], below - 1, draws)
 }
 
 // The tree of a seed, in a buffer of as many bytes as a tree may take.
-fn program(out: &mut [u8], seed: u32) -> Grown
+fn put_program(out: &mut [u8], draws: &mut Draws) -> usize
     requires { length out.old ≡ 2048 }
-    ensures { Wrote (list.program seed) result out.old out.new }
+    ensures { Wrote (list.program draws.old.state) result draws.new.state out.old out.new }
 {
-    let s = step(seed);
-    let t = step(s);
-    let k = choice(s, 4);
-    let n = 1 + choice(t, 8) as usize;
-    let row = program_row(&mut out[3..], k, n, t);
-    close(out, tag::PROGRAM as u8, row)
+    let with_c = draws.draw(4) != 0;
+    let n = 1 + draws.draw(8);
+    if with_c {
+        return put_node(
+            out,
+            tag::PROGRAM,
+            &PROGRAM_WITH_C[..3 + n],
+            STATEMENT_LEVELS,
+            draws,
+        );
+    }
+    put_node(
+        out,
+        tag::PROGRAM,
+        &PROGRAM[..2 + n],
+        STATEMENT_LEVELS,
+        draws,
+    )
 }
 
 // Writes the tree of a seed to the output; or refuses, 15, where it is too short, and leaves it as it was.
@@ -485,14 +290,13 @@ pub fn make_tree(seed: u32, output: &mut [u8]) -> Result<usize, Refusal>
     ensures writes { output.new ≡ output_after (tree_of seed) output.old }
 {
     let mut tree = [0u8; TREE_MOST];
-    let grown = program(&mut tree, seed);
-    let n = grown.len;
+    let n = put_program(&mut tree, &mut Draws { state: seed });
     if output.len() < n {
         return Err(Refusal {
             reason: Reason::OutputShort,
             place: 0,
         });
     }
-    session::write::copy(output, 0, &tree[..n]);
+    output[..n].copy_from_slice(&tree[..n]);
     Ok(n)
 }

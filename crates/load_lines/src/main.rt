@@ -13,32 +13,22 @@ const SEEDS: u32 = 1000;
 // The number of the refusal of a tree, 0 where it is accepted.
 fn outcome(tree: &[u8]) -> u64 {
     let mut output = [0u8; SESSION_SIZE];
-    match compile_fresh(tree, &mut output) {
-        Ok(_) => 0,
-        Err(r) => r.reason.number(),
-    }
-}
-
-// Writes a line of three numbers.
-fn print_line(rt: &impl Print, seed: u32, length: usize, number: u64) -> io::Result<()> {
-    println!(rt; "{seed} {length} {number}")
-}
-
-// Writes the line of a tree, the first bytes of what is given.
-fn print_tree_line(rt: &impl Print, seed: u32, tree: &[u8], length: usize) -> io::Result<()> {
-    match tree.get(..length) {
-        Some(tree) => print_line(rt, seed, length, outcome(tree)),
-        None => Ok(()),
-    }
+    compile_fresh(tree, &mut output)
+        .err()
+        .map_or(0, |refusal| refusal.reason.number())
 }
 
 // Writes the line of a seed. A tree always fits.
 fn print_seed_line(rt: &impl Print, seed: u32) -> io::Result<()> {
-    let mut tree = [0u8; TREE_MOST];
-    match load::make_tree(seed, &mut tree) {
-        Ok(n) => print_tree_line(rt, seed, &tree, n),
-        Err(_) => Ok(()),
-    }
+    let mut lent = [0u8; TREE_MOST];
+    let Ok(length) = load::make_tree(seed, &mut lent) else {
+        return Ok(());
+    };
+    let Some(tree) = lent.get(..length) else {
+        return Ok(());
+    };
+    let number = outcome(tree);
+    println!(rt; "{seed} {length} {number}")
 }
 
 fn main(rt: HostRuntime) -> io::Result<()> {

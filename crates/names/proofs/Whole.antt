@@ -11,14 +11,20 @@ use Rattle.records.specs.Call.{over_records, call_records}
 use Rattle.records.specs.declared.Record.{Record}
 use Rattle.compiler.specs.Stage.{lent_of}
 use Rattle.trace.specs.Log.{log_of}
-use Rattle.trace.specs.Promise.{Traces, without_log}
+use Rattle.std.specs.Prelude.{Result, Ok, Err}
+use Rattle.std.specs.Result.{IsErrAnd}
+use Rattle.definition.specs.Limit.{code_size}
+use Rattle.definition.specs.Call.{cleared}
+use Rattle.definition.specs.declared.reason.Refusal.{Refusal}
+use Rattle.definition.proofs.Basic.{passed_on}
+use Rattle.trace.specs.Promise.{answer_of, count_of, Traces, without_log}
 use Rattle.trace.specs.declared.CallTrace.{CallTrace}
 use Rattle.names.specs.Rows.{rows_of, filled, filled_records}
 use Rattle.names.specs.Promise.{blanks, call_names, Names, Records}
 use Rattle.names.proofs.Rows.{length_log, filled-rows, filled-records}
 
 -- the numbers and the log have room for the records
-rows_room : {tree : Bytes} {l : Lent} (xs : List ℕ) {t : CallTrace} {l' : Lent} → Traces tree l (length xs / 4) t l' → 4 * t.count ≤ length xs
+rows_room : {tree : Bytes} {l : Lent} (xs : List ℕ) {t : Result CallTrace Refusal} {l' : Lent} → Traces tree l (length xs / 4) t l' → 4 * (count_of t) ≤ length xs
 rows_room xs h = omega (arith, h.within)
 
 -- the written records are the log's
@@ -26,28 +32,45 @@ written : (l : Bytes) (n : ℕ) (rs : List Record) → take n (over_records (rev
 written l n rs = take_at (reverse (log_of l n)) _ n (length-reverse (log_of l n) ∙ length_log l n)
 
 -- the call, the filled rows and the cleared log are the definition's call
-pub named-call : {tree : Bytes} {l : Lent} {xs xs' : List ℕ} {t : CallTrace} {e o c t' : List ℕ} {c' : Bytes} → Traces tree l (length xs / 4) t (lent_of e o c t') → xs' ≡ filled c t.count xs → c' ≡ without_log t.answer c
+pub named-call : {tree : Bytes} {l : Lent} {xs xs' : List ℕ} {t : Result CallTrace Refusal} {e o c t' : List ℕ} {c' : Bytes} → Traces tree l (length xs / 4) t (lent_of e o c t') → xs' ≡ filled c (count_of t) xs → c' ≡ without_log (answer_of t) c
     → Names tree l xs t (lent_of e o c' t') xs'
 unfolding call_names
 named-call {tree} {l} {xs} {xs'} {t} {e} {o} {c} {t'} {c'} h f g =
     let rs : List Record = blanks (length xs / 4) in
     let size : length rs ≡ length xs / 4 = length-replicate (length xs / 4) _ in
-    let front : take t.count (call_records tree l rs).records ≡ reverse (log_of c t.count) = ap (take t.count) (sym (h.records rs size)) ∙ written c t.count rs in
+    let front : take (count_of t) (call_records tree l rs).records ≡ reverse (log_of c (count_of t)) = ap (take (count_of t)) (sym (h.records rs size)) ∙ written c (count_of t) rs in
     record {
       answer = h.answer rs size;
       count = h.count rs size;
       lent = λ i. lent_of (h.session rs size i) (h.output rs size i) ((g ∙ h.code rs size) i) (h.table rs size i);
       few = h.few;
-      rows = f ∙ filled-rows c t.count xs (rows_room xs h) ∙ (λ i. rows_of (sym front i) ++ drop (4 * t.count) xs) ∙ (λ i. rows_of (take (h.count rs size i) (call_records tree l rs).records) ++ drop (4 * h.count rs size i) xs);
+      rows = f ∙ filled-rows c (count_of t) xs (rows_room xs h) ∙ (λ i. rows_of (sym front i) ++ drop (4 * (count_of t)) xs) ∙ (λ i. rows_of (take (h.count rs size i) (call_records tree l rs).records) ++ drop (4 * h.count rs size i) xs);
     }
 
--- the call, the filled records and the cleared log are the definition's call: what a caller of `compile_log`, `fill_records` and `clear_log` has
-pub recorded-call : {tree : Bytes} {l : Lent} {rs rs' : List Record} {t : CallTrace} {e o c t' : List ℕ} {c' : Bytes} → Traces tree l (length rs) t (lent_of e o c t') → rs' ≡ filled_records c t.count rs → c' ≡ without_log t.answer c
+-- the call, the filled records and the cleared log are the definition's call: what a caller of `compile_log`, `fill_records` and `clear_code` has
+pub recorded-call : {tree : Bytes} {l : Lent} {rs rs' : List Record} {t : Result CallTrace Refusal} {e o c t' : List ℕ} {c' : Bytes} → Traces tree l (length rs) t (lent_of e o c t') → rs' ≡ filled_records c (count_of t) rs → c' ≡ without_log (answer_of t) c
     → Records tree l rs t (lent_of e o c' t') rs'
 recorded-call {rs = rs} {t = t} {c = c} h f g =
     record {
       answer = h.answer rs refl;
       count = h.count rs refl;
       lent = λ i. lent_of (h.session rs refl i) (h.output rs refl i) ((g ∙ h.code rs refl) i) (h.table rs refl i);
-      records = f ∙ filled-records c t.count rs h.within ∙ h.records rs refl;
+      records = f ∙ filled-records c (count_of t) rs h.within ∙ h.records rs refl;
     }
+
+-- As the code takes them: the call was accepted, and its records were written, or refused
+module _ {tree : Bytes} {l : Lent} {xs : List ℕ} {t : Result CallTrace Refusal} {e o c t' : List ℕ} (h : Traces tree l (length xs / 4) t (lent_of e o c t')) where
+  pub named_on : {k : CallTrace} {xs' : List ℕ} {c' : Bytes} → t ≡ Ok k → xs' ≡ filled c k.count xs → c' ≡ cleared code_size c → Names tree l xs (Ok k) (lent_of e o c' t') xs'
+  named_on q f g = named-call (rw q at h) f g
+
+  pub named_stop : {r : Result CallTrace Refusal} {z : Refusal} → t ≡ Err z → IsErrAnd r (λ y. y ≡ z) → Names tree l xs r (lent_of e o c t') xs
+  unfolding filled
+  named_stop q u = rw (passed_on u) (named-call (rw q at h) refl refl)
+
+module _ {tree : Bytes} {l : Lent} {rs : List Record} {t : Result CallTrace Refusal} {e o c t' : List ℕ} (h : Traces tree l (length rs) t (lent_of e o c t')) where
+  pub recorded_on : {k : CallTrace} {rs' : List Record} {c' : Bytes} → t ≡ Ok k → rs' ≡ filled_records c k.count rs → c' ≡ cleared code_size c → Records tree l rs (Ok k) (lent_of e o c' t') rs'
+  recorded_on q f g = recorded-call (rw q at h) f g
+
+  pub recorded_stop : {r : Result CallTrace Refusal} {z : Refusal} → t ≡ Err z → IsErrAnd r (λ y. y ≡ z) → Records tree l rs r (lent_of e o c t') rs
+  unfolding filled_records
+  recorded_stop q u = rw (passed_on u) (recorded-call (rw q at h) refl refl)

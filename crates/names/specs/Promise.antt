@@ -1,5 +1,5 @@
 -- A compile call with records whose caller lends numbers, four for each record; and what the function that does it promises.
-use Rattle.std.specs.Prelude.{ℕ, ◌*◌, ◌/◌, ◌≤◌, ◌≡◌, List, ◌++◌, length, take, drop, replicate}
+use Rattle.std.specs.Prelude.{ℕ, ◌*◌, ◌/◌, ◌≤◌, ◌≡◌, List, ◌++◌, length, take, drop, replicate, Result}
 use Rattle.definition.specs.Basic.{Bytes}
 use Rattle.definition.specs.Limit.{code_size}
 use Rattle.definition.specs.Call.{Lent, Called}
@@ -7,6 +7,8 @@ use Rattle.records.specs.Call.{Recorded, call_records}
 use Rattle.records.specs.declared.Kind.TheVariants.{Global}
 use Rattle.records.specs.declared.Record.{Record}
 use Rattle.trace.specs.declared.CallTrace.{CallTrace}
+use Rattle.trace.specs.Promise.{answer_of, count_of}
+use Rattle.definition.specs.declared.reason.Refusal.{Refusal}
 use Rattle.names.specs.Rows.{rows_of}
 
 -- what the call has: what the plain call has, the count, and the numbers afterwards
@@ -28,16 +30,16 @@ unfoldable pub call_names : Bytes → Lent → List ℕ → Named
 call_names tree l xs = named xs (call_records tree l (blanks (length xs / 4)))
 
 -- answer, count, numbers and all lent memory are the definition's; the count is small
-pub record Names (tree : Bytes) (l : Lent) (xs : List ℕ) (r : CallTrace) (l' : Lent) (xs' : List ℕ) : Type 0 where
-  pub answer : r.answer ≡ (call_names tree l xs).called.answer
-  pub count : r.count ≡ (call_names tree l xs).count
+pub record Names (tree : Bytes) (l : Lent) (xs : List ℕ) (r : Result CallTrace Refusal) (l' : Lent) (xs' : List ℕ) : Type 0 where
+  pub answer : answer_of r ≡ (call_names tree l xs).called.answer
+  pub count : count_of r ≡ (call_names tree l xs).count
   pub lent : l' ≡ (call_names tree l xs).called.lent
   pub rows : xs' ≡ (call_names tree l xs).rows
-  pub few : 4 * r.count ≤ code_size
+  pub few : 4 * count_of r ≤ code_size
 
 -- the same of a caller's records, over which `fill_records` has written
-pub record Records (tree : Bytes) (l : Lent) (rs : List Record) (r : CallTrace) (l' : Lent) (rs' : List Record) : Type 0 where
-  pub answer : r.answer ≡ (call_records tree l rs).called.answer
-  pub count : r.count ≡ (call_records tree l rs).count
+pub record Records (tree : Bytes) (l : Lent) (rs : List Record) (r : Result CallTrace Refusal) (l' : Lent) (rs' : List Record) : Type 0 where
+  pub answer : answer_of r ≡ (call_records tree l rs).called.answer
+  pub count : count_of r ≡ (call_records tree l rs).count
   pub lent : l' ≡ (call_records tree l rs).called.lent
   pub records : rs' ≡ (call_records tree l rs).records

@@ -7,9 +7,11 @@ ghost use Rattle.compiler.specs.Stage.{lent_of};
 ghost use Rattle.names.specs.Rows.{row_of, filled, filled_records, Small};
 ghost use Rattle.names.specs.Promise.{Names, Records};
 
+use compiler::clear_code;
+use definition::Refusal;
 use records::Record;
 use trace::log::record_at;
-use trace::{CallTrace, clear_log, compile_log};
+use trace::{CallTrace, compile_log};
 
 // Writes a record over four numbers.
 fn put_row(rows: &mut [u32], i: usize, r: Record)
@@ -54,15 +56,14 @@ pub fn compile_names(
     code: &mut [u8],
     table: &mut [u32],
     rows: &mut [u32],
-) -> CallTrace
+) -> Result<CallTrace, Refusal>
     ensures { Names tree.now (lent_of session.old output.old code.old table.old) rows.old result (lent_of session.new output.new code.new table.new) rows.new }
 {
     let room = rows.len() / 4;
-    let t = compile_log(session, tree, output, code, table, room);
-    let answer = t.answer;
+    let t = compile_log(session, tree, output, code, table, room)?;
     fill_rows(rows, code, t.count);
-    clear_log(code, answer);
-    t
+    clear_code(code);
+    Ok(t)
 }
 
 // Compiles a tree in a session as `compile` does, and writes the records of its Identifiers in walk order over the caller's; 18 where those are too few.
@@ -73,11 +74,11 @@ pub fn compile_with_records(
     code: &mut [u8],
     table: &mut [u32],
     records: &mut [Record],
-) -> CallTrace
+) -> Result<CallTrace, Refusal>
     ensures { Records tree.now (lent_of session.old output.old code.old table.old) records.old result (lent_of session.new output.new code.new table.new) records.new }
 {
-    let t = compile_log(session, tree, output, code, table, records.len());
+    let t = compile_log(session, tree, output, code, table, records.len())?;
     fill_records(records, code, t.count);
-    clear_log(code, t.answer);
-    t
+    clear_code(code);
+    Ok(t)
 }

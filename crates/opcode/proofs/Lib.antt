@@ -5,3 +5,4 @@ pub mod Encoding
 pub mod Valid
 pub mod Words
 pub mod RoundTrip
+pub mod EachInstruction

@@ -1,6 +1,7 @@
 // Instructions on bytes: the operand length of every first byte, decoding, encoding, and the words of the listing.
 #![tactic(auto)]
 
+pub mod instructions;
 pub mod opcodes;
 pub mod table;
 
@@ -160,23 +161,18 @@ pub fn decode(code: &[u8]) -> Result<Decoded, Refusal>
 fn operand_bound(w: u8) -> usize
     ensures { result ≡ operand_bound w }
 {
-    if w == 0 {
-        return 1;
+    match w {
+        0 => 1,
+        1 => 256,
+        _ => 65536,
     }
-    if w == 1 {
-        return 256;
-    }
-    65536
 }
 
 // What the captures are below, by the number of operand bytes.
 fn captures_bound(w: u8) -> usize
     ensures { result ≡ captures_bound w }
 {
-    if w < 3 {
-        return 1;
-    }
-    256
+    if w < 3 { 1 } else { 256 }
 }
 
 // Whether the bytes of an instruction can hold it: a known byte, and 0 for an operand that it does not have.

@@ -5,6 +5,7 @@ ghost use Rattle.report.specs.Fresh.{fresh_lent};
 
 use definition::Refusal;
 use definition::limit::{CODE_SIZE, SESSION_SIZE, TABLE_SIZE};
+use std::io;
 
 // Compiles a tree in a fresh session.
 pub fn compile_fresh(tree: &[u8], output: &mut [u8]) -> Result<usize, Refusal>
@@ -16,4 +17,16 @@ pub fn compile_fresh(tree: &[u8], output: &mut [u8]) -> Result<usize, Refusal>
     let mut code = [0u8; CODE_SIZE];
     let mut table = [0u32; TABLE_SIZE];
     compiler::compile(&mut session, tree, output, &mut code, &mut table)
+}
+
+// Compiles a tree in a fresh session, and writes its image; or its refusal, behind a program's name.
+pub fn write_compiled(rt: &(impl Print + Eprint), program: &str, tree: &[u8]) -> io::Result<()> {
+    let mut output = [0u8; SESSION_SIZE];
+    match compile_fresh(tree, &mut output) {
+        Ok(n) => crate::write_first(rt, &output, n),
+        Err(r) => {
+            rt.eprint(program)?;
+            crate::print_in_tree(rt, r)
+        }
+    }
 }

@@ -8,7 +8,7 @@ ghost use Rattle.std.specs.Prelude.{◌≡◌, ◌+◌, ◌<◌, ◌≤◌, leng
 ghost use Rattle.std.specs.Io.KnownBytes.{Consumes, IsAtEnd};
 
 use definition::{Reason, Refusal};
-pub use fresh::compile_fresh;
+pub use fresh::{compile_fresh, write_compiled};
 pub use recorded::{Counts, as_recorded, open_cases};
 use std::io;
 use std::io::Read;

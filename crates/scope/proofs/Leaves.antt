@@ -15,7 +15,7 @@ use Rattle.definition.specs.Opcode.{Instr, instr, plain, size, bytes_of, op_pop,
 use Rattle.definition.specs.Walk.{on, refuse, bind, Go}
 use Rattle.definition.specs.Compiler.{unpatched}
 use Rattle.definition.specs.declared.reason.Refusal.{Refusal}
-use Rattle.definition.proofs.Basic.{both_left}
+use Rattle.definition.proofs.Basic.{both_left, passed_on}
 use Rattle.scope.specs.declared.Chunk.{Chunk}
 use Rattle.scope.specs.declared.State.{State}
 use Rattle.scope.specs.Walked.{Walked}
@@ -30,7 +30,6 @@ use Rattle.scope.specs.Code.{length_of, jump_and_patch}
 use Rattle.definition.specs.declared.reason.Reason.{Reason}
 use Rattle.scope.specs.declared.Stopped.{Stopped}
 use Rattle.std.specs.Result.{IsErrAnd}
-use Rattle.std.proofs.lemmas.Result.{err_from_is_err_and}
 
 -- a walk that goes on
 pub ready_on : {c : Bytes} {w : Walked} {s : State} → w ≡ Ok s → Ready c w → Ready c (Ok s)
@@ -49,9 +48,6 @@ pub last_within : (o : ℕ) (c : Bytes) (k : Chunk) {b : Bool} → b ≡ last_is
 last_within o c k l t = ltb-true k.last k.len (both_left (ltb k.last k.len) (eqb (byte_at c (k.start + k.last)) o) (sym l ∙ t))
 
 -- a walk that has stopped stays as it is, passed on by `?`
-pub passed_on : {r : Walked} {z : Stopped} → IsErrAnd r (λ y. y ≡ z) → r ≡ Err z
-passed_on {r} h = let p = err_from_is_err_and r h in p.1 ∙ ap Err p.2
-
 pub stays : {c : Bytes} {w r : Walked} {z : Stopped} {k : Go View} → w ≡ Err z → IsErrAnd r (λ y. y ≡ z) → Ready c w → Done c c w r k
 stays {c} {w} {r} {z} {k} e q h = rw (e, passed_on q) (record { step = λ e y. refl; ready = record { area = h.area; sound = tt }; same = refl })
 

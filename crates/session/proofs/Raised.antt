@@ -9,8 +9,8 @@ use Rattle.std.proofs.lemmas.List.Edits.{sets-eq}
 use Rattle.std.specs.List.{copy_within}
 use Rattle.definition.specs.Basic.{Bytes}
 use Rattle.definition.specs.SymbolTable.{builtins}
-use Rattle.definition.specs.Session.{Words, six, listed, words_field}
-use Rattle.session.specs.Write.{finished, raised, written_back}
+use Rattle.definition.specs.Session.{listed, words_field}
+use Rattle.session.specs.Write.{raised}
 use Rattle.session.proofs.Stores.{sets_before}
 
 -- the bytes before an offset, copied within
@@ -23,15 +23,3 @@ moved-up e end by h p =
 -- the six words' field in front of what was moved up
 pub six_raised : (e : Bytes) (end : ℕ) {m r : Bytes} → end + 45 ≤ length e → m ≡ copy_within e 0 end 45 → r ≡ sets m 0 (words_field (listed builtins)) → r ≡ raised end e
 six_raised e end h p q = q ∙ ap (λ m. sets m 0 (words_field (listed builtins))) (moved-up e end 45 (omega arith) p) ∙ sets_before e 0 (words_field (listed builtins)) (take end e) refl
-
--- Writing back
-
--- two fields
-pub back_raised : (w : Words) (end : ℕ) (pool s : Bytes) {start : ℕ} {m r : Bytes} → start ≡ 0 → start ≡ length (words_field w) → m ≡ raised end s → r ≡ finished 45 (end + 45) pool m → r ≡ written_back w end pool s
-back_raised six end pool s z e p q = q ∙ ap (finished 45 (end + 45) pool) p
-back_raised (listed ws) end pool s z e p q = absurd (omega arith)
-
--- three fields
-pub back_in_place : (w : Words) (end : ℕ) (pool s : Bytes) (start : ℕ) {r : Bytes} → (start ≡ 0 → ⊥) → start ≡ length (words_field w) → r ≡ finished start end pool s → r ≡ written_back w end pool s
-back_in_place six end pool s start n e q = absurd (n e)
-back_in_place (listed ws) end pool s start n e q = q ∙ ap (λ start. finished start end pool s) e

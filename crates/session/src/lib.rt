@@ -32,6 +32,7 @@ pub fn write_fresh(session: &mut [u8]) -> Result<usize, Refusal>
 }
 
 // Writes the head of the names, which begin at an offset and end at another, and the pool behind them.
+// Kept: offsets and no slice, since bytes before, between and behind them belong to the one session that is written.
 pub fn finish_session(session: &mut [u8], start: usize, end: usize, pool: &[u8])
     requires { (start + 3 ≤ end) × (end + (3 + length pool.now) ≤ length session.old) }
     ensures { session.new ≡ finished start end pool.now session.old }

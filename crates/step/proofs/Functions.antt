@@ -29,7 +29,7 @@ use Rattle.step.proofs.Memory.{stop_deeper, on_deeper, refuses_is}
 use Rattle.definition.specs.declared.reason.Reason.{Reason}
 use Rattle.scope.specs.declared.Stopped.{Stopped}
 use Rattle.std.specs.Result.{IsErrAnd}
-use Rattle.scope.proofs.Leaves.{passed_on}
+use Rattle.definition.proofs.Basic.{passed_on}
 
 -- a walk that goes on has its chunk within the code area
 pub sound_on : {w : Walked} {s : State} → w ≡ Ok s → Sound w → Fits s

@@ -17,7 +17,7 @@ use Rattle.step.specs.Contract.{Steps}
 use Rattle.definition.specs.declared.reason.Reason.{Reason}
 use Rattle.scope.specs.declared.Stopped.{Stopped}
 use Rattle.std.specs.Result.{IsErrAnd}
-use Rattle.scope.proofs.Leaves.{passed_on}
+use Rattle.definition.proofs.Basic.{passed_on}
 
 -- Steps in a row
 

@@ -23,11 +23,9 @@ fn loads_size(table: &[u32], level: usize, n: usize) -> usize
     ensures small { result ≤ 4 * n }
 {
     let mut size = 0;
-    let mut i = 0;
-    while i < n {
+    for i in 0..n {
         let l = load_of(original(table, level, i));
         size += 1 + l.operands;
-        i += 1;
     }
     size
 }
@@ -40,11 +38,9 @@ fn loads(code: &mut [u8], table: &[u32], w: Walked, place: usize, level: usize, 
     ensures { Done code.old code.new w result (machine.loads place (originals_of (part level table.now) n)) }
 {
     let mut v = w;
-    let mut i = 0;
-    while i < n {
+    for i in 0..n {
         let l = load_of(original(table, level, i));
         v = emit_operand(code, v, place, l.op, l.operands, l.operand as usize);
-        i += 1;
     }
     v
 }

@@ -26,6 +26,7 @@ use symbol_table::{DefineError, LookupError, Slot, load_of, resolve_name};
 const NESTING_LIMIT: u32 = limit::NESTING_LIMIT as u32;
 
 // A definition: the walk, and the instruction that will set it.
+// Kept: for the reason at `scope`'s Jumped.
 #[derive(Clone, Copy)]
 pub struct Defining {
     pub walked: Walked,
@@ -34,6 +35,7 @@ pub struct Defining {
 }
 
 // A constant that was added, and its index.
+// Kept: for the reason at `scope`'s Jumped.
 #[derive(Clone, Copy)]
 pub struct Added {
     pub walked: Walked,

@@ -83,15 +83,3 @@ module _ (tree : Bytes) (r : List ℕ) (n : Bytes) where
       ap (λ m. find n (back (entry_of tree) r entries_at m)) (sym e) ∙ over k (from - k) (λ i l. g i (omega arith)) (λ i l m q. p.others i l (omega arith) (q ∙ sym t))
 
 -- Passing over
-
-pub passed_none : (r : List ℕ) (from tag : ℕ) → PassedOver r from tag from
-passed_none r from tag = record { order = omega arith; others = λ i l m. absurd (omega arith) }
-
--- one more of another tag
-pub passed_more : (r : List ℕ) (from tag k : ℕ) → 0 < k → (tag_in (get_or r (entries_at + (k - 1)) 0) ≡ tag → ⊥) → PassedOver r from tag k → PassedOver r from tag (k - 1)
-passed_more r from tag k h d p =
-    record {
-      order = omega (arith, p.order);
-      others = λ i l m q.
-          ⊎_elim (λ (e : k - 1 ≡ i). d (ap (λ j. tag_in (get_or r (entries_at + j) 0)) e ∙ q)) (λ (b : k - 1 < i). p.others i (omega arith) m q) (eq-or-lt_of_le {n = k - 1} {m = i} l);
-    }

@@ -17,8 +17,7 @@ use Rattle.symbol_table.specs.Store.{free_in}
 use Rattle.symbol_table.specs.Contract.{Crosses}
 use Rattle.std.specs.Prelude.{Ok, Err}
 use Rattle.symbol_table.specs.declared.Found.{Found}
-use Rattle.symbol_table.specs.declared.LookupError.{LookupError}
-use Rattle.symbol_table.specs.declared.LookupError.TheVariants.{Undefined, Full}
+use Rattle.symbol_table.specs.declared.LookupError.TheVariants.{Full}
 use Rattle.symbol_table.proofs.Back.{length_back}
 use Rattle.symbol_table.proofs.Codes.{symbol_free}
 use Rattle.symbol_table.proofs.Tables.{free-table, free_part}
@@ -47,10 +46,6 @@ unfolding table_of
 originals tree r = length_back symbol_of r originals_at (get_or r 2 0)
 
 module _ (r : List ℕ) (name hash : ℕ) where
-  pub crosses_refused : (e : LookupError) → Crosses name hash (Err e) (Err e) r r
-  crosses_refused Undefined = record { resolved = λ tree ts. refl; further = tt; good = λ ws gs tree n g. g }
-  crosses_refused Full = record { resolved = λ tree ts. refl; further = tt; good = λ ws gs tree n g. g }
-
   pub crosses_far : (f : Found) → 768 ≤ f.code → Crosses name hash (Ok f) (Ok (record { code = f.code; crossed = f.crossed + 1 })) r r
   crosses_far f h = record { further = refl; resolved = λ tree ts. sym (far_crosses (content tree name) (table_of tree r) ts f.code h); good = λ ws gs tree n g. g }
 

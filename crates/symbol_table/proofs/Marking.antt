@@ -61,15 +61,6 @@ module _ (r q : List ℕ) (code : ℕ) (size : length q ≡ part_size) (b : Begi
   next_count : (j : ℕ) → (j ≡ marked_at → ⊥) → get_or (set q marked_at (get_or r marked_at 0 + 1)) j 0 ≡ get_or q j 0
   next_count j d = get_or-set_other q marked_at j (get_or r marked_at 0 + 1) 0 d
 
-  pub next_none : code < 768 → MarksNext code r (set q marked_at (get_or r marked_at 0 + 1))
-  next_none h =
-      record {
-        same = λ j l. next_count j (omega arith) ∙ b.same j (omega arith);
-        count = get_or-set_same q marked_at (get_or r marked_at 0 + 1) 0 (omega arith);
-        kept = λ c p k. rw (next_count (marks_at + c % marks_count / 32) (omega arith)) (b.kept c p k);
-        new = λ l. absurd (omega arith);
-      }
-
   pub next_marked : MarksNext code r (mark_in (set q marked_at (get_or r marked_at 0 + 1)) code)
   unfolding mark_in
   next_marked =

@@ -3,7 +3,7 @@ use Prim.Native.Nat.{ℕ, ◌+◌, ◌≤◌, ◌<◌}
 use mathlib.Core.Path.{◌≡◌, refl, sym, ap, subst, ◌∙◌}
 use mathlib.Core.Bool.{Bool, true, false}
 use mathlib.Core.List.{List, [], ◌∷◌, reverse}
-use mathlib.Core.Option.{none, some}
+use mathlib.Core.Option.{some}
 use native.Mathlib.Omega.{arith}
 use lib.ListN.{length}
 use lib.Dec.{lit≤}
@@ -16,7 +16,7 @@ use Rattle.definition.specs.Session.{Words, six, listed, in_order}
 use Rattle.definition.specs.Decode.{Decoded, decoded, malformed, then, as_words, read_name_fields, read_words, list_in, words_in}
 use Rattle.field.specs.Layout.{after}
 use Rattle.field.specs.Row.{RowTo, HasRow, found_of}
-use Rattle.std.specs.Prelude.{Option, Some, None}
+use Rattle.std.specs.Prelude.{Option, Some}
 use Rattle.field.proofs.Reading.{items-row, Filled, filled, names-read}
 use Rattle.field.proofs.Rows.{row_same}
 use Rattle.symbol_table.specs.Layout.{symbol_of}
@@ -40,9 +40,6 @@ module _ {b : Bytes} {from to : ℕ} (g : HasRow b from to) (few : (h : HasRow b
 
   pub word_hit : {k : ℕ} → f ≡ Some k → (h : HasRow b from to) → some (symbol_of (768 + k)) ≡ as_symbol Symbol.builtin (find_builtin name h.names 0)
   word_hit {k} q h = ap some (symbol_builtin k (omega (arith, word_index q))) ∙ ap (as_symbol Symbol.builtin) (sym (ap found_of q) ∙ e h)
-
-  pub word_none : f ≡ None → (h : HasRow b from to) → none ≡ as_symbol Symbol.builtin (find_builtin name h.names 0)
-  word_none q h = ap (as_symbol Symbol.builtin) (sym (ap found_of q) ∙ e h)
 
 -- the fields of a part have the names of any reading
 pub few_names : {b : Bytes} {from to n : ℕ} (g : HasRow b from to) → length g.names ≤ n → (h : HasRow b from to) → length h.names ≤ n

@@ -1,13 +1,12 @@
 -- All entries of the function at a level are marked, one after the other.
 use Prim.Native.Nat.{ℕ, ◌+◌, ◌≤◌, ◌<◌}
-use mathlib.Core.Path.{◌≡◌, refl, ◌∙◌}
-use mathlib.Core.Bool.{true, false}
+use mathlib.Core.Path.{◌≡◌, ◌∙◌}
+use mathlib.Core.Bool.{true}
 use mathlib.Core.List.{List}
 use native.Mathlib.Omega.{arith}
 use lib.ListN.{length, get_or, take}
 use Rattle.definition.specs.Basic.{Bytes}
 use Rattle.field.specs.Layout.{content}
-use Rattle.symbol_table.specs.Name.{Stands}
 use Rattle.symbol_table.specs.Layout.{globals_size, part_size, entries_at, marked_at, base, part, name_in, entries, table_of, GoodTable, IsMarked, GoodPart}
 use Rattle.symbol_table.specs.Contract.{Inside, MarksNext, Remarked, Outermost, MarksAll, Absent}
 use Rattle.symbol_table.proofs.Slices.{take-agree}
@@ -40,27 +39,11 @@ module _ (ws gs : List Bytes) (tree : Bytes) (l : ℕ) (a₀ : List ℕ) (g : Go
     pub globals_then : take globals_size a ≡ take globals_size a₀
     globals_then = take-agree globals_size (base l) a a₀ (omega arith) x.below
 
-  -- the marks as they are
-  pub remarked_none : Inside (Remarked ws gs tree) l a₀ a₀
-  remarked_none = record { here = record { size = g.table.sized.size; same = λ j h. refl; marks = g.marks }; below = refl; above = refl }
-
-  pub marks-start : Marks ws gs tree l (get_or (part l a₀) marked_at 0) a₀ a₀
-  marks-start = record { remarked = remarked_none; count = refl; order = g.marks.order; size = refl }
-
   module _ (i : ℕ) (a : List ℕ) (x : Marks ws gs tree l i a₀ a) where
     same_entries : entries (part l a) ≡ entries (part l a₀)
     same_entries = entries_then a x.remarked
 
-    pub marks_done : entries (part l a₀) ≤ i → MarksAll ws gs tree l a₀ a
-    marks_done h = record { remarked = x.remarked; all = x.count ∙ omega (arith, same_entries, x.order) }
-
     module _ (h : i < entries (part l a₀)) where
-      pub marks_stands : Stands tree (name_in (get_or (part l a) (entries_at + i) 0))
-      marks_stands = ((good_then a x.remarked).each i (omega (arith, same_entries))).stands
-
-      pub marks_few : get_or (part l a) marked_at 0 < 1024
-      marks_few = omega (arith, x.count, g.table.sized)
-
       pub marks_next : (code : ℕ) (a' : List ℕ) → base l + part_size ≤ length a₀ → Outermost ws gs (content tree (name_in (get_or (part l a) (entries_at + i) 0))) code → length a' ≡ length a → Inside (MarksNext code) l a a' → Marks ws gs tree l (i + 1) a₀ a'
       marks_next code a' fits o size y =
           record {
@@ -78,14 +61,7 @@ module _ (ws gs : List Bytes) (tree : Bytes) (l : ℕ) (a₀ : List ℕ) (g : Go
             size = size ∙ x.size;
           }
 
-  -- whether a name is absent
-  pub absent_unknown : (code : ℕ) → Absent ws gs tree l code false a₀ a₀
-  absent_unknown code = record { absent = λ e. absurd (let z : ◌≡◌ {A = ℕ} 0 1 = cc in omega arith); remarked = remarked_none }
-
   module _ (code : ℕ) (a : List ℕ) (x : MarksAll ws gs tree l a₀ a) where
-    pub absent_marked : Absent ws gs tree l code false a₀ a
-    absent_marked = record { absent = λ e. absurd (let z : ◌≡◌ {A = ℕ} 0 1 = cc in omega arith); remarked = x.remarked }
-
     pub absent_clear : 768 ≤ code → (IsMarked (part l a) code → ⊥) → Absent ws gs tree l code true a₀ a
     absent_clear far clear =
         record {

@@ -14,7 +14,7 @@ use Rattle.definition.specs.SymbolTable.{Symbol, same}
 use Rattle.field.specs.Layout.{content}
 use Rattle.symbol_table.specs.Name.{buckets, hash_of}
 use Rattle.symbol_table.specs.Search.{nodes_at, side_of, child_of, latest_of, with_child, with_latest, Node, name_of, next_of, Way, ends, hits, goes, Goes, hangs, follows, further}
-use Rattle.symbol_table.specs.Layout.{globals_size, heads_at, head_of, global_name, first_found, GlobalStands, Finds, found_on, GoodGlobals}
+use Rattle.symbol_table.specs.Layout.{globals_size, heads_at, global_name, first_found, GlobalStands, Finds, found_on, GoodGlobals}
 use Rattle.symbol_table.specs.Contract.{as_symbol}
 use Rattle.symbol_table.proofs.Growing.{way_none}
 
@@ -50,11 +50,6 @@ abbrev pub bytes_on : Bytes → Bytes → ℕ → Bytes
 bytes_on tree names side = pick (eqb side 0) names tree
 
 module _ (tree names : Bytes) (g : List ℕ) (n : Bytes) where
-  way_on : (x : Finds tree names g n) (side : ℕ) → side < 2 → Way (bytes_on tree names side) side g n 0 (head_of g n side) (found_on x side)
-  way_on x zero l = x.below_old
-  way_on x (suc zero) l = x.below_new
-  way_on x (suc (suc s)) l = absurd (omega arith)
-
   -- a search on a side
   pub record Sought (side k depth : ℕ) : Type 0 where
     pub deep : 0 < k → depth < k
@@ -73,9 +68,6 @@ module _ (tree names : Bytes) (g : List ℕ) (n : Bytes) where
             let e : get_or g k 0 % 65536 ≡ get_or g k 0 - 65536 = omega arith in
             rw (le-ltb (get_or g k 0) 65536 (omega arith), e)
         go (suc (suc s)) l p = absurd (omega arith)
-
-    pub sought_start : {hash k : ℕ} → hash ≡ hash_of n → k ≡ child_of (get_or g (heads_at + hash % buckets) 0) side → Sought side k 0
-    sought_start e z = record { deep = λ l. l; way = λ x. rw (z, e) (way_on x side two) }
 
     module _ {k depth : ℕ} (s : Sought side k depth) (there : 0 < k) where
       pub sought_node : Node (bytes_on tree names side) side g k
@@ -126,10 +118,6 @@ module _ (bytes : Bytes) (side : ℕ) (g : List ℕ) (n : Bytes) where
     pub found : Option ℕ
     pub way : Way bytes side g n depth k found
     pub rest : (p x : ℕ) → Goes bytes side g n depth at on p x → Goes bytes side g n 0 (heads_at + hash_of n % buckets) side p x
-
-  pub placing_start : {hash k : ℕ} {r : Option ℕ} → hash ≡ hash_of n → k ≡ child_of (get_or g (heads_at + hash % buckets) 0) side → Way bytes side g n 0 (child_of (get_or g (heads_at + hash % buckets) 0) side) r → Placing (heads_at + hash % buckets) side k 0
-  placing_start {hash} {k} {r} e z w =
-      record { deep = λ l. l; from = omega arith; to = omega arith; is = z; found = r; way = rw z w; rest = λ p x y. rw e at y }
 
   module _ {at on k depth : ℕ} (s : Placing at on k depth) (there : 0 < k) where
     pub placing_node : Node bytes side g k

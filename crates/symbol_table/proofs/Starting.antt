@@ -15,7 +15,9 @@ use Rattle.definition.specs.SymbolTable.{find_global}
 use Rattle.definition.specs.Decode.{decoded, items, read_name_field}
 use Rattle.definition.specs.Tag.{tag_names}
 use Rattle.field.specs.Layout.{after, content}
-use Rattle.field.proofs.Reading.{items_none, Next, items_next, IsRead, name_read, NamesRead, names-read}
+use Rattle.field.specs.Fields.{FieldsTo}
+use Rattle.field.proofs.EachField.{row_fields}
+use Rattle.field.proofs.Reading.{items-row, items_none, Next, items_next, IsRead, name_read, NamesRead, names-read}
 use Rattle.symbol_table.specs.Name.{Stands, buckets, hash_of}
 use Rattle.symbol_table.specs.Search.{child_of, ends}
 use Rattle.symbol_table.specs.Layout.{globals_size, heads_at, back, GoodGlobals, globals_of, Good}
@@ -31,6 +33,10 @@ pub record Begun (session : Bytes) (start end : ℕ) (g : List ℕ) (at : ℕ) :
   pub left : (tree : Bytes) (h : HasItems session start end) → items (read_name_field (byte_at session)) (globals_limit - get_or g 0 0) (globals_of tree (take end session) g) at end ≡ decoded h.names h.stop
   pub good : (tree : Bytes) → GoodGlobals tree (take end session) g
   pub none : (h : ℕ) → h < buckets → child_of (get_or g (heads_at + h) 0) 1 ≡ 0
+
+-- they can be gone over
+pub items_fields : {session : Bytes} {from end : ℕ} → HasItems session from end → FieldsTo session end from
+items_fields {session} {from} {end} h = row_fields (record { names = _; row = (items-row session globals_limit [] from end h.within h.reads).row; within = h.within })
 
 module _ (session : Bytes) (start : ℕ) where
   -- no global yet

@@ -3,3 +3,4 @@ pub mod Search
 pub mod Layout
 pub mod Store
 pub mod Contract
+pub mod Lookups

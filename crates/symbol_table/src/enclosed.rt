@@ -1,10 +1,12 @@
 // The table of an open function, in its part of the area.
+// Kept: a part is a slice, whose length the clauses state. Tried: `&mut [u32; PART_SIZE]` by `first_chunk_mut`, where the proof
+// of what comes back to the area did not close.
 ghost use Rattle.std.specs.Prelude.{◌≡◌, ◌+◌, ◌<◌, ◌≤◌, min, length, get_or};
 ghost use Rattle.definition.specs.Limit.{tree_limit, locals_limit, free_limit, arguments_limit};
 ghost use Rattle.definition.specs.SymbolTable.{find};
-ghost use Rattle.field.specs.Layout.{len, content};
-ghost use Rattle.symbol_table.specs.Name.{Stands, Row, hash_of};
-ghost use Rattle.symbol_table.specs.Layout.{part_size, entries_at, base, part, packed, entries, table_of, Sized, GoodTable};
+ghost use Rattle.field.specs.Layout.{len};
+ghost use Rattle.symbol_table.specs.Name.{Row};
+ghost use Rattle.symbol_table.specs.Layout.{part_size, entries_at, base, part, entries, table_of, Sized, GoodTable};
 ghost use Rattle.symbol_table.specs.Store.{entered_in, local_in, free_in};
 ghost use Rattle.symbol_table.specs.Contract.{hit_of, PassedOver, Few, Crosses, DefinesLocal, Params, Opens};
 
@@ -12,7 +14,7 @@ use super::layout::{
     BUILTIN, CAPTURES, CODE_UNIT, CODES, ENTRIES_AT, FREE, FUNCTION, GLOBALS_SIZE, LOCAL, LOCALS,
     MARKED_AT, ORIGINALS_AT, PART_SIZE, TAG_UNIT,
 };
-use super::name::hash_at;
+use super::name::Key;
 use super::{DefineError, Found, LookupError, Slot};
 use field::names::same_name;
 use field::{after_at, content_at};
@@ -63,18 +65,18 @@ fn tagged_below(part: &[u32], from: usize, tag: usize) -> usize
 }
 
 // The latest entry of a name, in a table of n entries. Those whose tag is another are passed over in a loop of their own, which looks at no name.
-pub fn find_in(tree: &[u8], part: &[u32], n: usize, name: &[u8], hash: usize) -> Option<u32>
-    requires good_table { GoodTable tree.now part.now }
+// Kept: each turn goes on where a search ended; as an iterator the same search would stand in a struct with its invariant.
+pub fn find_in(key: &Key, part: &[u32], n: usize) -> Option<u32>
+    requires good_table { GoodTable key.now.tree.now part.now }
     requires n_value { n ≡ entries part.now }
-    requires hash_value { hash ≡ hash_of name.now }
-    ensures { hit_of result ≡ find name.now (table_of tree.now part.now).entries }
+    ensures { hit_of result ≡ find key.now.name.now (table_of key.now.tree.now part.now).entries }
 {
-    let tag = hash % 128;
+    let tag = key.hash % 128;
     let mut k = tagged_below(part, n, tag);
     while k > 0 {
         k -= 1;
         let v = part[ENTRIES_AT + k];
-        if same_name(name, content_at(tree, (v % CODE_UNIT) as usize)) {
+        if same_name(key.name, content_at(key.tree, (v % CODE_UNIT) as usize)) {
             return Some(v / CODE_UNIT % CODES);
         }
         k = tagged_below(part, k, tag);
@@ -82,24 +84,13 @@ pub fn find_in(tree: &[u8], part: &[u32], n: usize, name: &[u8], hash: usize) ->
     None
 }
 
-// An entry as a number.
-fn entry(name: usize, code: u32, hash: usize) -> u32
-    requires name_lt_tree_limit { name < tree_limit }
-    requires code_bound { code < 1024 }
-    ensures { result ≡ packed name code hash }
-{
-    name as u32 + CODE_UNIT * code + TAG_UNIT * (hash % 128) as u32
-}
-
 // A table as its function is entered, with the function's name if that has bytes.
-fn enter_in(tree: &[u8], part: &mut [u32], name: usize, hash: usize)
-    requires part_len { length part.old ≡ part_size }
-    requires stands { Stands tree.now name }
-    requires name_lt_tree_limit { name < tree_limit }
-    ensures { part.new ≡ entered_in part.old name hash (len tree.now name) }
+fn enter_in(part: &mut [u32], key: &Key)
+    requires { length part.old ≡ part_size }
+    ensures { part.new ≡ entered_in part.old key.now.at key.now.hash (len key.now.tree.now key.now.at) }
 {
-    let own = field::length_at(tree, name).min(1) as u32;
-    let v = entry(name, FUNCTION, hash);
+    let own = field::length_at(key.tree, key.at).min(1) as u32;
+    let v = key.entry(FUNCTION);
     part[MARKED_AT] = 0;
     part[0] = own;
     part[1] = 0;
@@ -108,33 +99,31 @@ fn enter_in(tree: &[u8], part: &mut [u32], name: usize, hash: usize)
 }
 
 // A definition more: its index.
-fn define_in(part: &mut [u32], name: usize, hash: usize) -> u32
+fn define_in(part: &mut [u32], key: &Key) -> u32
     requires sized { Sized part.old }
     requires part_bound { get_or part.old 1 0 < locals_limit }
-    requires name_lt_tree_limit { name < tree_limit }
     ensures value { result ≡ get_or part.old 1 0 }
-    ensures part_after { part.new ≡ local_in part.old name hash }
+    ensures part_after { part.new ≡ local_in part.old key.now.at key.now.hash }
 {
     let n = count(part);
     let d = part[1];
-    let v = entry(name, LOCAL + d, hash);
+    let v = key.entry(LOCAL + d);
     part[ENTRIES_AT + n] = v;
     part[1] = d + 1;
     d
 }
 
 // A free symbol more, for the code of its original: its own code.
-fn capture_in(part: &mut [u32], name: usize, hash: usize, code: u32) -> u32
+fn capture_in(part: &mut [u32], key: &Key, code: u32) -> u32
     requires sized { Sized part.old }
     requires part_bound { get_or part.old 2 0 < free_limit }
-    requires name_lt_tree_limit { name < tree_limit }
     ensures value { result ≡ 512 + get_or part.old 2 0 }
-    ensures part_after { part.new ≡ free_in part.old name hash code }
+    ensures part_after { part.new ≡ free_in part.old key.now.at key.now.hash code }
 {
     let n = count(part);
     let f = part[2];
     let k = f as usize;
-    let v = entry(name, FREE + f, hash);
+    let v = key.entry(FREE + f);
     part[ENTRIES_AT + n] = v;
     part[ORIGINALS_AT + k] = code;
     part[2] = f + 1;
@@ -144,14 +133,12 @@ fn capture_in(part: &mut [u32], name: usize, hash: usize, code: u32) -> u32
 // A lookup comes back through a function, one more crossed: its own name, a local or a free symbol becomes a free symbol there.
 pub fn cross_in(
     part: &mut [u32],
-    name: usize,
-    hash: usize,
+    key: &Key,
     outer: Result<Found, LookupError>,
 ) -> Result<Found, LookupError>
     requires sized { Sized part.old }
-    requires name_lt_tree_limit { name < tree_limit }
     requires few { Few outer }
-    ensures { Crosses name hash outer result part.old part.new }
+    ensures { Crosses key.now.at key.now.hash outer result part.old part.new }
 {
     let found = outer?;
     let crossed = found.crossed + 1;
@@ -164,21 +151,20 @@ pub fn cross_in(
     if CAPTURES <= part[2] {
         return Err(LookupError::Full);
     }
-    let code = capture_in(part, name, hash, found.code);
+    let code = capture_in(part, key, found.code);
     Ok(Found { code, crossed })
 }
 
 // A definition more, if there is room.
-pub fn place_in(part: &mut [u32], name: usize, hash: usize) -> Result<Slot, DefineError>
-    requires sized { Sized part.old }
-    requires name_lt_tree_limit { name < tree_limit }
-    ensures { DefinesLocal name hash result part.old part.new }
+pub fn place_in(part: &mut [u32], key: &Key) -> Result<Slot, DefineError>
+    requires { Sized part.old }
+    ensures { DefinesLocal key.now.at key.now.hash result part.old part.new }
 {
     let n = part[1];
     if LOCALS <= n {
         return Err(DefineError::LocalsFull);
     }
-    let d = define_in(part, name, hash);
+    let d = define_in(part, key);
     Ok(Slot::Local(d))
 }
 
@@ -192,22 +178,19 @@ fn define_row(tree: &[u8], part: &mut [u32], row: usize, n: usize)
 {
     let mut at = row;
     for _ in 0..n {
-        let hash = hash_at(tree, at);
-        define_in(part, at, hash);
+        define_in(part, &Key::new(tree, at));
         at = after_at(tree, at);
     }
 }
 
 // A table as its function is opened: its name, then its parameters.
-pub fn open_in(tree: &[u8], part: &mut [u32], name: usize, row: usize, n: usize)
-    requires tree_len_bound { length tree.now ≤ tree_limit }
+pub fn open_in(part: &mut [u32], key: &Key, row: usize, n: usize)
+    requires tree_len_bound { length key.now.tree.now ≤ tree_limit }
     requires part_len { length part.old ≡ part_size }
-    requires stands { Stands tree.now name }
-    requires row { Row tree.now n row }
+    requires row { Row key.now.tree.now n row }
     requires n_le_arguments_limit { n ≤ arguments_limit }
-    ensures { Opens tree.now name row n part.new }
+    ensures { Opens key.now.tree.now key.now.at row n part.new }
 {
-    let hash = hash_at(tree, name);
-    enter_in(tree, part, name, hash);
-    define_row(tree, part, row, n);
+    enter_in(part, key);
+    define_row(key.tree, part, row, n);
 }

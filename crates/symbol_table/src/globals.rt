@@ -3,22 +3,23 @@
 ghost use Rattle.std.specs.Prelude.{◌≡◌, ℕ, ◌+◌, ◌*◌, ◌%◌, ◌<◌, ◌≤◌, length, get_or};
 ghost use Rattle.std.proofs.Math.Option.{Option};
 ghost use Rattle.definition.specs.Basic.{Bytes};
-ghost use Rattle.definition.specs.Limit.{session_size, tree_limit, globals_limit};
+ghost use Rattle.definition.specs.Limit.{session_size, globals_limit};
 ghost use Rattle.definition.specs.SymbolTable.{Symbol, same, find_global};
 ghost use Rattle.symbol_table.specs.Name.{buckets, hash_of};
 ghost use Rattle.symbol_table.specs.Search.{side_of, child_of, with_child, Way, Goes};
 ghost use Rattle.symbol_table.specs.Layout.{globals_size, heads_at, global_name, globals_of, GlobalStands, Finds, found_on, GoodGlobals};
 ghost use Rattle.symbol_table.specs.Store.{global_in};
-ghost use Rattle.symbol_table.specs.Contract.{hit_of, as_symbol, IsName, Addable, Adds, DefinesGlobal, HasItems, StartsGlobals};
+ghost use Rattle.symbol_table.specs.Contract.{hit_of, as_symbol, Addable, Adds, DefinesGlobal, HasItems, StartsGlobals};
 
 use super::layout::{
     BUCKET_BITS, BUCKETS, GLOBAL, GLOBALS, HEADS_AT, IN_TREE, LATEST_UNIT, NODES_AT, SIDE_BITS,
     SIDE_UNIT,
 };
-use super::name::hash_at;
+use super::name::{Key, hash_at};
 use super::{DefineError, Slot};
+use field::content_at;
+use field::fields::Fields;
 use field::names::same_name;
-use field::{after_at, content_at};
 
 // Where a global more goes: an index of the area, and the number that is to stand there.
 #[derive(Clone, Copy)]
@@ -64,6 +65,7 @@ fn with_child(node: u32, side: usize, k: u32) -> u32
 }
 
 // Whether a name is that of a global.
+// Kept: `same_name` on the bytes that a global's number tells, the session's or the tree's.
 fn same_global(tree: &[u8], names: &[u8], v: u32, name: &[u8]) -> bool
     requires { GlobalStands tree.now names.now v }
     ensures { result ≡ same name.now (global_name tree.now names.now v) }
@@ -76,52 +78,41 @@ fn same_global(tree: &[u8], names: &[u8], v: u32, name: &[u8]) -> bool
 }
 
 // The latest global of a name among the session's, on side 0, or the tree's.
-fn find_side(
-    tree: &[u8],
-    names: &[u8],
-    side: usize,
-    globals: &[u32],
-    name: &[u8],
-    hash: usize,
-) -> Option<u32>
-    requires good_globals { GoodGlobals tree.now names.now globals.now }
-    requires hash_value { hash ≡ hash_of name.now }
+// Kept: a way down a tree, whose node decides where it goes on: an iterator of the nodes would stand for this loop alone.
+#[inline(always)]
+fn find_side(key: &Key, names: &[u8], side: usize, globals: &[u32]) -> Option<u32>
+    requires good_globals { GoodGlobals key.now.tree.now names.now globals.now }
     requires side_bound { side < 2 }
-    ensures { (x : Finds tree.now names.now globals.now name.now) → hit_of result ≡ as_symbol Symbol.global (found_on x side) }
+    ensures { (x : Finds key.now.tree.now names.now globals.now key.now.name.now) → hit_of result ≡ as_symbol Symbol.global (found_on x side) }
 {
-    let mut k = child(globals[HEADS_AT + hash % BUCKETS], side);
+    let mut k = child(globals[HEADS_AT + key.hash % BUCKETS], side);
     let mut depth = 0;
     while k > 0 {
         let i = k as usize;
         let node = globals[NODES_AT + i];
-        if same_global(tree, names, globals[i], name) {
+        if same_global(key.tree, names, globals[i], key.name) {
             return Some(GLOBAL + node / LATEST_UNIT);
         }
-        k = child(node, side_of(name, hash, depth));
+        k = child(node, side_of(key.name, key.hash, depth));
         depth += 1;
     }
     None
 }
 
 // The latest global of a name: those of the tree come after those of the session.
-pub fn find_global(
-    tree: &[u8],
-    names: &[u8],
-    globals: &[u32],
-    name: &[u8],
-    hash: usize,
-) -> Option<u32>
-    requires good_globals { GoodGlobals tree.now names.now globals.now }
-    requires hash_value { hash ≡ hash_of name.now }
-    ensures { hit_of result ≡ as_symbol Symbol.global (find_global name.now (globals_of tree.now names.now globals.now)) }
+#[inline(always)]
+pub fn find_global(key: &Key, names: &[u8], globals: &[u32]) -> Option<u32>
+    requires { GoodGlobals key.now.tree.now names.now globals.now }
+    ensures { hit_of result ≡ as_symbol Symbol.global (find_global key.now.name.now (globals_of key.now.tree.now names.now globals.now)) }
 {
-    if let Some(code) = find_side(tree, names, 1, globals, name, hash) {
+    if let Some(code) = find_side(key, names, 1, globals) {
         return Some(code);
     }
-    find_side(tree, names, 0, globals, name, hash)
+    find_side(key, names, 0, globals)
 }
 
 // Where a global more of a name goes: it becomes the latest of its name, or hangs where the search for its name ends.
+// Kept: a way down a tree, as in `find_side`, which also keeps the side on which it left the last node.
 fn find_place(bytes: &[u8], side: usize, globals: &[u32], name: &[u8], hash: usize) -> Place
     requires globals_len { length globals.now ≡ globals_size }
     requires globals_bound { get_or globals.now 0 0 < globals_limit }
@@ -211,26 +202,20 @@ fn add_global(bytes: &[u8], side: usize, globals: &mut [u32], name: usize, hash:
 }
 
 // A global of the tree more, if there is room.
-pub fn place_global(
-    tree: &[u8],
-    globals: &mut [u32],
-    name: usize,
-    hash: usize,
-) -> Result<Slot, DefineError>
-    requires good_globals { (names : Bytes) × GoodGlobals tree.now names globals.old }
-    requires name { IsName tree.now name hash }
-    requires name_lt_tree_limit { name < tree_limit }
-    ensures { DefinesGlobal tree.now name result globals.old globals.new }
+pub fn place_global(key: &Key, globals: &mut [u32]) -> Result<Slot, DefineError>
+    requires { (names : Bytes) × GoodGlobals key.now.tree.now names globals.old }
+    ensures { DefinesGlobal key.now.tree.now key.now.at result globals.old globals.new }
 {
     let k = globals[0];
     if GLOBALS <= k {
         return Err(DefineError::GlobalsFull);
     }
-    add_global(tree, 1, globals, name, hash);
+    add_global(key.tree, 1, globals, key.at, key.hash);
     Ok(Slot::Global(k))
 }
 
 // No global in any bucket.
+// Kept: the library's `fill`, with what a search reads of the heads.
 fn clear_heads(globals: &mut [u32])
     requires { length globals.old ≡ globals_size }
     ensures globals_len { length globals.new ≡ globals_size }
@@ -240,6 +225,7 @@ fn clear_heads(globals: &mut [u32])
 }
 
 // The names of a session become the globals: the fields from an offset up to an end.
+// Kept: the bytes with both offsets, since the session's bytes before the end stay what the globals' numbers are read in.
 pub fn start_in(session: &[u8], globals: &mut [u32], from: usize, end: usize)
     requires session_len_bound { length session.now ≤ session_size }
     requires has_items { HasItems session.now from end }
@@ -248,10 +234,8 @@ pub fn start_in(session: &[u8], globals: &mut [u32], from: usize, end: usize)
 {
     clear_heads(globals);
     globals[0] = 0;
-    let mut at = from;
-    while at < end {
+    for at in Fields::new(session, from, end) {
         let hash = hash_at(session, at);
         add_global(&session[..end], 0, globals, at, hash);
-        at = after_at(session, at);
     }
 }

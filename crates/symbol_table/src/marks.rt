@@ -1,20 +1,20 @@
 // The marks of an open function's part: by them a lookup of a builtin or a global passes the function's table over.
-ghost use Rattle.std.specs.Prelude.{◌≡◌, true, false, ◌+◌, ◌<◌, ◌≤◌, length, get_or, take};
-ghost use Rattle.definition.specs.Decode.{words_in};
-ghost use Rattle.field.specs.Layout.{content};
-ghost use Rattle.symbol_table.specs.Name.{hash_bound};
-ghost use Rattle.symbol_table.specs.Layout.{globals_size, part_size, marked_at, marks_at, base, part, entries, globals_in, IsMarked, Sized, GoodPart, GoodGlobals};
+// Kept: a part is a slice, and an area with a level a part of it, as in `enclosed`.
+ghost use Rattle.std.specs.Prelude.{◌≡◌, false, ◌+◌, ◌<◌, ◌≤◌, length, get_or};
+ghost use Rattle.symbol_table.specs.Layout.{part_size, marked_at, marks_at, base, part, entries, IsMarked, Sized};
 ghost use Rattle.symbol_table.specs.Store.{mark_in};
-ghost use Rattle.symbol_table.specs.Contract.{IsName, HasWords, Inside, SameBelow, BeginsMarks, MarksNext, Outermost, MarksAll, Absent};
+ghost use Rattle.symbol_table.specs.Lookups.{Opened, MarksEntries, Lacks};
+ghost use Rattle.symbol_table.specs.Contract.{Inside, SameBelow, BeginsMarks, MarksNext};
 
 use super::enclosed::{count, number_at, part};
-use super::find_outermost;
 use super::layout::{
     BUILTIN, CODE_UNIT, ENTRIES_AT, GLOBALS_SIZE, MARKED_AT, MARKS, MARKS_AT, PART_SIZE, SHORT,
 };
-use super::name::hash_at;
+use super::name::Key;
+use super::query::Query;
 
 // No mark is set.
+// Kept: the library's `fill`, with what the other numbers of the part are then.
 fn clear_marks(part: &mut [u32])
     requires { length part.old ≡ part_size }
     ensures { SameBelow marks_at part.old part.new }
@@ -98,54 +98,27 @@ pub fn count_at(table: &[u32], level: usize) -> usize
     count(part(table, level))
 }
 
-// The code of a name's builtin or global, or 1 where there is none.
-pub fn code_outermost(tree: &[u8], names: &[u8], table: &[u32], name: usize, hash: usize) -> u32
-    requires has_words { HasWords names.now }
-    requires globals_size_in_bounds { globals_size ≤ length table.now }
-    requires good_globals { GoodGlobals tree.now names.now (take globals_size table.now) }
-    requires name { IsName tree.now name hash }
-    requires hash_lt_hash_bound { hash < hash_bound }
-    ensures { Outermost (words_in names.now) (globals_in tree.now names.now table.now) (content tree.now name) result }
-{
-    match find_outermost(tree, names, table, name, hash) {
-        Ok(found) => found.code,
-        Err(_) => 1,
-    }
-}
-
 // The entries of the function at a level, n of them, are marked, those that are not yet.
-fn mark_entries(tree: &[u8], names: &[u8], table: &mut [u32], level: usize, n: usize)
-    requires has_words { HasWords names.now }
-    requires part_size_in_bounds { base level + part_size ≤ length table.old }
-    requires good_globals { GoodGlobals tree.now names.now (take globals_size table.old) }
-    requires good_part { GoodPart (words_in names.now) (globals_in tree.now names.now table.old) tree.now (part level table.old) }
-    requires n_value { n ≡ entries (part level table.old) }
-    ensures { MarksAll (words_in names.now) (globals_in tree.now names.now table.old) tree.now level table.old table.new }
+fn mark_entries(query: &Query, table: &mut [u32], level: usize, n: usize)
+    requires { Opened query.now level n table.old }
+    ensures { MarksEntries query.now level table.old table.new }
 {
     let from = number_at(table, level, MARKED_AT) as usize;
     for i in from..n {
         let name = (number_at(table, level, ENTRIES_AT + i) % CODE_UNIT) as usize;
-        let hash = hash_at(tree, name);
-        let code = code_outermost(tree, names, table, name, hash);
+        let other = Query {
+            key: Key::new(query.key.tree, name),
+            names: query.names,
+        };
+        let code = other.code_outermost(table);
         next_at(table, level, code);
     }
 }
 
 // Whether the function at a level, with n entries, surely has none of the name of a builtin or a global.
-pub fn is_absent(
-    tree: &[u8],
-    names: &[u8],
-    table: &mut [u32],
-    level: usize,
-    n: usize,
-    code: u32,
-) -> bool
-    requires has_words { HasWords names.now }
-    requires part_size_in_bounds { base level + part_size ≤ length table.old }
-    requires good_globals { GoodGlobals tree.now names.now (take globals_size table.old) }
-    requires good_part { GoodPart (words_in names.now) (globals_in tree.now names.now table.old) tree.now (part level table.old) }
-    requires n_value { n ≡ entries (part level table.old) }
-    ensures { Absent (words_in names.now) (globals_in tree.now names.now table.old) tree.now level code result table.old table.new }
+pub fn is_absent(query: &Query, table: &mut [u32], level: usize, n: usize, code: u32) -> bool
+    requires { Opened query.now level n table.old }
+    ensures { Lacks query.now level code result table.old table.new }
 {
     if code < BUILTIN {
         return false;
@@ -153,7 +126,7 @@ pub fn is_absent(
     if n <= SHORT {
         return false;
     }
-    mark_entries(tree, names, table, level, n);
+    mark_entries(query, table, level, n);
     if is_marked_at(table, level, code) {
         return false;
     }

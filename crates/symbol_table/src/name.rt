@@ -1,9 +1,11 @@
-// Names: a name is known by the offset of its field.
+// Names: a name is known by the offset of its field, and sought by its hash.
 ghost use Rattle.std.specs.Prelude.{◌≡◌, ◌<◌};
+ghost use Rattle.definition.specs.Limit.{tree_limit};
 ghost use Rattle.field.specs.Layout.{content};
 ghost use Rattle.symbol_table.specs.Name.{Stands, hash_bound, hash_of};
+ghost use Rattle.symbol_table.specs.Layout.{packed};
 
-use super::layout::{FACTOR, HASHES};
+use super::layout::{CODE_UNIT, FACTOR, HASHES, TAG_UNIT};
 use field::content_at;
 
 // A name's hash.
@@ -25,4 +27,46 @@ pub fn hash_at(bytes: &[u8], at: usize) -> usize
     ensures small { result < hash_bound }
 {
     hash_name(content_at(bytes, at))
+}
+
+// A name of the tree: the offset of its field, its bytes, and its hash, which is computed once.
+#[derive(Clone, Copy)]
+pub struct Key<'a> {
+    pub tree: &'a [u8],
+    pub at: usize,
+    pub name: &'a [u8],
+    pub hash: usize,
+    pub ghost stands: { Stands tree.now at },
+    pub ghost within: { at < tree_limit },
+    pub ghost named: { name.now ≡ content tree.now at },
+    pub ghost is: { hash ≡ hash_of name.now },
+    pub ghost small: { hash < hash_bound },
+}
+
+impl<'a> Key<'a> {
+    // That of the name at an offset.
+    pub fn new(tree: &'a [u8], at: usize) -> Self
+        requires stands { Stands tree.now at }
+        requires within { at < tree_limit }
+        ensures tree { result.tree.now ≡ tree.now }
+        ensures at { result.at ≡ at }
+        ensures hash { result.hash ≡ hash_of (content tree.now at) }
+    {
+        let name = content_at(tree, at);
+        let hash = hash_name(name);
+        Key {
+            tree,
+            at,
+            name,
+            hash,
+        }
+    }
+
+    // The name's entry in a table, with its symbol's code, as a number.
+    pub fn entry(&self, code: u32) -> u32
+        requires { code < 1024 }
+        ensures { result ≡ packed self.now.at code self.now.hash }
+    {
+        self.at as u32 + CODE_UNIT * code + TAG_UNIT * (self.hash % 128) as u32
+    }
 }

@@ -12,15 +12,14 @@ use field::after_at;
 use field::names::find_name;
 
 // The builtin of a name, among the fields from an offset up to an end.
+// Kept: the bytes with both offsets, as `find_name` takes them.
 fn find_word(words: &[u8], from: usize, to: usize, name: &[u8]) -> Option<u32>
     requires has_row { HasRow words.now from to }
     requires names_len_bound { (h : HasRow words.now from to) → length h.names ≤ words_limit }
     ensures { (h : HasRow words.now from to) → hit_of result ≡ as_symbol Symbol.builtin (find_builtin name.now h.names 0) }
 {
-    match find_name(words, from, to, name) {
-        Some(k) => Some(BUILTIN + k as u32),
-        None => None,
-    }
+    let k = find_name(words, from, to, name)?;
+    Some(BUILTIN + k as u32)
 }
 
 // The builtin of a name, among document 01's.

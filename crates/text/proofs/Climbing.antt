@@ -4,7 +4,7 @@ use native.Mathlib.Omega.{arith}
 use mathlib.Core.Bool.{Bool, true, false}
 use mathlib.Core.Path.{◌≡◌, refl, sym, ap, subst, ◌∙◌}
 use lib.Dec.{ltb}
-use borrow.Author.Tests.{eqb-false, ltb-true, ltb-false}
+use borrow.Author.Tests.{eqb-false, ltb-true, ltb-false, ne_eqb}
 use Rattle.definition.specs.Basic.{Bytes}
 use Rattle.text.specs.Kind.{open_paren, number_of}
 use Rattle.text.specs.Token.{Row, kind_of, behind}
@@ -146,3 +146,8 @@ skips_on {text} {from} {at} {opened} {t} k a o e =
     go : (least : ℕ) (rest : Row) (y : Node) → ExpressionRow least opened (row_at text at) rest y → ExpressionRow least (opened + 1) (row_at text t.end) rest y
     go least rest y (ExpressionRow.grouped _ d) = let n : opened + 1 ≡ suc opened = omega arith in rw (n, a.rest) d
     go least rest y (ExpressionRow.begins n _ _) = absurd (eqb-false (kind_of (row_at text at)) open_paren n (sym a.kind ∙ e))
+
+-- and what stands behind them
+pub skips_end : {text : Bytes} {from : ℕ} {g : Groups} {t : piece.Token} → Skipping text from g.at g.opened → Sees text g.at t → (number_of t.kind ≡ open_paren → ⊥) → Skips text from g
+skips_end {text} {from} {g} k a n =
+    record { onward = k.onward; within = k.within; few = k.few; rows = k.rows; operand = ne_eqb (kind_of (row_at text g.at)) open_paren (λ e. n (a.kind ∙ e)) }

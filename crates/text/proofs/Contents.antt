@@ -39,8 +39,8 @@ module _ (text : Bytes) (t : piece.Token) where
   content-bytes a b c d = rw (ne_eqb (number_of t.kind) an_integer a, ne_eqb (number_of t.kind) a_string b, ne_eqb (number_of t.kind) true_word c, ne_eqb (number_of t.kind) false_word d) refl
 
   -- put
-  pub put_done : (to : ℕ) (old : Bytes) {content : Bytes} {r : ℕ} {out : Bytes} → content_of text t ≡ content → r ≡ to + length content → out ≡ sets old to content → length content ≤ 8 + (t.end - t.start) → (r ≡ to + length (content_of text t)) × ((out ≡ sets old to (content_of text t)) × (length (content_of text t) ≤ 8 + (t.end - t.start)))
-  put_done to old {content} {r} {out} e a b c = (a ∙ ap (λ x. to + length x) (sym e), (b ∙ ap (sets old to) (sym e), omega (arith, ap length e)))
+  pub put_done : (to : ℕ) (old : Bytes) {content : Bytes} {r : ℕ} {out : Bytes} → content_of text t ≡ content → r ≡ to + length content → out ≡ sets old to content → length content ≤ 8 + (t.end - t.start) → record { behind : r ≡ to + length (content_of text t); stored : out ≡ sets old to (content_of text t); most : length (content_of text t) ≤ 8 + (t.end - t.start) }
+  put_done to old {content} {r} {out} e a b c = record { behind = a ∙ ap (λ x. to + length x) (sym e); stored = b ∙ ap (sets old to) (sym e); most = omega (arith, ap length e) }
 
 -- a part of a text's tokens is short
 pub part_small : (text : Bytes) (from n : ℕ) → from + n ≤ end_of text → length (take n (drop from text)) < 1048576

@@ -185,7 +185,7 @@ module _ (text : Bytes) where
       chosen (λ x. row_next x (λ end. row_from byte n n end) ≡ []) (eqb start n) (λ _. refl) (λ e. chosen (λ x. row_next x (λ end. row_from byte n n end) ≡ []) (leb text_limit start) (λ _. refl) (λ f. absurd (one_end (omega (arith, leb-false text_limit start f)) (λ g. eqb-false start n e (s ∙ g)))))
 
 -- a token
-sees_found : (text : Bytes) (at : ℕ) → at ≤ end_of text → {y : Result piece.Token Stop} {t : piece.Token} → next_of y ≡ ahead (next_at (byte_at text) (length text) at) → y ≡ Ok t → Sees text at t
+pub sees_found : (text : Bytes) (at : ℕ) → at ≤ end_of text → {y : Result piece.Token Stop} {t : piece.Token} → next_of y ≡ ahead (next_at (byte_at text) (length text) at) → y ≡ Ok t → Sees text at t
 sees_found text at h {y} {t} e f = go (piece_next text at (omega (arith, end_within text))) refl (sym e ∙ ap next_of f)
   where
     go : {x : Next} → Piece text at x → next_at (byte_at text) (length text) at ≡ x → ahead x ≡ Next.found t.start t.end (token (number_of t.kind) []) → Sees text at t
@@ -210,7 +210,7 @@ sees_found text at h {y} {t} e f = go (piece_next text at (omega (arith, end_wit
     go Piece.finished i j = let z : ◌≡◌ {A = ℕ} 0 1 = cc in absurd (omega arith)
 
 -- none
-sees_ended : (text : Bytes) (at : ℕ) → at ≤ end_of text → {y : Result piece.Token Stop} {z : Stop} → next_of y ≡ ahead (next_at (byte_at text) (length text) at) → y ≡ Err z → {t : piece.Token} → t ≡ record { kind = kinds.Ended; start = end_of text; end = end_of text } → Sees text at t
+pub sees_ended : (text : Bytes) (at : ℕ) → at ≤ end_of text → {y : Result piece.Token Stop} {z : Stop} → next_of y ≡ ahead (next_at (byte_at text) (length text) at) → y ≡ Err z → {t : piece.Token} → t ≡ record { kind = kinds.Ended; start = end_of text; end = end_of text } → Sees text at t
 unfolding denoted
 sees_ended text at h {y} {z} e f {t} w = go z (piece_next text at (omega (arith, end_within text))) refl (sym e ∙ ap next_of f)
   where

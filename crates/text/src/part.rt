@@ -14,6 +14,7 @@ ghost use Rattle.text.specs.Parts.{end_of, head_of, Sees, Holds, content_of, Put
 use crate::kind::Kind;
 use crate::put::{make_room, put, put_head};
 use crate::scan::{Token, next_token, text_end, value};
+use crate::tokens::Tokens;
 use definition::tag;
 
 // The offset behind it in the text and in the output, its levels of fields, and its tag if it is one field.
@@ -45,6 +46,7 @@ fn no_token(text: &[u8]) -> Token
 }
 
 // The token at an offset of a script.
+#[tactic(auto, using(crate::proofs::RowAt::end_within))]
 pub fn token_at(text: &[u8], at: usize) -> Token
     requires { at ≤ end_of text.now }
     ensures { Sees text.now at result }
@@ -126,22 +128,27 @@ pub fn close(output: &mut [u8], to: usize, tag: u8, inside: Part) -> Part
 }
 
 // The parentheses that an expression begins with.
+#[tactic(auto, using(crate::proofs::RowAt::end_within, crate::proofs::RowAt::end_early))]
 pub fn skip_groups(text: &[u8], from: usize) -> Groups
     requires { from ≤ end_of text.now }
     ensures { Skips text.now from result }
 {
-    let mut at = from;
-    let mut opened = 0;
-    loop {
-        let token = token_at(text, at);
+    let mut groups = Groups {
+        at: from,
+        opened: 0,
+    };
+    for token in Tokens::new(text, from) {
         match token.kind {
             Kind::OpenParen => {
-                at = token.end;
-                opened += 1;
+                groups = Groups {
+                    at: token.end,
+                    opened: groups.opened + 1,
+                }
             }
-            _ => return Groups { at, opened },
+            _ => return groups,
         }
     }
+    groups
 }
 
 // Where an item stands: behind the token between it and the one before.
@@ -156,6 +163,7 @@ pub fn item_start(token: Token, at: usize) -> usize
 }
 
 // The bytes that a token denotes, or a flag.
+#[tactic(auto, using(crate::proofs::RowAt::end_within))]
 fn put_content(text: &[u8], output: &mut [u8], token: Token, to: usize) -> usize
     requires { Holds text.now token × (to < 1048576) }
     ensures behind { result ≡ to + length (content_of text.now token) }
@@ -178,13 +186,7 @@ fn put_field(text: &[u8], output: &mut [u8], tag: u8, token: Token, to: usize) -
     ensures { PutToken tag text.now token to output.old output.new result }
 {
     let end = put_content(text, output, token, to + 3);
-    put_head(output, to, tag, end);
-    Part {
-        at: token.end,
-        to: end,
-        levels: 1,
-        tag,
-    }
+    close(output, to, tag, Part::empty(token.end, end))
 }
 
 // An operand that is one token.
@@ -209,13 +211,7 @@ pub fn put_empty_name(output: &mut [u8], at: usize, to: usize) -> Part
     ensures part { result ≡ record { at = at; to = to + 3; levels = 1; tag = tag_name } }
     ensures stored { output.new ≡ sets output.old to (field tag_name []) }
 {
-    put_head(output, to, tag::NAME as u8, to + 3);
-    Part {
-        at,
-        to: to + 3,
-        levels: 1,
-        tag: tag::NAME as u8,
-    }
+    close(output, to, tag::NAME as u8, Part::empty(at, to + 3))
 }
 
 // An operator's field.
@@ -224,31 +220,26 @@ pub fn put_operator(output: &mut [u8], at: usize, to: usize, b: u8) -> Part
     ensures part { result ≡ record { at = at; to = to + 4; levels = 1; tag = tag_operator } }
     ensures stored { output.new ≡ sets output.old to (field tag_operator (b ∷ [])) }
 {
-    put(output, to + 3, &[b]);
-    put_head(output, to, tag::OPERATOR as u8, to + 4);
-    Part {
-        at,
-        to: to + 4,
-        levels: 1,
-        tag: tag::OPERATOR as u8,
-    }
+    let end = put(output, to + 3, &[b]);
+    close(output, to, tag::OPERATOR as u8, Part::empty(at, end))
 }
 
 // Names, and the token behind them.
+#[tactic(auto, using(crate::proofs::RowAt::end_within))]
 fn put_names(text: &[u8], output: &mut [u8], at: usize, to: usize) -> Part
     requires { Ready 139996 text.now at to 64 }
     ensures writes { (left : ℕ) → Writes NamesRow text.now at to 0 left output.old output.new result }
     ensures flat { result.levels ≤ 1 }
 {
-    let mut so_far = Part::empty(at, to);
-    loop {
-        let token = token_at(text, so_far.at);
+    let mut names = Part::empty(at, to);
+    for token in Tokens::new(text, at) {
         match token.kind {
-            Kind::Name => so_far = so_far.joined(put_name(text, output, token, so_far.to)),
-            Kind::Comma => so_far = so_far.moved_on(token.end),
-            _ => return so_far.moved_on(token.end),
+            Kind::Name => names = names.joined(put_name(text, output, token, names.to)),
+            Kind::Comma => names = names.moved_on(token.end),
+            _ => return names.moved_on(token.end),
         }
     }
+    names.moved_on(text_end(text))
 }
 
 // The parameters in their parentheses.
@@ -262,6 +253,7 @@ pub fn put_parameters(text: &[u8], output: &mut [u8], at: usize, to: usize) -> P
 }
 
 // A value as it is, but a function with the name instead of its empty one.
+#[tactic(auto, using(crate::proofs::RowAt::end_early))]
 pub fn named(text: &[u8], output: &mut [u8], name: Token, to: usize, value: Part) -> Part
     requires { Holds text.now name × (value.to < 1000000) × (to ≤ value.to) }
     ensures { Named text.now name to value output.old output.new result }

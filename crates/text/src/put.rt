@@ -1,16 +1,9 @@
 // Bytes of a tree put into an output: stored where there is room, so that an output of no bytes measures.
-ghost use Rattle.std.specs.Prelude.{◌≡◌, ◌+◌, ◌-◌, ◌≤◌, ◌<◌, length, set};
+ghost use Rattle.std.specs.Prelude.{◌≡◌, ◌+◌, ◌-◌, ◌≤◌, ◌<◌, length};
 ghost use Rattle.std.proofs.lemmas.List.Edits.{sets};
 ghost use Rattle.text.specs.Parts.{head_of, moved_by};
 
-// Stores a byte where there is room.
-fn store(output: &mut [u8], at: usize, b: u8)
-    ensures { output.new ≡ set output.old at b }
-{
-    if at < output.len() {
-        output[at] = b;
-    }
-}
+use definition::output::store;
 
 // Puts bytes; the offset behind them.
 pub fn put(output: &mut [u8], to: usize, bytes: &[u8]) -> usize

@@ -104,6 +104,8 @@ impl Kind {
     }
 
     // The tag of the field that a token makes of the operand before it.
+    // Kept: beside the two tables of tags below, each with keys of its own: one function of them would take the table as a parameter,
+    // and be no plainer.
     #[tactic(auto, unfolding(crate::specs::Shape::continued_tag))]
     pub fn continued_tag(self) -> u8
         ensures { result ≡ shape.continued_tag (number_of self) }

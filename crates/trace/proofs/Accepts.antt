@@ -43,7 +43,7 @@ use Rattle.trace.proofs.Grown.{Grew, walk_grew}
 use Rattle.trace.proofs.Older.{Older, older}
 
 -- a call that wrote no records: all is as the call with records leaves it
-pub untraced-call : {tree : Bytes} {l : Lent} {room : ℕ} {q : Refusal} {l' : Lent} → ((rs : List Record) → length rs ≡ room → call_records tree l rs ≡ unrecorded rs (record { answer = Err q; lent = l' })) → Traces tree l room (record { answer = Err q; count = 0 }) l'
+pub untraced-call : {tree : Bytes} {l : Lent} {room : ℕ} {q : Refusal} {l' : Lent} → ((rs : List Record) → length rs ≡ room → call_records tree l rs ≡ unrecorded rs (record { answer = Err q; lent = l' })) → Traces tree l room (Err q) l'
 unfolding log_of
 untraced-call h =
     record {

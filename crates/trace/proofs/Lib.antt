@@ -3,6 +3,7 @@ pub mod Entries
 pub mod Small
 pub mod Sequence
 pub mod Nodes
+pub mod Loop
 pub mod Passing
 pub mod Function
 pub mod Tree

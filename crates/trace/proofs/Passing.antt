@@ -1,7 +1,7 @@
 -- From what the parts of a construct did to what the pass did: an Identifier, a let, an infix, and what has children in a row.
 use Prim.Native.Nat.{ℕ, ◌+◌, ◌-◌, ◌≤◌, ◌<◌}
 use native.Mathlib.Omega.{arith}
-use mathlib.Core.Bool.{Bool, true, false}
+use mathlib.Core.Bool.{true, false}
 use mathlib.Core.List.{List, [], ◌∷◌}
 use mathlib.Core.Logic.{inl}
 use mathlib.Core.Option.{Option, none, some}
@@ -83,10 +83,6 @@ module _ {tree before : Bytes} {level at : ℕ} {t t' : List ℕ} {l : Bytes} {n
   pub nothing_passes : {answer : Lookup} (e : LookupError) → answer ≡ Err e → Resolves (words_in before) tree before level at answer t t' → Passes tree before level Anything (λ _. look_up at (content tree at)) 4 t t' l l n n
   nothing_passes Undefined e x = refused_passes (Err Undefined) e (λ ts. tt) x
   nothing_passes Full e x = refused_passes (Err Full) e (λ ts. tt) x
-
--- a test of the tag's kind
-pub parent_tag : {t u : ℕ} {r b : Bool} → t ≡ u → r ≡ is_parent t → r ≡ b → is_parent u ≡ b
-parent_tag e h k = rw e at (sym h ∙ k)
 
 -- What stands at an offset, by its tag
 

@@ -1,14 +1,14 @@
 -- From the functions that a call with records is made of to its promise.
 use Prim.Native.Nat.{ℕ, ◌+◌, ◌≤◌, ◌<◌}
 use native.Mathlib.Omega.{arith}
-use mathlib.Core.Bool.{Bool, true, false}
+use mathlib.Core.Bool.{true, false}
 use mathlib.Core.List.{List, [], ◌∷◌, ◌++◌, reverse}
 use mathlib.Core.Path.{◌≡◌, refl, sym, ap, subst, ◌∙◌}
 use lib.ListN.{length, take, drop, replicate, length-append, length-replicate, length-reverse, get_or-append}
-use lib.Dec.{leb, eqb}
+use lib.Dec.{leb}
 use lib.Seq.{length_front}
 use borrow.Author.Tests.{le-leb}
-use Rattle.definition.specs.Basic.{Bytes, pick, both}
+use Rattle.definition.specs.Basic.{Bytes, both}
 use Rattle.definition.specs.Limit.{session_size, code_size, table_size, tree_limit}
 use Rattle.definition.specs.Number
 use Rattle.definition.specs.Number.{refusal, number_of}
@@ -20,8 +20,9 @@ use Rattle.definition.specs.Call.{Lent, Called, cleared, request, call}
 use Rattle.definition.specs.Valid.{AreBytes}
 use Rattle.definition.specs.declared.reason.Refusal.{Refusal}
 use Rattle.definition.specs.Answer.{Answer}
-use Rattle.std.specs.Prelude.{Ok, Err}
-use Rattle.definition.proofs.Basic.{both_intro, pick_false}
+use Rattle.std.specs.Prelude.{Result, Ok, Err}
+use Rattle.std.specs.Result.{IsErrAnd}
+use Rattle.definition.proofs.Basic.{both_intro, pick_false, passed_on}
 use Rattle.field.specs.Layout.{after}
 use Rattle.tree.specs.Check.{Good, verdict}
 use Rattle.walk.proofs.Tree.{tree_short}
@@ -70,26 +71,16 @@ cleared-length n a = omega (arith, length-append (replicate n 0) (drop n a), len
 
 -- Few records
 
-few_refuses : (a : Answer) → (q : Refusal) × (few_of a ≡ Err q)
-few_refuses (Ok n) = (refusal Number.few_records 0, refl)
-few_refuses (Err r) = go (eqb (number_of r.reason) (number_of Number.output_short))
-  where
-    go : (b : Bool) → (q : Refusal) × (pick {A = Answer} b (Err (refusal Number.few_records 0)) (Err r) ≡ Err q)
-    go true = (refusal Number.few_records 0, refl)
-    go false = (r, refl)
-
 no_bytes : (xs ys : Bytes) → length xs ≡ 0 → xs ++ ys ≡ ys
 no_bytes [] ys h = refl
 no_bytes (x ∷ xs) ys h = absurd (omega arith)
 
-pub few_traces : {tree e o c : Bytes} {t : List ℕ} {e' o₀ c' : Bytes} {t' : List ℕ} {a r : Answer} → Long e c t → Compiles tree (lent_of e [] c t) a (lent_of e' o₀ c' t') → length o₀ ≡ 0 → r ≡ few_of a
-    → (k : Outlook) → LooksAhead tree (take session_size e) k → (room : ℕ) → room < k.count → Traces tree (lent_of e o c t) room (record { answer = r; count = 0 }) (lent_of e' (o₀ ++ o) c' t')
+pub few_traces : {tree e o c : Bytes} {t : List ℕ} {e' o₀ c' : Bytes} {t' : List ℕ} {a : Answer} {r : Refusal} → Long e c t → Compiles tree (lent_of e [] c t) a (lent_of e' o₀ c' t') → length o₀ ≡ 0 → Err r ≡ few_of a
+    → (k : Outlook) → LooksAhead tree (take session_size e) k → (room : ℕ) → room < k.count → Traces tree (lent_of e o c t) room (Err r) (lent_of e' (o₀ ++ o) c' t')
 few_traces {tree} {e} {o} {c} {t} {e'} {o₀} {c'} {t'} {a} {r} long x z d k look room h =
     let l = lent_of e o c t in
-    let q = few_refuses a in
-    let s : r ≡ Err q.0 = d ∙ q.1 in
-    rw (s, no_bytes o₀ o z)
-    (untraced-call (λ rs j. few_call tree l look (seen tree l (long_big tree o long)) room h rs j ∙ (λ i. unrecorded rs (record { answer = (ap few_of (sym x.answer) ∙ q.1) i; lent = with_output o (sym x.lent i) }))))
+    rw (no_bytes o₀ o z)
+    (untraced-call (λ rs j. few_call tree l look (seen tree l (long_big tree o long)) room h rs j ∙ (λ i. unrecorded rs (record { answer = (ap few_of (sym x.answer) ∙ sym d) i; lent = with_output o (sym x.lent i) }))))
 
 -- Enough records
 
@@ -97,9 +88,9 @@ module _ {tree e o c : Bytes} {t : List ℕ} {e₁ o₁ c₁ : Bytes} {t₁ : Li
   abbrev l : Lent
   l = lent_of e o c t
 
-  pub refused_traces : {q : Refusal} → a ≡ Err q → (k : Outlook) → LooksAhead tree (take session_size e) k → (room : ℕ) → k.count ≤ room → Traces tree l room (record { answer = a; count = 0 }) (lent_of e₁ o₁ c₁ t₁)
-  refused_traces {q} f k look room h =
-      rw f
+  pub refused_traces : {r : Result CallTrace Refusal} {q : Refusal} → a ≡ Err q → IsErrAnd r (λ y. y ≡ q) → (k : Outlook) → LooksAhead tree (take session_size e) k → (room : ℕ) → k.count ≤ room → Traces tree l room r (lent_of e₁ o₁ c₁ t₁)
+  refused_traces {q = q} f u k look room h =
+      rw (passed_on u)
       (untraced-call (λ rs j. enough-refused tree l look room h (seen tree l (long_big tree o long)) q (sym x.answer ∙ f) rs j ∙ (λ i. unrecorded rs (record { answer = (sym x.answer ∙ f) i; lent = sym x.lent i }))))
 
   module _ {n : ℕ} (f : a ≡ Ok n) (bytes : AreBytes (take session_size e)) where
@@ -120,7 +111,7 @@ module _ {tree e o c : Bytes} {t : List ℕ} {e₁ o₁ c₁ : Bytes} {t₁ : Li
 
     pub accepted_traces : {names m : ℕ} {c₂ : Bytes} {t₂ t₃ : List ℕ} (k : Outlook) → LooksAhead tree (take session_size e) k → k.names ≡ names
         → PassesTree tree (take session_size e₁) (after (take session_size e₁) 0 + 3) (after (take session_size e₁) 0 + 3 + names) c₂ m → Used code_size c₁ c₂ → Used table_size t₁ t₂ → t₃ ≡ cleared table_size t₂
-        → (k' : Outlook) → LooksAhead tree (take session_size e) k' → (room : ℕ) → k'.count ≤ room → Traces tree l room (record { answer = a; count = m }) (lent_of e₁ o₁ c₂ t₃)
+        → (k' : Outlook) → LooksAhead tree (take session_size e) k' → (room : ℕ) → k'.count ≤ room → Traces tree l room (Ok (record { length = n; count = m })) (lent_of e₁ o₁ c₂ t₃)
     accepted_traces {names} {m} {c₂} {t₂} {t₃} k look q p uc ut et k' look' room h =
         let y = accepted in
         let logs : log_of c₂ m ≡ y.state.records = second_logs y bytes front session_is look (subst (λ i. PassesTree tree (take session_size e₁) (after (take session_size e₁) 0 + 3) (after (take session_size e₁) 0 + 3 + i) c₂ m) (sym q) p) in
@@ -130,15 +121,15 @@ module _ {tree e o c : Bytes} {t : List ℕ} {e₁ o₁ c₁ : Bytes} {t₁ : Li
         let cleared-code : cleared code_size c₂ ≡ (call tree l).lent.code = uc.clears ∙ ap (λ (z : Lent). cleared code_size z.code) x.lent ∙ ap (λ (z : Called). cleared code_size z.lent.code) y.called ∙ cleared_twice code_size c ∙ sym (ap (λ (z : Called). z.lent.code) y.called) in
         let cleared-table : t₃ ≡ (call tree l).lent.table = et ∙ ut.clears ∙ ap (λ (z : Lent). cleared table_size z.table) x.lent ∙ ap (λ (z : Called). cleared table_size z.lent.table) y.called ∙ cleared_twice table_size t ∙ sym (ap (λ (z : Called). z.lent.table) y.called) in
         record {
-          answer = λ rs j. x.answer ∙ sym (ap (λ (z : Recorded). z.called.answer) (is rs j));
+          answer = λ rs j. sym f ∙ x.answer ∙ sym (ap (λ (z : Recorded). z.called.answer) (is rs j));
           count = λ rs j. many ∙ sym (length-reverse y.state.records) ∙ sym (ap (λ (z : Recorded). z.count) (is rs j));
           session = λ rs j. session_is ∙ sym (ap (λ (z : Recorded). z.called.lent.session) (is rs j));
           output = λ rs j. ap (λ (z : Lent). z.output) x.lent ∙ sym (ap (λ (z : Recorded). z.called.lent.output) (is rs j));
-          code = λ rs j. rw f (cleared-code ∙ sym (ap (λ (z : Recorded). z.called.lent.code) (is rs j)));
+          code = λ rs j. cleared-code ∙ sym (ap (λ (z : Recorded). z.called.lent.code) (is rs j));
           table = λ rs j. cleared-table ∙ sym (ap (λ (z : Recorded). z.called.lent.table) (is rs j));
           records = λ rs j. ap (λ z. over_records (reverse z) rs) logs ∙ sym (ap (λ (z : Recorded). z.records) (is rs j));
           within = omega arith;
-          long = rw f (omega (arith, size));
+          long = omega (arith, size);
           fits = omega (arith, size, p.fits, tree_short (y.body, record { end = y.last; reads = y.tree_reads }));
           few = omega (arith, p.fits, tree_short (y.body, record { end = y.last; reads = y.tree_reads }));
         }
@@ -151,7 +142,7 @@ module _ {tree e o c : Bytes} {t : List ℕ} {e₁ o₁ c₁ : Bytes} {t₁ : Li
 
 -- The whole
 
-pub used_traces : {tree e o c c₁ : Bytes} {t t₁ : List ℕ} {room : ℕ} {r : CallTrace} {l' : Lent} → Long e c t → Used code_size c c₁ → Used table_size t t₁ → Traces tree (lent_of e o c₁ t₁) room r l' → Traces tree (lent_of e o c t) room r l'
+pub used_traces : {tree e o c c₁ : Bytes} {t t₁ : List ℕ} {room : ℕ} {r : Result CallTrace Refusal} {l' : Lent} → Long e c t → Used code_size c c₁ → Used table_size t t₁ → Traces tree (lent_of e o c₁ t₁) room r l' → Traces tree (lent_of e o c t) room r l'
 used_traces {tree} {e} {o} {c} {c₁} {t} {t₁} long uc ut x =
     let s : (rs : List Record) → call_records tree (lent_of e o c₁ t₁) rs ≡ call_records tree (lent_of e o c t) rs = used_records tree (lent_of e o c t) c₁ t₁ uc.size ut.size uc.clears ut.clears (long_big tree o long) in
     record {
@@ -173,7 +164,7 @@ used_long h uc ut = record { session = h.session; code = omega (arith, h.code, u
 
 -- buffers that are too short
 pub short_traces : {tree e o c : Bytes} {t : List ℕ} {room : ℕ} → both (leb code_size (length c)) (both (leb table_size (length t)) (leb session_size (length e))) ≡ false
-    → Traces tree (lent_of e o c t) room (record { answer = Err (refusal Number.short_buffer 0); count = 0 }) (lent_of e o c t)
+    → Traces tree (lent_of e o c t) room (Err (refusal Number.short_buffer 0)) (lent_of e o c t)
 unfolding call_records
 short_traces {tree} {e} {o} {c} {t} h =
     let l = lent_of e o c t in

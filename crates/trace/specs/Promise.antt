@@ -1,5 +1,5 @@
 -- What a compile call with records gives before the records are filled: the answer, and the records in a log.
-use Rattle.std.specs.Prelude.{ℕ, ◌+◌, ◌*◌, ◌≤◌, ◌≡◌, List, [], reverse, length, take, eqb, Ok, Err}
+use Rattle.std.specs.Prelude.{ℕ, ◌+◌, ◌*◌, ◌≤◌, ◌≡◌, List, [], reverse, length, take, eqb, Result, Ok, Err}
 use Rattle.definition.specs.Basic.{Bytes, pick}
 use Rattle.definition.specs.Number
 use Rattle.definition.specs.Number.{refusal, number_of}
@@ -15,10 +15,20 @@ use Rattle.definition.specs.Limit.{code_size}
 use Rattle.definition.specs.Call.{Lent, cleared}
 use Rattle.records.specs.Call.{over_records, call_records}
 use Rattle.definition.specs.Answer.{Answer}
+use Rattle.definition.specs.declared.reason.Refusal.{Refusal}
 use Rattle.records.specs.declared.Record.{Record}
 use Rattle.trace.specs.Log.{log_of}
 use Rattle.trace.specs.declared.CallTrace.{CallTrace}
 use Rattle.trace.specs.declared.Outlook.{Outlook}
+
+-- what a call with records answers, and how many records it wrote
+abbrev pub answer_of : Result CallTrace Refusal → Answer
+answer_of (Ok t) = Ok t.length
+answer_of (Err z) = Err z
+
+abbrev pub count_of : Result CallTrace Refusal → ℕ
+count_of (Ok t) = t.count
+count_of (Err z) = 0
 
 -- the code area once its log is cleared: after a refusal it has none
 abbrev pub without_log : Answer → Bytes → Bytes
@@ -58,15 +68,15 @@ pub record Used (n : ℕ) (a a' : List ℕ) : Type 0 where
 
 -- A call with so many records, in which only the records and the code area are left to do: the log has the records to be written, and is still to be
 -- cleared.
-pub record Traces (tree : Bytes) (l : Lent) (room : ℕ) (r : CallTrace) (l' : Lent) : Type 0 where
-  pub answer : (rs : List Record) → length rs ≡ room → r.answer ≡ (call_records tree l rs).called.answer
-  pub count : (rs : List Record) → length rs ≡ room → r.count ≡ (call_records tree l rs).count
+pub record Traces (tree : Bytes) (l : Lent) (room : ℕ) (r : Result CallTrace Refusal) (l' : Lent) : Type 0 where
+  pub answer : (rs : List Record) → length rs ≡ room → answer_of r ≡ (call_records tree l rs).called.answer
+  pub count : (rs : List Record) → length rs ≡ room → count_of r ≡ (call_records tree l rs).count
   pub session : (rs : List Record) → length rs ≡ room → l'.session ≡ (call_records tree l rs).called.lent.session
   pub output : (rs : List Record) → length rs ≡ room → l'.output ≡ (call_records tree l rs).called.lent.output
-  pub code : (rs : List Record) → length rs ≡ room → without_log r.answer l'.code ≡ (call_records tree l rs).called.lent.code
+  pub code : (rs : List Record) → length rs ≡ room → without_log (answer_of r) l'.code ≡ (call_records tree l rs).called.lent.code
   pub table : (rs : List Record) → length rs ≡ room → l'.table ≡ (call_records tree l rs).called.lent.table
-  pub records : (rs : List Record) → length rs ≡ room → over_records (reverse (log_of l'.code r.count)) rs ≡ (call_records tree l rs).records
-  pub within : r.count ≤ room
-  pub long : LogFits r.answer l'.code
-  pub fits : 4 * r.count ≤ length l'.code
-  pub few : 4 * r.count ≤ code_size
+  pub records : (rs : List Record) → length rs ≡ room → over_records (reverse (log_of l'.code (count_of r))) rs ≡ (call_records tree l rs).records
+  pub within : count_of r ≤ room
+  pub long : LogFits (answer_of r) l'.code
+  pub fits : 4 * count_of r ≤ length l'.code
+  pub few : 4 * count_of r ≤ code_size

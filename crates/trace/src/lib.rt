@@ -4,45 +4,35 @@
 pub mod log;
 mod pass;
 
-ghost use Rattle.std.specs.Prelude.{◌≡◌, ℕ, ◌+◌, ◌<◌, ◌≤◌, take};
+ghost use Rattle.std.specs.Prelude.{◌≡◌, ℕ, ◌+◌, ◌<◌, ◌≤◌, take, Err};
 ghost use Rattle.definition.specs.Limit.{session_size, code_size, table_size};
 ghost use Rattle.field.specs.Layout.{after};
 ghost use Rattle.definition.specs.Tree.{read_tree};
 ghost use Rattle.tree.specs.Check.{Good, verdict};
 ghost use Rattle.compiler.specs.Stage.{lent_of, Long, Lengths};
 ghost use Rattle.trace.specs.Pass.{PassesTree};
-ghost use Rattle.trace.specs.Promise.{without_log, LogFits, few_of, LooksAhead, HasOlder, Used, Traces};
+ghost use Rattle.trace.specs.Promise.{few_of, LooksAhead, HasOlder, Used, Traces};
 
 use bytecode::read_layout;
-use compiler::{clear_code, clear_table, compile, long_enough};
+use compiler::{clear_table, compile, long_enough};
 use definition::limit::{CODE_SIZE, SESSION_SIZE, TABLE_SIZE};
 use definition::{Reason, Refusal};
 use field::after_at;
 use pass::name_tree;
 
-// What a call with records gives: the answer, and how many records are in the log.
+// What an accepted call with records gives: the image's length, and how many records are in the log.
 #[derive(Clone, Copy)]
 pub struct CallTrace {
-    pub answer: Result<usize, Refusal>,
+    pub length: usize,
     pub count: usize,
 }
 
 // What is known before the tree is compiled: how many records there will be, and the length of the session's names.
+// Kept: zeros where session or tree don't read, since compiling refuses those itself; an Option would only be taken apart again.
 #[derive(Clone, Copy)]
 pub struct Outlook {
     pub count: usize,
     pub names: usize,
-}
-
-// Clears the log of a call that was not refused.
-pub fn clear_log(code: &mut [u8], answer: Result<usize, Refusal>)
-    requires { LogFits answer code.old }
-    ensures { code.new ≡ without_log answer code.old }
-{
-    match answer {
-        Ok(_) => clear_code(code),
-        Err(_) => {}
-    }
 }
 
 // The pass over a tree's names before it is compiled, in buffers of just these sizes.
@@ -56,7 +46,7 @@ fn look_ahead(session: &[u8], tree: &[u8], code: &mut [u8], table: &mut [u32]) -
             let end = layout.names_end;
             let count = name_tree(session, tree, table, code, from, end);
             return Outlook {
-                count: count,
+                count,
                 names: end - from,
             };
         }
@@ -75,21 +65,21 @@ fn log_names(session: &[u8], tree: &[u8], code: &mut [u8], table: &mut [u32], na
     name_tree(session, tree, table, code, from, from + names)
 }
 
-// The answer of a call with few records, from that without an output: 18 comes in the place of 15.
-fn few(answer: Result<usize, Refusal>) -> Result<usize, Refusal>
-    ensures { result ≡ few_of answer }
+// The refusal of a call with few records, from the answer without an output: 18 comes in the place of 15.
+fn few(answer: Result<usize, Refusal>) -> Refusal
+    ensures { Err result ≡ few_of answer }
 {
-    let refused = Err(Refusal {
+    let few = Refusal {
         reason: Reason::FewRecords,
         place: 0,
-    });
+    };
     match answer {
-        Ok(_) => refused,
+        Ok(_) => few,
         Err(r) => {
             if r.reason == Reason::OutputShort {
-                return refused;
+                return few;
             }
-            answer
+            r
         }
     }
 }
@@ -134,15 +124,12 @@ fn trace_few(
     output: &mut [u8],
     code: &mut [u8],
     table: &mut [u32],
-) -> CallTrace
+) -> Result<CallTrace, Refusal>
     requires { Long session.old code.old table.old }
     ensures { (o : Outlook) → LooksAhead tree.now (take session_size session.old) o → (room : ℕ) → room < o.count → Traces tree.now (lent_of session.old output.old code.old table.old) room result (lent_of session.new output.new code.new table.new) }
 {
     let answer = compile(session, tree, &mut output[..0], code, table);
-    CallTrace {
-        answer: few(answer),
-        count: 0,
-    }
+    Err(few(answer))
 }
 
 // A call with enough records: where the tree is accepted they are logged.
@@ -153,26 +140,15 @@ fn trace_enough(
     code: &mut [u8],
     table: &mut [u32],
     names: usize,
-) -> CallTrace
+) -> Result<CallTrace, Refusal>
     requires long { Long session.old code.old table.old }
     requires looks_ahead { (o : Outlook) × LooksAhead tree.now (take session_size session.old) o × (o.names ≡ names) }
     ensures { (o : Outlook) → LooksAhead tree.now (take session_size session.old) o → (room : ℕ) → o.count ≤ room → Traces tree.now (lent_of session.old output.old code.old table.old) room result (lent_of session.new output.new code.new table.new) }
 {
-    let answer = compile(session, tree, output, code, table);
-    match answer {
-        Err(_) => CallTrace {
-            answer: answer,
-            count: 0,
-        },
-        Ok(_) => {
-            let count = log_lent(session, tree, code, table, names);
-            clear_table(table);
-            CallTrace {
-                answer: answer,
-                count: count,
-            }
-        }
-    }
+    let length = compile(session, tree, output, code, table)?;
+    let count = log_lent(session, tree, code, table, names);
+    clear_table(table);
+    Ok(CallTrace { length, count })
 }
 
 // Compiles a tree, and logs the records of one that is accepted, in buffers that are large enough.
@@ -183,7 +159,7 @@ fn trace_lent(
     code: &mut [u8],
     table: &mut [u32],
     room: usize,
-) -> CallTrace
+) -> Result<CallTrace, Refusal>
     requires { Long session.old code.old table.old }
     ensures { Traces tree.now (lent_of session.old output.old code.old table.old) room result (lent_of session.new output.new code.new table.new) }
 {
@@ -203,17 +179,14 @@ pub fn compile_log(
     code: &mut [u8],
     table: &mut [u32],
     room: usize,
-) -> CallTrace
+) -> Result<CallTrace, Refusal>
     ensures { Traces tree.now (lent_of session.old output.old code.old table.old) room result (lent_of session.new output.new code.new table.new) }
 {
     if long_enough(session, code, table) {
         return trace_lent(session, tree, output, code, table, room);
     }
-    CallTrace {
-        answer: Err(Refusal {
-            reason: Reason::ShortBuffer,
-            place: 0,
-        }),
-        count: 0,
-    }
+    Err(Refusal {
+        reason: Reason::ShortBuffer,
+        place: 0,
+    })
 }

@@ -14,7 +14,8 @@ ghost use Rattle.trace.specs.Pass.{is_parent, walk_node, walk_nodes, ReadsNode, 
 use super::log::put_entry;
 use definition::limit::{ARGUMENTS_LIMIT, NESTING_LIMIT};
 use definition::tag;
-use field::{after_at, wide};
+use field::after_at;
+use field::fields::Fields;
 use symbol_table::{define, enter, resolve_name, start_from};
 use tree::count_fields;
 
@@ -77,28 +78,20 @@ fn name_field(
     requires standing { Standing tree.now names.now level table.old log.old n (3 + len tree.now at) }
     ensures { Passes tree.now names.now level (ReadsNode tree.now at) walk_node (3 + len tree.now at) table.old table.new log.old log.new n result }
 {
-    let t = wide(tree[at]);
-    if t == tag::IDENTIFIER {
-        return log_identifier(tree, names, table, log, level, at, n);
+    match tree[at] as usize {
+        tag::IDENTIFIER => log_identifier(tree, names, table, log, level, at, n),
+        tag::LET => name_let(tree, names, table, log, level, at, n),
+        tag::FUNCTION => name_function(tree, names, table, log, level, at, n),
+        tag::INFIX => name_infix(tree, names, table, log, level, at, n),
+        t if has_children(t) => {
+            let end = after_at(tree, at);
+            name_row(tree, names, table, log, level, at + 3, end, n)
+        }
+        _ => n,
     }
-    if t == tag::LET {
-        return name_let(tree, names, table, log, level, at, n);
-    }
-    if t == tag::FUNCTION {
-        return name_function(tree, names, table, log, level, at, n);
-    }
-    if t == tag::INFIX {
-        return name_infix(tree, names, table, log, level, at, n);
-    }
-    if has_children(t) {
-        let end = after_at(tree, at);
-        return name_row(tree, names, table, log, level, at + 3, end, n);
-    }
-    n
 }
 
 // Logs the records of the fields from an offset up to an end.
-// Kept: an iterator of offsets would stand for this loop alone here, and be no plainer.
 #[cycle(pass)]
 fn name_row(
     tree: &[u8],
@@ -114,11 +107,9 @@ fn name_row(
     requires standing { Standing tree.now names.now level table.old log.old n (end - from) }
     ensures { Passes tree.now names.now level (ReadsNodes tree.now from end) walk_nodes (end - from) table.old table.new log.old log.new n result }
 {
-    let mut at = from;
     let mut m = n;
-    while at < end {
+    for at in Fields::new(tree, from, end) {
         m = name_field(tree, names, table, log, level, at, m);
-        at = after_at(tree, at);
     }
     m
 }

@@ -1,6 +1,5 @@
 -- Chain in a row: the first of them, and how many there are.
 use Prim.Native.Nat.{ℕ, zero, suc, ◌+◌, ◌-◌, ◌*◌, ◌≤◌, ◌<◌}
-use native.Mathlib.Nat.{zero-add}
 use native.Mathlib.Numerals.{one-add}
 use native.Mathlib.Omega.{arith}
 use mathlib.Core.List.{List, [], ◌∷◌}
@@ -9,9 +8,13 @@ use lib.ListN.{length}
 use borrow.Author.Tests.{lt-ltb, le-ltb}
 use Rattle.definition.specs.Basic.{Bytes}
 use Rattle.definition.specs.Syntax.{Stmts, Exprs, count}
+use Rattle.std.specs.Iterator.{Drains}
 use Rattle.field.specs.Layout.{after, Whole}
+use Rattle.field.specs.Fields.{FieldsTo, Gives}
+use Rattle.field.specs.declared.fields.Fields.{Fields}
+use Rattle.field.proofs.EachField.{Over, over_again, ends_at, is_behind, whole_here, fits_here}
 use Rattle.definition.proofs.Basic.{pick_true, pick_false}
-use Rattle.tree.specs.At.{Row, expr_list, NamedAt, ReadsNames}
+use Rattle.tree.specs.At.{Row, stmt_list, expr_list, NamedAt, ReadsNames}
 use Rattle.tree.specs.Reads.{Some, ReadsStmt, ReadsStmts, ReadsExpr, ReadsExprs, Chain, InRow, fields_in, Counted}
 
 -- the first of a row, and the others behind it
@@ -63,7 +66,7 @@ module _ (tree : Bytes) where
   fields_same at end (suc n) (suc m) f g = ap suc (fields_same (after tree at) end n m f.2 g.2)
 
   -- the fields of a row
-  row-fields : {A : Type 0} {P : ℕ → A → Type 0} → ((at : ℕ) (x : A) → P at x → Whole tree at) → (at end : ℕ) (xs : List A) → Row tree P at end xs → Chain tree at end (length xs)
+  pub row-fields : {A : Type 0} {P : ℕ → A → Type 0} → ((at : ℕ) (x : A) → P at x → Whole tree at) → (at end : ℕ) (xs : List A) → Row tree P at end xs → Chain tree at end (length xs)
   row-fields w at end [] r = r
   row-fields w at end (x ∷ xs) r = (w at x r.1, r.0, row-fields w (after tree at) end xs r.2)
 
@@ -87,11 +90,23 @@ count_is tree at end zero f (suc k) h = pick_false (1 + fields_in k tree (after 
 count_is tree at end (suc n) f zero h = absurd (omega arith)
 count_is tree at end (suc n) f (suc k) h = pick_true (1 + fields_in k tree (after tree at) end) 0 (lt-ltb at end (omega (arith, f.1))) ∙ ap (λ m. 1 + m) (count_is tree (after tree at) end n f.2 k (omega arith)) ∙ one-add n
 
--- a turn of counting: n fields stand before `at`
-pub record CountTurn (tree : Bytes) (from end at n : ℕ) : Type 0 where
-  pub left : Some (InRow tree at end)
-  pub small : n * 3 + from ≤ at
-  pub counted : (k : ℕ) → InRow tree at end k → InRow tree from end (n + k)
+-- each field has three bytes and more
+chain-small : (tree : Bytes) (at end n : ℕ) → Chain tree at end n → n * 3 + at ≤ end
+chain-small tree at end zero f = omega (arith, f)
+chain-small tree at end (suc n) f = omega (arith, chain-small tree (after tree at) end n f.2)
+
+-- they can be gone over
+pub chain_to : (tree : Bytes) (at end n : ℕ) → Chain tree at end n → FieldsTo tree end at
+chain_to tree at end zero f = FieldsTo.end f
+chain_to tree at end (suc n) f = FieldsTo.more f.0.fits f.1 (chain_to tree (after tree at) end n f.2)
+
+-- fields that were gone over, all of them, stand in a row
+pub drained : {tree : Bytes} {end : ℕ} (xs : List ℕ) {s : Fields} → Over tree end s → Drains Gives s xs → Chain tree s.at end (length xs)
+drained {tree} {end} [] {s} o d = ap (λ (x : Fields). x.at) d.1.1 ∙ ends_at (subst (Over tree end) d.1.1 o) d.1.2
+drained {tree} {end} (x ∷ xs) {s} o d =
+    let n = d.1.1.1 in
+    let behind = subst (λ a. Chain tree a end (length xs)) (is_behind o n) (drained xs (over_again o n) (d.0, (d.1.0, d.1.1.2, d.1.2))) in
+    subst (λ a. Chain tree a end (length (x ∷ xs))) n.here (whole_here o n, fits_here o n, behind)
 
 module _ {tree : Bytes} {from end : ℕ} where
   -- expressions stand in a row
@@ -102,40 +117,24 @@ module _ {tree : Bytes} {from end : ℕ} where
   pub names_in_row : Some (ReadsNames tree from end) → Some (InRow tree from end)
   names_in_row (ns, r) = (length ns, record { fields = names-fields tree from end ns r })
 
-  -- before the end there is a whole field
-  pub row-whole : from < end → Some (InRow tree from end) → Whole tree from
-  row-whole h (zero, r) = absurd (omega (arith, r.fields))
-  row-whole h (suc n, r) = r.fields.0
+  -- and can be gone over
+  pub in_row : Some (InRow tree from end) → FieldsTo tree end from
+  in_row (n, r) = chain_to tree from end n r.fields
 
-  -- at the start
-  pub count_holds : Some (InRow tree from end) → CountTurn tree from end from 0
-  count_holds r = record { left = r; small = omega arith; counted = λ k f. rw zero-add f }
+  -- so do statements, and expressions
+  pub stmts_to : Some (ReadsStmts tree from end) → FieldsTo tree end from
+  stmts_to (b, r) = chain_to tree from end _ (row-fields tree (λ _ _ s. s.field.whole) from end (stmt_list b) r.row)
 
-  -- one more
-  pub count_again : {at next n : ℕ} → at < end → next ≡ after tree at → CountTurn tree from end at n → CountTurn tree from end next (n + 1)
-  count_again {at} {next} {n} h q t = go t.left.0 t.left.1.fields
-    where
-      go : (m : ℕ) → Chain tree at end m → CountTurn tree from end next (n + 1)
-      go zero f = absurd (omega arith)
-      go (suc m) f =
-          record {
-            left = (m, record { fields = rw q f.2 });
-            small = omega (arith, t.small);
-            counted = λ k r. let e : n + suc k ≡ n + 1 + k = omega arith in rw e at (t.counted (suc k) (record { fields = (f.0, f.1, rw q at r.fields) }));
-          }
+  pub exprs_to : Some (ReadsExprs tree from end) → FieldsTo tree end from
+  exprs_to r = in_row (exprs_in_row r)
 
-  -- at the end
-  pub count_ends : {at n : ℕ} → end ≤ at → CountTurn tree from end at n → Counted tree from end n
-  count_ends {at} {n} h t = go t.left.0 t.left.1.fields
-    where
-      go : (m : ℕ) → Chain tree at end m → Counted tree from end n
-      go zero f =
-          let e : n + 0 ≡ n = omega arith in
-          let r : InRow tree from end n = rw e at (t.counted 0 (record { fields = f })) in
-          record {
-            is = sym (count_is tree from end n r.fields (end - from) (omega (arith, t.small)));
-            exprs = λ es x. fields_same tree from end n (count es) r.fields (exprs_fields tree from end es x);
-            names = λ ns x. fields_same tree from end n (length ns) r.fields (names-fields tree from end ns x);
-            small = omega (arith, t.small);
-          }
-      go (suc m) f = absurd (omega (arith, f.1))
+  -- as many as there are
+  pub counted : (n : ℕ) → InRow tree from end n → Counted tree from end n
+  counted n r =
+      let few = chain-small tree from end n r.fields in
+      record {
+        is = sym (count_is tree from end n r.fields (end - from) (omega arith));
+        exprs = λ es x. fields_same tree from end n (count es) r.fields (exprs_fields tree from end es x);
+        names = λ ns x. fields_same tree from end n (length ns) r.fields (names-fields tree from end ns x);
+        small = few;
+      }

@@ -1,5 +1,5 @@
 -- The steps of the code's check of children.
-use Prim.Native.Nat.{ℕ, zero, suc, ◌+◌, ◌-◌, ◌*◌, ◌/◌, ◌%◌, ◌≤◌, ◌<◌}
+use Prim.Native.Nat.{ℕ, zero, suc, ◌+◌, ◌-◌, ◌/◌, ◌%◌, ◌≤◌}
 use native.Mathlib.Omega.{arith}
 use mathlib.Core.Bool.{Bool, true, false}
 use mathlib.Core.Path.{◌≡◌, refl, sym, ap, ◌∙◌}
@@ -11,28 +11,15 @@ use Rattle.definition.specs.Field.{fits, head}
 use Rattle.definition.specs.declared.reason.Refusal.{Refusal}
 use Rattle.definition.proofs.Basic.{both_true}
 use Rattle.tree.specs.Grammar.{Kind, either, is_leaf, child_kind, enough_of}
-use Rattle.tree.specs.Kinds.{may_end, kinds_of}
+use Rattle.tree.specs.Kinds.{may_end}
 use Rattle.tree.specs.declared.grammar.Wanted.{Wanted}
 use mathlib.Core.List.{List}
 use lib.ListN.{get_or}
 use Rattle.tree.specs.Check.{Checked, Good, and_then, bad_tree, too_deep, outcome_of, next, good_field, good_wanted, ended, check_children, check_inside, check_field, check_all}
 use Rattle.std.specs.Prelude.{Err}
 use Rattle.tree.proofs.Checking.{children_ended, children_more}
-use Rattle.tree.proofs.Turns.{Turned, turned-start, turned_again, turned_first}
+use Rattle.tree.proofs.Turns.{Turned, turned_again, turned_first}
 use Rattle.tree.proofs.Numbered.{kind_ends, numbered, good_some}
-
--- what the numbers of refusals 3 and 4 say
-pub bad_number : (at : ℕ) → outcome_of (2 * at + 1) ≡ bad_tree at
-bad_number at =
-    let m : (2 * at + 1) % 2 ≡ 1 = omega arith in
-    let d : (2 * at + 1) / 2 ≡ at = omega arith in
-    rw (ne_eqb (2 * at + 1) 0 (λ z. omega arith), m, d)
-
-pub deep_number : (at : ℕ) → outcome_of (2 * at + 2) ≡ too_deep at
-deep_number at =
-    let m : (2 * at + 2) % 2 ≡ 0 = omega arith in
-    let d : (2 * at + 2) / 2 - 1 ≡ at = omega arith in
-    rw (ne_eqb (2 * at + 2) 0 (λ z. omega arith), m, d)
 
 -- a number that is not 0 is a refusal's
 refusal-of : (n : ℕ) → (n ≡ 0 → ⊥) → (r : Refusal) × (outcome_of n ≡ Err r)
@@ -102,12 +89,6 @@ pub left_none : (byte : ℕ → ℕ) (levels parent end : ℕ) → byte parent �
 left_none byte levels parent end t e = sym (rw (e, t) (children_ended byte (λ kind at₁ end₁. check_field byte levels kind at₁ end₁) tag_call parent end (end - end) 0))
 
 module _ {byte : ℕ → ℕ} {levels parent end : ℕ} where
-  -- at the start
-  pub left_holds : {kinds : List Wanted} → parent + 3 ≤ end → byte parent < 256 → kinds ≡ kinds_of (byte parent) → (byte parent ≡ tag_call → parent + 3 ≡ end → ⊥) → Left byte levels parent end (parent + 3) 0 kinds
-  left_holds h small e some =
-      let z : end - (parent + 3) - 0 ≡ end - (parent + 3) = omega arith in
-      record { start = omega arith; finish = h; turned = turned-start small e; called = λ t l. absurd (some t l); decides = rw z refl }
-
   module _ {at k : ℕ} {kinds : List Wanted} (d : Wanted) (l : Left byte levels parent end at k kinds) where
     -- what the next child must be
     abbrev kind : Kind

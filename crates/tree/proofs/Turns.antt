@@ -105,10 +105,6 @@ pub record Turned (t k : ℕ) (kinds : List Wanted) : Type 0 where
   pub is : kinds ≡ kinds_of t
   pub some : 4 ≤ k → (kind_at t 3).low ≡ 63 → ⊥
 
--- before the first child
-pub turned-start : {t : ℕ} {kinds : List Wanted} → t < 256 → kinds ≡ kinds_of t → Turned t 0 kinds
-turned-start h e = record { small = h; is = e; some = λ l. absurd (omega arith) }
-
 -- after one more
 pub turned_again : {t k : ℕ} {kinds : List Wanted} → Turned t k kinds → ((kind_at t k).low ≡ 63 → ⊥) → Turned t (k + 1) kinds
 turned_again {t} {k} r some = record { small = r.small; is = r.is; some = λ l. fourth k (omega arith) some }

@@ -172,6 +172,7 @@ pub fn is_leaf(t: usize) -> bool
 }
 
 // What the first four children of a tag must be; that a call has one is tested on its own.
+#[tactic(auto, unfolding(crate::specs::Kinds::wanted, crate::specs::Kinds::kinds_of))]
 pub fn child_kinds(t: usize) -> &'static [Wanted; 4]
     ensures { result.now ≡ kinds_of t }
 {

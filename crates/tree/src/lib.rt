@@ -3,6 +3,7 @@
 
 use definition::limit::{LEVEL_LIMIT, TREE_LIMIT};
 use definition::{Reason, Refusal, tag};
+use field::fields::Fields;
 use field::{after_at, length_at};
 
 mod grammar;
@@ -54,6 +55,7 @@ fn outcome(n: usize) -> Result<(), Refusal>
 }
 
 // Whether a whole field that is wanted stands at `at`, before `end`: its tag, its length and its own bytes.
+// Kept: offsets and no slice, since a refusal names the offset in the tree.
 fn good_field(tree: &[u8], wanted: Wanted, at: usize, end: usize) -> bool
     requires { (at ≤ end) × (end ≤ length tree.now) }
     ensures { result ≡ good_wanted (byte_at tree.now) wanted at end }
@@ -73,6 +75,7 @@ fn good_field(tree: &[u8], wanted: Wanted, at: usize, end: usize) -> bool
 }
 
 // The children of the field at `parent`, whose content goes up to `end`, in order; then whether one is missing. The answer is a refusal's number.
+// Kept: `field::fields::Fields` goes over fields that are known to be whole, and here each is tested before the next can be found.
 fn check_children(tree: &[u8], levels: usize, parent: usize, end: usize) -> usize
     requires { (parent + 3 ≤ end) × (end ≤ length tree.now) × (end ≤ tree_limit) }
     ensures { outcome_of result ≡ check_all (byte_at tree.now) levels parent end }
@@ -129,11 +132,5 @@ pub fn count_fields(tree: &[u8], from: usize, end: usize) -> usize
     requires { Some (InRow tree.now from end) }
     ensures { Counted tree.now from end result }
 {
-    let mut at = from;
-    let mut n = 0;
-    while at < end {
-        at = after_at(tree, at);
-        n += 1;
-    }
-    n
+    Fields::new(tree, from, end).count()
 }

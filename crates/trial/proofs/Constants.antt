@@ -17,9 +17,10 @@ use Rattle.listing.proofs.Items.{Reading, begins, ends, all_read as read_all}
 use Rattle.listing.proofs.Constants.{integer-length, function_is}
 use Rattle.heights.specs.Chunks.{Standing}
 use Rattle.heights.proofs.Judges.{Turn, turn}
-use Rattle.heights.specs.Constants.{NextIs, Ended, Gives}
-use Rattle.heights.specs.declared.constants.Constants.{Constants as Walk}
-use Rattle.heights.proofs.EachConstant.{Over, over_again, turn_at, all_read}
+use Rattle.bytecode.specs.Constants.{NextIs, Ended, Gives}
+use Rattle.bytecode.specs.declared.constants.Constants.{Constants as Walk}
+use Rattle.bytecode.proofs.EachConstant.{Over, over_again}
+use Rattle.heights.proofs.EachConstant.{turn_at, all_read}
 use Rattle.std.specs.Iterator.{Yields, SkipsThenYields}
 use Rattle.trial.specs.Run.{integer_in}
 

@@ -61,11 +61,6 @@ halted {q = q} (After.on {s} {f} h) e = let z : ◌≡◌ {A = ℕ} 0 1 = cc in 
 halted {q = q} (After.returned {g} {n = k} h) e = let z : ◌≡◌ {A = ℕ} 0 1 = cc in absurd (omega arith)
 halted {p = p} {q = q} (After.stopped {k = k}) e = record { reason = k; is = refl; refusal_is = cc }
 
--- what `?` hands on
-pub handed : {A B : Type 0} (r : Result A B) (e : B) → IsErrAnd r (λ x. x ≡ e) → r ≡ Err e
-handed (Ok a) e h = absurd h
-handed (Err x) e h = ap Err h
-
 -- of the one image
 pub for_image : {w : List ℕ} {e : Result ℕ Refusal} {m n : Image} → m ≡ n → EndsAs w e (trial m) → EndsAs w e (trial n)
 for_image {w} {e} q h = subst (λ (m : Image). EndsAs w e (trial m)) q h

@@ -21,6 +21,7 @@ use field::length_at;
 use heights::image::judge;
 use machine::run_main;
 use output::put_globals;
+use pool::Program;
 use scan::scan;
 
 // How many numbers a work area has.
@@ -53,11 +54,12 @@ fn run_chunk(
 {
     let end = 3 + length_at(image, 0);
     let pool = end + 3;
-    let globals = scan(image, end, pool, heights)?;
+    let program = Program { image, end, pool };
+    let globals = scan(program, heights)?;
     if output.len() < 9 * globals {
         return refused(Reason::OutputShort, 0);
     }
-    let steps = run_main(work, image, end, pool)?;
+    let steps = run_main(work, program)?;
     put_globals(output, work, globals);
     Ok(Ran { globals, steps })
 }

@@ -10,10 +10,10 @@ ghost use Rattle.trial.specs.Cells.{Keeps, Stacked, Keeping, kinds_at, work_size
 ghost use Rattle.trial.specs.Machine.{Produces, Runs, product, reason_of, KeptAt, Room, StepReady, goes_on, Framed, After, RunReady, EndsAs};
 
 use crate::cells::{Value, combine, negate, parts, truthy, value_in};
-use crate::pool::integer_at;
+use crate::pool::{Program, integer_at};
 use definition::{Reason, Refusal};
 use heights::effect::takes;
-use heights::instructions::Instructions;
+use opcode::instructions::Instructions;
 use opcode::{Instruction, opcodes};
 use std::ops::ControlFlow;
 
@@ -66,12 +66,12 @@ fn top(work: &[u64], height: usize) -> Value
 }
 
 // What an instruction puts on the stack; none where it stops the run.
-fn produced(work: &[u64], image: &[u8], pool: usize, i: Instruction, height: usize) -> Option<Value>
-    requires { Room work.now image.now pool (instr_of i) height × Produces i.op }
-    ensures { (cs : List Const) (st : List Value) (g : Globals) → PoolAt image.now pool (length image.now) cs → Keeping work.now g → Stacked work.now height st → result ≡ product cs i.operand st g (slice_index_or actions i.op other) }
+fn produced(work: &[u64], program: Program<'_>, i: Instruction, height: usize) -> Option<Value>
+    requires { Room work.now program.image.now program.pool (instr_of i) height × Produces i.op }
+    ensures { (cs : List Const) (st : List Value) (g : Globals) → PoolAt program.entry.image.now program.entry.pool (length program.entry.image.now) cs → Keeping work.now g → Stacked work.now height st → result ≡ product cs i.operand st g (slice_index_or actions i.op other) }
 {
     match i.op {
-        opcodes::CONSTANT => integer_at(image, pool, usize::from(i.operand)),
+        opcodes::CONSTANT => integer_at(program, usize::from(i.operand)),
         opcodes::GET_GLOBAL => kept(work, usize::from(i.operand)),
         opcodes::TRUE => Some(Value::Boolean(true)),
         opcodes::FALSE => Some(Value::Boolean(false)),
@@ -96,16 +96,15 @@ fn reason(op: u8) -> Reason
 // An instruction that puts a value.
 fn produce(
     work: &mut [u64],
-    image: &[u8],
-    pool: usize,
+    program: Program<'_>,
     i: Instruction,
     next: usize,
     s: State,
 ) -> Result<ControlFlow<usize, State>, Refusal>
-    requires { StepReady work.old image.now pool (instr_of i) next s × Produces i.op }
-    ensures { (cs : List Const) (f : Frame) → PoolAt image.now pool (length image.now) cs → Framed work.old s f → next ≡ 3 + (f.at + size (instr_of i)) → After work.new f.at result (executed cs (instr_of i) f) }
+    requires { StepReady work.old program.image.now program.pool (instr_of i) next s × Produces i.op }
+    ensures { (cs : List Const) (f : Frame) → PoolAt program.entry.image.now program.entry.pool (length program.entry.image.now) cs → Framed work.old s f → next ≡ 3 + (f.at + size (instr_of i)) → After work.new f.at result (executed cs (instr_of i) f) }
 {
-    let Some(x) = produced(work, image, pool, i, s.height) else {
+    let Some(x) = produced(work, program, i, s.height) else {
         return Err(Refusal {
             reason: reason(i.op),
             place: s.next,
@@ -119,14 +118,13 @@ fn produce(
 // One instruction, `next` behind it: the run goes on, or ReturnValue ends it with its steps.
 fn execute(
     work: &mut [u64],
-    image: &[u8],
-    pool: usize,
+    program: Program<'_>,
     i: Instruction,
     next: usize,
     s: State,
 ) -> Result<ControlFlow<usize, State>, Refusal>
-    requires { StepReady work.old image.now pool (instr_of i) next s × Runs i.op }
-    ensures { (cs : List Const) (f : Frame) → PoolAt image.now pool (length image.now) cs → Framed work.old s f → next ≡ 3 + (f.at + size (instr_of i)) → After work.new f.at result (executed cs (instr_of i) f) }
+    requires { StepReady work.old program.image.now program.pool (instr_of i) next s × Runs i.op }
+    ensures { (cs : List Const) (f : Frame) → PoolAt program.entry.image.now program.entry.pool (length program.entry.image.now) cs → Framed work.old s f → next ≡ 3 + (f.at + size (instr_of i)) → After work.new f.at result (executed cs (instr_of i) f) }
 {
     let k = usize::from(i.operand);
     match i.op {
@@ -145,23 +143,23 @@ fn execute(
                 Ok(s.step_to(3 + k, s.height - 1))
             }
         }
-        _ => produce(work, image, pool, i, next, s),
+        _ => produce(work, program, i, next, s),
     }
 }
 
-// The run of main, which stands from 3 up to `end`, the constants from `pool` on: the instructions executed.
-pub fn run_main(work: &mut [u64], image: &[u8], end: usize, pool: usize) -> Result<usize, Refusal>
-    requires { RunReady work.old image.now end pool }
-    ensures { (m : Image) → ImageAt image.now m → EndsAs work.new result (trial m) }
+// The run of main: the instructions executed.
+pub fn run_main(work: &mut [u64], program: Program<'_>) -> Result<usize, Refusal>
+    requires { RunReady work.old program.image.now program.end program.pool }
+    ensures { (m : Image) → ImageAt program.entry.image.now m → EndsAs work.new result (trial m) }
 {
     let mut s = State {
         next: 3,
         height: 0,
         steps: 0,
     };
-    for (at, i, next) in Instructions::new(image, 3, end) {
+    for (at, i, next) in Instructions::new(program.image, 3, program.end) {
         if at == s.next {
-            match execute(work, image, pool, i, next, s)? {
+            match execute(work, program, i, next, s)? {
                 ControlFlow::Continue(t) => s = t,
                 ControlFlow::Break(steps) => return Ok(steps),
             }

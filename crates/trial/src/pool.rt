@@ -1,4 +1,4 @@
-// The integers of a pool.
+// A program, and the integers of its pool.
 ghost use Rattle.std.specs.Prelude.{◌≡◌, List, length};
 ghost use Rattle.definition.specs.Bytecode.{Const};
 ghost use Rattle.definition.specs.Trusted.{constant_at};
@@ -6,15 +6,24 @@ ghost use Rattle.listing.specs.Reads.{PoolAt, HasPool};
 ghost use Rattle.trial.specs.Run.{integer_in};
 
 use crate::cells::Value;
+use bytecode::constants::Constants;
 use definition::tag;
-use heights::constants::Constants;
 use listing::text::eight_bytes;
 
-// The value of the constant of an index, if it is an integer; the constants stand from an offset up to the image's end.
-pub fn integer_at(image: &[u8], pool: usize, k: usize) -> Option<Value>
-    requires { HasPool image.now pool (length image.now) }
-    ensures { (cs : List Const) → PoolAt image.now pool (length image.now) cs → result ≡ integer_in (constant_at cs k) }
+// A sound image whose main code is run: the code stands from 3 up to `end`, the constants from `pool` on.
+#[derive(Clone, Copy)]
+pub struct Program<'a> {
+    pub image: &'a [u8],
+    pub end: usize,
+    pub pool: usize,
+}
+
+// The value of the constant of an index, if it is an integer.
+pub fn integer_at(program: Program<'_>, k: usize) -> Option<Value>
+    requires { HasPool program.image.now program.pool (length program.image.now) }
+    ensures { (cs : List Const) → PoolAt program.entry.image.now program.entry.pool (length program.entry.image.now) cs → result ≡ integer_in (constant_at cs k) }
 {
+    let Program { image, pool, .. } = program;
     let (at, _) = Constants::new(image, pool, image.len()).nth(k)?;
     if image[at] != tag::INTEGER_CONST {
         return None;

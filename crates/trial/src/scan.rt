@@ -9,19 +9,20 @@ ghost use Rattle.trial.specs.Run.{actions, other, runnable as takes};
 ghost use Rattle.trial.specs.Output.{names_as, named_globals};
 ghost use Rattle.trial.specs.Call.{ScanReady, first_refused, refused_with, scan_answer};
 
-use crate::pool::integer_at;
+use crate::pool::{Program, integer_at};
+use bytecode::Span;
 use definition::{Reason, Refusal};
 use heights::chunk::pass;
-use heights::instructions::Instructions;
+use opcode::instructions::Instructions;
 use opcode::{Instruction, opcodes};
 
 // Whether a run takes an instruction, its height apart.
-fn runnable(image: &[u8], pool: usize, i: Instruction) -> bool
-    requires { HasPool image.now pool (length image.now) }
-    ensures { (cs : List Const) → PoolAt image.now pool (length image.now) cs → result ≡ takes cs (instr_of i) }
+fn runnable(program: Program<'_>, i: Instruction) -> bool
+    requires { HasPool program.image.now program.pool (length program.image.now) }
+    ensures { (cs : List Const) → PoolAt program.entry.image.now program.entry.pool (length program.entry.image.now) cs → result ≡ takes cs (instr_of i) }
 {
     match i.op {
-        opcodes::CONSTANT => integer_at(image, pool, usize::from(i.operand)).is_some(),
+        opcodes::CONSTANT => integer_at(program, usize::from(i.operand)).is_some(),
         opcodes::GET_GLOBAL | opcodes::SET_GLOBAL => i.operand < 1024,
         opcodes::RETURN_VALUE => true,
         op => op < opcodes::ARRAY,
@@ -39,13 +40,13 @@ fn named(n: usize, i: Instruction) -> usize
 }
 
 // The instructions of main, with what arrives before each: how many globals they name, or 27 at the first that a run does not take.
-fn scan_marked(marks: &[u32], image: &[u8], end: usize, pool: usize) -> Result<usize, Refusal>
-    requires { ScanReady image.now end pool × (end < length marks.now) }
-    ensures { (m : Image) → ImageAt image.now m → result ≡ scan_answer (first_refused m.pool (marks_from marks.now 3) m.code) (named_globals m.code) }
+fn scan_marked(marks: &[u32], program: Program<'_>) -> Result<usize, Refusal>
+    requires { ScanReady program.image.now program.end program.pool × (program.end < length marks.now) }
+    ensures { (m : Image) → ImageAt program.entry.image.now m → result ≡ scan_answer (first_refused m.pool (marks_from marks.now 3) m.code) (named_globals m.code) }
 {
     let mut names = 0;
-    for (at, i, _) in Instructions::new(image, 3, end) {
-        if !runnable(image, pool, i) || 1026 < marks[at] {
+    for (at, i, _) in Instructions::new(program.image, 3, program.end) {
+        if !runnable(program, i) || 1026 < marks[at] {
             return Err(Refusal {
                 reason: Reason::NotRunnable,
                 place: at,
@@ -57,12 +58,17 @@ fn scan_marked(marks: &[u32], image: &[u8], end: usize, pool: usize) -> Result<u
 }
 
 // Main, which passes with its heights.
-pub fn scan(image: &[u8], end: usize, pool: usize, heights: &[u32]) -> Result<usize, Refusal>
-    requires { ScanReady image.now end pool }
-    ensures { (m : Image) → ImageAt image.now m → (s : Passing) → passed heights.now 0 (size_of m.code) m.code ≡ Passed.passed s → result ≡ scan_answer (refused_with heights.now m) (named_globals m.code) }
+pub fn scan(program: Program<'_>, heights: &[u32]) -> Result<usize, Refusal>
+    requires { ScanReady program.image.now program.end program.pool }
+    ensures { (m : Image) → ImageAt program.entry.image.now m → (s : Passing) → passed heights.now 0 (size_of m.code) m.code ≡ Passed.passed s → result ≡ scan_answer (refused_with heights.now m) (named_globals m.code) }
 {
     let mut marks = [0u32; 65536];
     marks[3] = 2;
-    let _ = pass(&mut marks, image, 3, end, heights, 0);
-    scan_marked(&marks, image, end, pool)
+    let code = Span {
+        bytes: program.image,
+        start: 3,
+        end: program.end,
+    };
+    let _ = pass(&mut marks, code, heights, 0);
+    scan_marked(&marks, program)
 }

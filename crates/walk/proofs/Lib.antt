@@ -1,6 +1,7 @@
 pub mod Sequence
 pub mod Statements
 pub mod Turns
+pub mod Loop
 pub mod Expressions
 pub mod If
 pub mod Calls

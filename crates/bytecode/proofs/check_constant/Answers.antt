@@ -2,21 +2,20 @@
 use Prim.Native.Nat.{◌+◌}
 use mathlib.Core.Path.{◌∙◌, ap, sym}
 use native.Mathlib.Omega.{arith}
+use Rattle.definition.proofs.Basic.{passed_on}
 use Rattle.std.proofs.Common.{rules}
-use Rattle.std.proofs.lemmas.Result.{err_from_is_err_and}
 use Rattle.definition.specs.Basic.{byte_at}
 use Rattle.definition.specs.Decode.{read_content}
 use Rattle.bytecode.specs.Checked.{item, is_constant}
 use Rattle.bytecode.proofs.Heads.{fitting, unfitting}
-use Rattle.bytecode.proofs.Constants.{plain_constant, function_long, function_item}
+use Rattle.bytecode.proofs.ReadConstants.{plain_constant, function_long, function_item}
 use Rattle.bytecode.proofs.check_constant.Goals as goal
 
 pub returns-in_err-head : goal.returns-in_err-head
 returns-in_err-head c =
-    let p = err_from_is_err_and c.from_residual.result c.from_residual.ensures.1 in
     let a = c.args in
     let e = c.head_where.ensures (is_constant a.form) (λ h r q. search rules) in
-    rw (p.1, p.2) (sym (ap item (unfitting (byte_at a.bytes.now) a.at a.end (is_constant a.form) e c.in_err-head.was (read_content (byte_at a.bytes.now)))))
+    rw (passed_on c.from_residual.ensures.1) (sym (ap item (unfitting (byte_at a.bytes.now) a.at a.end (is_constant a.form) e c.in_err-head.was (read_content (byte_at a.bytes.now)))))
 
 pub overflow_add-next-2 : goal.overflow_add-next-2
 overflow_add-next-2 c =
@@ -25,19 +24,19 @@ overflow_add-next-2 c =
     let f = fitting (byte_at a.bytes.now) a.at a.end (is_constant a.form) e c.in_ok-head.was in
     omega arith
 
-pub returns-then-head-function_tag : goal.returns-then-head-function_tag
-returns-then-head-function_tag c =
+pub returns-then-head-tags : goal.returns-then-head-tags
+returns-then-head-tags c =
     let a = c.args in
     let e = c.head_where.ensures (is_constant a.form) (λ h r q. search rules) in
     let f = fitting (byte_at a.bytes.now) a.at a.end (is_constant a.form) e c.in_ok-head.was in
-    rw f.reads (sym (plain_constant a.form (byte_at a.bytes.now) (a.at + 3) c.in_ok-head.head f.is_good (λ i. c.if-head-function_tag.true (i ∙ sym c.function_tag.ensures))))
+    rw f.reads (sym (plain_constant a.form (byte_at a.bytes.now) (a.at + 3) c.in_ok-head.head f.is_good (λ i. c.if-head-tags.true (i ∙ sym c.tags.ensures.function))))
 
 pub check_code-requires : goal.check_code-requires
 check_code-requires c =
     let a = c.args in
     let e = c.head_where.ensures (is_constant a.form) (λ h r q. search rules) in
     let f = fitting (byte_at a.bytes.now) a.at a.end (is_constant a.form) e c.in_ok-head.was in
-    let l = function_long a.form (byte_at a.bytes.now) (a.at + 3) c.in_ok-head.head f.is_good (c.if-head-function_tag.false ∙ c.function_tag.ensures) in
+    let l = function_long a.form (byte_at a.bytes.now) (a.at + 3) c.in_ok-head.head f.is_good (c.if-head-tags.false ∙ c.tags.ensures.function) in
     record { order = omega arith; within = omega arith }
 
 pub returns : goal.returns
@@ -45,4 +44,4 @@ returns c =
     let a = c.args in
     let e = c.head_where.ensures (is_constant a.form) (λ h r q. search rules) in
     let f = fitting (byte_at a.bytes.now) a.at a.end (is_constant a.form) e c.in_ok-head.was in
-    rw f.reads (c.check_code.ensures c.in_ok-head.head.len (omega arith) ∙ function_item a.form (byte_at a.bytes.now) (a.at + 3) c.in_ok-head.head f.is_good (c.if-head-function_tag.false ∙ c.function_tag.ensures))
+    rw f.reads (c.check_code.ensures c.in_ok-head.head.len (omega arith) ∙ function_item a.form (byte_at a.bytes.now) (a.at + 3) c.in_ok-head.head f.is_good (c.if-head-tags.false ∙ c.tags.ensures.function))

@@ -1,13 +1,12 @@
 -- `bytecode::check_form` meets its contract: main code, the pool, and nothing more.
 use native.Mathlib.Omega.{arith}
-use Rattle.std.proofs.lemmas.Result.{err_from_is_err_and}
+use Rattle.definition.proofs.Basic.{passed_on}
 use Rattle.bytecode.proofs.Images.{main_wrong, main_within, pool_wrong, image_ends, image_follows}
 use Rattle.bytecode.proofs.check_form.Goals as goal
 
 pub returns-in_err-at : goal.returns-in_err-at
 returns-in_err-at c =
-    let p = err_from_is_err_and c.from_residual.result c.from_residual.ensures.1 in
-    rw (p.1, p.2) (main_wrong c.args.form c.args.image.now c.check_main.ensures c.in_err-at.was)
+    rw (passed_on c.from_residual.ensures.1) (main_wrong c.args.form c.args.image.now c.check_main.ensures c.in_err-at.was)
 
 pub check_pool-requires : goal.check_pool-requires
 check_pool-requires c =
@@ -16,8 +15,7 @@ check_pool-requires c =
 
 pub returns-in_err-pool : goal.returns-in_err-pool
 returns-in_err-pool c =
-    let p = err_from_is_err_and c.from_residual-in_err-pool.result c.from_residual-in_err-pool.ensures.1 in
-    rw (p.1, p.2) (pool_wrong c.args.form c.args.image.now c.check_main.ensures c.in_ok-at.was c.check_pool.ensures c.in_err-pool.was)
+    rw (passed_on c.from_residual-in_err-pool.ensures.1) (pool_wrong c.args.form c.args.image.now c.check_main.ensures c.in_ok-at.was c.check_pool.ensures c.in_err-pool.was)
 
 pub returns-then-pool-image : goal.returns-then-pool-image
 returns-then-pool-image c =

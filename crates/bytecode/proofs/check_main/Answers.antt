@@ -1,8 +1,8 @@
 -- `bytecode::check_main` meets its contract: by its head, and then the code.
 use mathlib.Core.Path.{ap, sym}
 use native.Mathlib.Omega.{arith}
+use Rattle.definition.proofs.Basic.{passed_on}
 use Rattle.std.proofs.Common.{rules}
-use Rattle.std.proofs.lemmas.Result.{err_from_is_err_and}
 use Rattle.definition.specs.Basic.{byte_at}
 use native.Mathlib.Nat.{le_refl}
 use lib.ListN.{length}
@@ -13,13 +13,12 @@ use Rattle.bytecode.proofs.check_main.Goals as goal
 
 pub returns-in_err-head : goal.returns-in_err-head
 returns-in_err-head c =
-    let p = err_from_is_err_and c.from_residual.result c.from_residual.ensures.1 in
     let a = c.args in
     let e = c.head_where.ensures (is_main a.form) (λ h r q. search rules) in
-    rw (p.1, p.2) (sym (ap item (unfitting (byte_at a.image.now) 0 (length a.image.now) (is_main a.form) e c.in_err-head.was (main_content (byte_at a.image.now)))))
+    rw (passed_on c.from_residual.ensures.1) (sym (ap item (unfitting (byte_at a.image.now) 0 (length a.image.now) (is_main a.form) e c.in_err-head.was (main_content (byte_at a.image.now)))))
 
-pub overflow_add-head : goal.overflow_add-head
-overflow_add-head c =
+pub overflow_add-code : goal.overflow_add-code
+overflow_add-code c =
     let a = c.args in
     let e = c.head_where.ensures (is_main a.form) (λ h r q. search rules) in
     let f = fitting (byte_at a.image.now) 0 (length a.image.now) (is_main a.form) e c.in_ok-head.was in

@@ -1,8 +1,8 @@
 -- `bytecode::check_name` meets its contract: by its head.
 use mathlib.Core.Path.{ap, sym}
 use native.Mathlib.Omega.{arith}
+use Rattle.definition.proofs.Basic.{passed_on}
 use Rattle.std.proofs.Common.{rules}
-use Rattle.std.proofs.lemmas.Result.{err_from_is_err_and}
 use Rattle.definition.specs.Basic.{byte_at}
 use Rattle.bytecode.specs.Checked.{item, is_name}
 use Rattle.bytecode.proofs.Heads.{fitting, unfitting}
@@ -11,9 +11,8 @@ use Rattle.bytecode.proofs.check_name.Goals as goal
 
 pub returns-in_err-head : goal.returns-in_err-head
 returns-in_err-head c =
-    let p = err_from_is_err_and c.from_residual.result c.from_residual.ensures.1 in
     let a = c.args in
-    rw (p.1, p.2) (sym (ap item (unfitting (byte_at a.bytes.now) a.at a.end is_name (c.head_where.ensures is_name (λ h r q. search rules)) (c.in_err-head.was) (name_content (byte_at a.bytes.now)))))
+    rw (passed_on c.from_residual.ensures.1) (sym (ap item (unfitting (byte_at a.bytes.now) a.at a.end is_name (c.head_where.ensures is_name (λ h r q. search rules)) (c.in_err-head.was) (name_content (byte_at a.bytes.now)))))
 
 pub overflow_add-result-2 : goal.overflow_add-result-2
 overflow_add-result-2 c =

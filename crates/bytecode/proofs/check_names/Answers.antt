@@ -2,8 +2,8 @@
 use mathlib.Core.Path.{ap, sym}
 use native.Mathlib.Omega.{arith}
 use lib.ListN.{length}
+use Rattle.definition.proofs.Basic.{passed_on}
 use Rattle.std.proofs.Common.{rules}
-use Rattle.std.proofs.lemmas.Result.{err_from_is_err_and}
 use Rattle.definition.specs.Basic.{byte_at}
 use Rattle.definition.specs.Field.{tagged}
 use Rattle.bytecode.specs.Checked.{checked}
@@ -13,10 +13,9 @@ use Rattle.bytecode.proofs.check_names.Goals as goal
 
 pub returns-in_err-head : goal.returns-in_err-head
 returns-in_err-head c =
-    let p = err_from_is_err_and c.from_residual.result c.from_residual.ensures.1 in
     let a = c.args in
     let e = c.head_where.ensures (tagged a.tag) (λ h r q. search rules) in
-    rw (p.1, p.2) (sym (ap checked (unfitting (byte_at a.session.now) a.at (length a.session.now) (tagged a.tag) e c.in_err-head.was (names_content (byte_at a.session.now) a.most))))
+    rw (passed_on c.from_residual.ensures.1) (sym (ap checked (unfitting (byte_at a.session.now) a.at (length a.session.now) (tagged a.tag) e c.in_err-head.was (names_content (byte_at a.session.now) a.most))))
 
 pub overflow_add-at-3 : goal.overflow_add-at-3
 overflow_add-at-3 c =

@@ -3,8 +3,8 @@ use Prim.Native.Nat.{◌+◌, ◌≤◌}
 use mathlib.Core.Path.{◌∙◌, ap, sym, refl}
 use native.Mathlib.Omega.{arith}
 use lib.ListN.{length}
+use Rattle.definition.proofs.Basic.{passed_on}
 use Rattle.std.proofs.Common.{rules}
-use Rattle.std.proofs.lemmas.Result.{err_from_is_err_and}
 use Rattle.definition.specs.Basic.{byte_at}
 use mathlib.Core.List.{[]}
 use Rattle.definition.specs.Limit.{constants_limit}
@@ -17,10 +17,9 @@ use Rattle.bytecode.proofs.check_pool.Goals as goal
 
 pub returns-in_err-head : goal.returns-in_err-head
 returns-in_err-head c =
-    let p = err_from_is_err_and c.from_residual.result c.from_residual.ensures.1 in
     let a = c.args in
     let e = c.head_where.ensures is_pool (λ h r q. search rules) in
-    rw (p.1, p.2) (sym (ap checked (unfitting (byte_at a.bytes.now) a.at a.end is_pool e c.in_err-head.was (pool_content_in (byte_at a.bytes.now) a.form))))
+    rw (passed_on c.from_residual.ensures.1) (sym (ap checked (unfitting (byte_at a.bytes.now) a.at a.end is_pool e c.in_err-head.was (pool_content_in (byte_at a.bytes.now) a.form))))
 
 pub overflow_add-after-2 : goal.overflow_add-after-2
 overflow_add-after-2 c =

@@ -1,5 +1,5 @@
 -- `bytecode::check_words` meets its contract: by the first byte, the fields, and whether a name is repeated.
-use Rattle.std.proofs.lemmas.Result.{err_from_is_err_and}
+use Rattle.definition.proofs.Basic.{passed_on}
 use Rattle.bytecode.proofs.Words.{none_there, other_tag, own_row, own_good, own_wrong, own_repeated}
 use Rattle.bytecode.proofs.check_words.Goals as goal
 
@@ -11,8 +11,7 @@ returns-then-session-ne-WORDS c = other_tag c.args.session.now c.if-session-ne-W
 
 pub returns-in_err-words : goal.returns-in_err-words
 returns-in_err-words c =
-    let p = err_from_is_err_and c.from_residual.result c.from_residual.ensures.1 in
-    rw (p.1, p.2) (own_wrong c.args.session.now c.if-session-ne-WORDS.false c.check_names.ensures c.in_err-words.was)
+    rw (passed_on c.from_residual.ensures.1) (own_wrong c.args.session.now c.if-session-ne-WORDS.false c.check_names.ensures c.in_err-words.was)
 
 pub distinct_names-requires : goal.distinct_names-requires
 distinct_names-requires c = own_row c.args.session.now c.if-session-ne-WORDS.false c.check_names.ensures c.in_ok-words.was

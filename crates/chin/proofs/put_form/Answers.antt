@@ -3,7 +3,7 @@ use Prim.Native.Nat.{◌+◌}
 use native.Mathlib.Omega.{arith}
 use mathlib.Core.Path.{◌∙◌, ap, subst}
 use lib.ListN.{set}
-use Rattle.std.proofs.lemmas.Result.{err_from_is_err_and}
+use Rattle.definition.proofs.Basic.{passed_on}
 use Rattle.bytecode.specs.Form.{tag_main_in}
 use Rattle.chin.specs.Rows.{jump_of, TurnsCode}
 use Rattle.chin.proofs.Whole.{image_long, main_at, pool_at, main_bad, image-turned}
@@ -32,13 +32,12 @@ turn_constants-requires c =
 
 pub returns-in_err-turn_code : goal.returns-in_err-turn_code
 returns-in_err-turn_code c =
-    let p = err_from_is_err_and c.from_residual.result c.from_residual.ensures.1 in
     let a = c.args in
     let b = a.image.now in
     let turn = c.turn_code in
-    let put = c.put_tag in
+    let put = c.store in
     let len = c.length_at-end in
-    rw (p.1, p.2)
+    rw (passed_on c.from_residual.ensures.1)
     (λ m is. main_bad a.from b is len.ensures.is
     (subst (λ r. TurnsCode (jump_of a.from) b 3 (3 + len.result) m.code put.new.output turn.new.output r) c.in_err-turn_code.was (turn.ensures m.code (main_at a.from b is len.ensures.is))))
 
@@ -50,10 +49,10 @@ returns c =
     let o = a.output.now in
     let constants = c.turn_constants in
     let turn = c.turn_code in
-    let put = c.put_tag in
-    let tag = c.main_tag-tag in
+    let put = c.store in
+    let tag = c.tags-tag in
     let other = c.other_form in
     let len = c.length_at-end in
-    λ m is. image-turned a.from b is len.ensures.is o (put.ensures ∙ ap (set o 0) (tag.ensures ∙ ap tag_main_in other.ensures)) (turn.auto.output ∙ put.auto.output)
+    λ m is. image-turned a.from b is len.ensures.is o (put.ensures ∙ ap (set o 0) (tag.ensures.main ∙ ap tag_main_in other.ensures)) (turn.auto.output ∙ put.auto.output)
     (subst (λ r. TurnsCode (jump_of a.from) b 3 (3 + len.result) m.code put.new.output turn.new.output r) c.in_ok-turn_code.was (turn.ensures m.code (main_at a.from b is len.ensures.is)))
     (constants.ensures m.pool (pool_at a.from b is len.ensures.is))

@@ -1,7 +1,7 @@
 -- `frames::count_frames` meets its contract: by the image's check, then by the size.
 use native.Mathlib.Omega.{arith}
 use mathlib.Core.Path.{sym, ◌∙◌}
-use Rattle.std.proofs.lemmas.Result.{err_from_is_err_and}
+use Rattle.definition.proofs.Basic.{passed_on}
 use Rattle.frames.proofs.Division.{in-range}
 use Rattle.frames.proofs.Calls.{count_bad, count_good, count_bad_size}
 use Rattle.frames.proofs.count_frames.Goals as goal
@@ -28,8 +28,7 @@ nonzero_rem-result c =
 
 pub returns-in_err-check_image : goal.returns-in_err-check_image
 returns-in_err-check_image c =
-    let p = err_from_is_err_and c.from_residual.result c.from_residual.ensures.1 in
-    rw (p.1, p.2) (count_bad c.args.image.now c.args.size c.check_image.ensures c.in_err-check_image.was)
+    rw (passed_on c.from_residual.ensures.1) (count_bad c.args.image.now c.args.size c.check_image.ensures c.in_err-check_image.was)
 
 pub returns : goal.returns
 returns c =

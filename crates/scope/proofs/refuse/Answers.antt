@@ -1,6 +1,6 @@
 -- A walk that goes on stops; one that has stopped stays.
 use mathlib.Core.Path.{refl}
-use Rattle.scope.proofs.Leaves.{passed_on}
+use Rattle.definition.proofs.Basic.{passed_on}
 use Rattle.scope.proofs.refuse.Goals as goal
 
 pub returns : goal.returns

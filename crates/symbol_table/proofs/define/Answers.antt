@@ -12,18 +12,13 @@ pub slice_bounds-place_global-end-then-level-eq0 : goal.slice_bounds-place_globa
 slice_bounds-place_global-end-then-level-eq0 c = sym (length-take-le globals_size c.args.table.now (omega arith))
 
 pub place_global-requires : goal.place_global-requires
-place_global-requires c =
-    record {
-      good_globals = (c.requires.good.0, good-globals _ _ _ _ c.requires.good.1);
-      name = record { stands = c.requires.stands; is = c.hash_at-hash.ensures.is };
-      name_lt_tree_limit = c.requires.name_lt_tree_limit;
-    }
+place_global-requires c = (c.requires.good.0, rw c.new-key.ensures.tree (good-globals _ _ _ _ c.requires.good.1))
 
 pub returns-then-level-eq0 : goal.returns-then-level-eq0
 returns-then-level-eq0 c =
     let s = c in
-    defined_global _ _ _ _ _ (record { stands = s.requires.stands; is = c.hash_at-hash.ensures.is }) _ _ c.if-level-eq0.true
-    (c.place_global.auto.globals ∙ length-take-le globals_size s.args.table.now (omega arith)) c.place_global.ensures
+    defined_global _ _ _ _ _ (record { stands = s.requires.stands; is = c.new-key.ensures.hash }) _ _ c.if-level-eq0.true
+    (c.place_global.auto.globals ∙ length-take-le globals_size s.args.table.now (omega arith)) (rw (c.new-key.ensures.tree, c.new-key.ensures.at) at c.place_global.ensures)
 
 pub place_at-requires : goal.place_at-requires
 place_at-requires c =
@@ -31,8 +26,7 @@ place_at-requires c =
     record {
       part_size_in_bounds = omega arith;
       sized = (good_here _ _ _ _ s.requires.good.1 (s.args.level - 1) (omega arith)).table.sized;
-      name_lt_tree_limit = s.requires.name_lt_tree_limit;
     }
 
 pub returns : goal.returns
-returns c = defined_local _ _ _ _ _ (record { stands = c.requires.stands; is = c.hash_at-hash.ensures.is }) _ _ _ (omega arith) c.place_at.ensures
+returns c = defined_local _ _ _ _ _ (record { stands = c.requires.stands; is = c.new-key.ensures.hash }) _ _ _ (omega arith) (rw c.new-key.ensures.at at c.place_at.ensures)

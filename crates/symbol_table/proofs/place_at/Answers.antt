@@ -5,10 +5,6 @@ use Rattle.symbol_table.specs.Layout.{base}
 use Rattle.symbol_table.proofs.Levels.{width, at_put}
 use Rattle.symbol_table.proofs.place_at.Goals as goal
 
-pub place_in-requires : goal.place_in-requires
-place_in-requires c =
-    rw (width (base c.args.level)) (record { sized = c.requires.sized; name_lt_tree_limit = c.requires.name_lt_tree_limit })
-
 pub returns : goal.returns
 returns c =
     let s = c in

@@ -1,54 +1,21 @@
 -- `check_children` calls itself with a level fewer. The loop's invariant says that what is left decides; its measure is what is left of the content.
-use native.Mathlib.Omega.{arith}
 use mathlib.Core.Path.{sym, ◌∙◌}
-use Rattle.tree.proofs.Steps.{left_holds, left_none, left_missing, left_enough, left_fits, left_bad, left_deep, left_found, left_leaf, left_children}
+use Rattle.tree.proofs.Steps.{left_none, left_missing, left_enough, left_bad, left_deep, left_found, left_leaf, left_children}
 use Rattle.tree.proofs.+check_children.Goals as goal
 use Rattle.tree.proofs.+check_children.Goals.{else-at-end-via-then-at-end+else-t-eq-CALL, else-at-end-via-else-at-end, then-not-is_leaf+else-found-ne0, else-not-is_leaf}
 
 pub returns-then-t-eq-CALL : goal.returns-then-t-eq-CALL
 returns-then-t-eq-CALL t c = c.bad.ensures ∙ left_none _ _ _ _ (sym c.from-t.ensures ∙ c.if-t-eq-CALL.true) c.if-at-end.true
 
-pub loop-at-init : goal.loop-at-init
-loop-at-init t c =
-    left_holds c.requires.0 (c.type_inv.tree c.args.parent).fits (rw c.from-t.ensures at c.child_kinds-kinds.ensures)
-    (λ call e. elim c.else-at-end.branch [ else-at-end-via-then-at-end+else-t-eq-CALL w ↦ w.if-t-eq-CALL.false (c.from-t.ensures ∙ call) | else-at-end-via-else-at-end w ↦ w.if-at-end.false e ])
-
-pub good_field-requires : goal.good_field-requires
-good_field-requires t c = (c.loop-at.invariant.finish, c.requires.1)
-
-pub bad-requires-then-not-good_field : goal.bad-requires-then-not-good_field
-bad-requires-then-not-good_field t c = let l = c.loop-at.invariant.finish in omega (arith, c.requires.2)
-
 pub returns-then-not-good_field : goal.returns-then-not-good_field
 returns-then-not-good_field t c = c.bad-then-not-good_field.ensures ∙ left_bad _ c.loop-at.invariant c.loop-at-test.true (sym c.good_field.ensures ∙ c.if-not-good_field.true)
-
-pub deep-requires : goal.deep-requires
-deep-requires t c = let l = c.loop-at.invariant.finish in omega (arith, c.requires.2)
 
 pub returns-then-levels-eq0 : goal.returns-then-levels-eq0
 returns-then-levels-eq0 t c = c.deep.ensures ∙ left_deep _ c.loop-at.invariant c.loop-at-test.true (sym c.good_field.ensures ∙ c.if-not-good_field.false) c.if-levels-eq0.true
 
-pub after_at-next-requires : goal.after_at-next-requires
-after_at-next-requires t c = let fit = left_fits _ c.loop-at.invariant (sym c.good_field.ensures ∙ c.if-not-good_field.false) in record { fits = omega (arith, c.requires.1) }
-
-pub bounds-tree-at : goal.bounds-tree-at
-bounds-tree-at t c = let fit = left_fits _ c.loop-at.invariant (sym c.good_field.ensures ∙ c.if-not-good_field.false) in omega (arith, c.requires.1)
-
-pub check_children-found-requires : goal.check_children-found-requires
-check_children-found-requires t c =
-    let fit = left_fits _ c.loop-at.invariant (sym c.good_field.ensures ∙ c.if-not-good_field.false) in
-    let next = c.after_at-next.ensures.is in
-    (omega (arith, c.decreases, c.if-levels-eq0.false), (omega arith, omega (arith, c.requires.1), omega (arith, c.requires.2)))
-
 pub returns-then-found-ne0 : goal.returns-then-found-ne0
 returns-then-found-ne0 t c =
     left_found _ c.loop-at.invariant c.loop-at-test.true (sym c.good_field.ensures ∙ c.if-not-good_field.false) c.if-levels-eq0.false (rw c.from.ensures at (sym c.is_leaf.ensures ∙ c.if-not-is_leaf.true)) (rw c.after_at-next.ensures.is at c.check_children-found.ensures) c.if-found-ne0.true
-
-pub loop-at-smaller : goal.loop-at-smaller
-loop-at-smaller t c =
-    let fit = left_fits _ c.loop-at.invariant (sym c.good_field.ensures ∙ c.if-not-good_field.false) in
-    let next = c.after_at-next.ensures.is in
-    omega (arith, c.loop-at-test.true)
 
 pub loop-at-preserved : goal.loop-at-preserved
 loop-at-preserved t c =

@@ -1,16 +1,18 @@
--- `tree::count_fields` meets its contract. The loop's invariant: so many fields stand before `at`, and the others behind it.
--- The measure is what is left up to the end.
-use Rattle.tree.proofs.Rows.{row-whole, count_holds, count_again, count_ends}
+-- `tree::count_fields` meets its contract: going over the fields passes each once.
+use Rattle.std.proofs.Common.{refl, subst, sym, length}
+use Rattle.field.proofs.EachField.{over_new, starts_at, can_begin}
+use Rattle.tree.specs.Reads.{Chain}
+use Rattle.tree.proofs.Rows.{drained, in_row, counted}
 use Rattle.tree.proofs.count_fields.Goals as goal
 
-pub loop-at-init : goal.loop-at-init
-loop-at-init c = search count_holds
-
-pub after_at-at-requires : goal.after_at-at-requires
-after_at-at-requires c = search row-whole
-
-pub loop-at-preserved : goal.loop-at-preserved
-loop-at-preserved c = search count_again
+pub count-requires-clause-can : goal.count-requires-clause-can
+count-requires-clause-can c = can_begin refl c.new.ensures (in_row c.requires)
 
 pub returns : goal.returns
-returns c = search count_ends
+returns c =
+    let a = c.args in
+    let n = c.new.ensures in
+    let r = c.count.ensures.ran in
+    let over = over_new refl n in
+    let chain = subst (λ at. Chain a.tree.now at a.end (length r.0)) (sym (starts_at refl n)) (drained r.0 over r.1) in
+    rw r.2 (counted (length r.0) (record { fields = chain }))

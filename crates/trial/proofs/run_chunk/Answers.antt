@@ -6,7 +6,7 @@ use Rattle.trial.specs.Call.{refused_with}
 use Rattle.trial.specs.Run.{unset_globals}
 use Rattle.trial.specs.Cells.{Keeping}
 use Rattle.trial.proofs.Memory.{cleared_keeps}
-use Rattle.trial.proofs.Running.{handed}
+use Rattle.definition.proofs.Basic.{passed_on}
 use Rattle.trial.proofs.Calling.{arrived, main_safe, names_few, names_found, refusal_found, room_short, ended-stopped, ended-ran, answered, written}
 use Rattle.trial.proofs.run_chunk.Goals as goal
 
@@ -30,13 +30,13 @@ put_globals-requires c = let h = c.requires.0 in let a = arrived c.args.heights.
 
 pub returns-in_err-globals : goal.returns-in_err-globals
 returns-in_err-globals c = let h = c.requires.0 in let a = arrived c.args.heights.now h.image h.passes in record {
-  answers = answered c.args.heights.now (length c.args.output.now) h.reads (refusal_found (refused_with c.args.heights.now h.image) (named_globals h.image.code) (c.scan.ensures h.image h.reads a.state a.passed) c.in_err-globals.was h.image (length c.args.output.now)) (handed c.from_residual.result _ c.from_residual.ensures.1);
+  answers = answered c.args.heights.now (length c.args.output.now) h.reads (refusal_found (refused_with c.args.heights.now h.image) (named_globals h.image.code) (c.scan.ensures h.image h.reads a.state a.passed) c.in_err-globals.was h.image (length c.args.output.now)) (passed_on c.from_residual.ensures.1);
   writes = written c.args.heights.now (length c.args.output.now) h.reads (refusal_found (refused_with c.args.heights.now h.image) (named_globals h.image.code) (c.scan.ensures h.image h.reads a.state a.passed) c.in_err-globals.was h.image (length c.args.output.now)) c.args.output.now (refl);
 }
 
 pub returns-in_err-steps : goal.returns-in_err-steps
 returns-in_err-steps c = let h = c.requires.0 in let a = arrived c.args.heights.now h.image h.passes in let f = names_found (refused_with c.args.heights.now h.image) (c.scan.ensures h.image h.reads a.state a.passed) c.in_ok-globals.was in let o = ended-stopped h.image (length c.args.output.now) f.0 f.1 c.if-output-globals.false (c.run_main.ensures h.image h.reads) c.in_err-steps.was in record {
-  answers = answered c.args.heights.now (length c.args.output.now) h.reads (o) (handed c.from_residual-in_err-steps.result _ c.from_residual-in_err-steps.ensures.1);
+  answers = answered c.args.heights.now (length c.args.output.now) h.reads (o) (passed_on c.from_residual-in_err-steps.ensures.1);
   writes = written c.args.heights.now (length c.args.output.now) h.reads (o) c.args.output.now (refl);
 }
 

@@ -5,44 +5,43 @@ use Rattle.step.proofs.Memory.{fine_roomy, deeper_keeps}
 use Rattle.step.specs.Memory.{rest}
 use Rattle.tree.proofs.Children.{branch_body, if_branches, first_branch, call_args, other_branch, expr_here, list_items, macro-tag, function_params, function_body, index_right, infix_left, infix_right, let_value, stmt_here, return-tag, value_expr, block_body}
 use Rattle.tree.proofs.Inside.{inside_at, if_inside, index_inside, infix_inside, let_inside, value-inside}
-use Rattle.tree.proofs.Rows.{exprs_in_row, names_in_row}
+use Rattle.tree.proofs.Rows.{exprs_in_row, names_in_row, stmts_to, exprs_to}
 use Rattle.walk.proofs.Calls.{many_walks, call_walks, array_walks, hash_walks, list_walks}
 use Rattle.walk.proofs.Expressions.{expr_walks, identifier_walks, integer_walks, string_walks, boolean_byte, boolean_walks, macro_walks, index_walks, less_walks, infix_walks, prefix_walks}
 use Rattle.walk.proofs.Function.{body_inside, function-head, function_walks}
 use Rattle.walk.proofs.If.{branch_walks, branches_walks, else_first, other_inside, else_walks, null_walks, if_walks}
 use Rattle.walk.proofs.Sequence.{onward, jumps-steps}
 use Rattle.walk.proofs.Statements.{let_walks, stmt_walks, expr_stmt_walks, block_walks, return_walks}
-use Rattle.walk.proofs.Turns.{turn_holds, stmts_again, stmts_end, stmts_first, stmts_fit, stmts_whole, exprs_again, exprs_end, exprs_first, exprs_fit, exprs_whole}
+use Rattle.walk.proofs.Turns.{stmts_first, stmts_fit, exprs_first, exprs_fit}
+use Rattle.walk.proofs.Loop.{loop_holds, turn_at, stmt_turn, expr_turn, stmts_walked, exprs_walked}
+use Rattle.field.proofs.EachField.{can_begin, is_before}
 use borrow.Author.Rules.{rules}
 use mathlib.Core.Path.{refl, ap}
 use native.Mathlib.Omega.{arith}
 use Rattle.walk.proofs.+walk.Goals as goal
 
 pub walk_block-loop-at-init : goal.walk_block-loop-at-init
-walk_block-loop-at-init t c = search turn_holds
+walk_block-loop-at-init t c =
+    let e = c.into_iter-at-iterator.ensures.into_iter_gives in
+    let n = c.new-at-items.ensures in
+    record { can = can_begin e n (stmts_to c.requires.some); loop = loop_holds e n c.requires.some c.requires.standing }
 
 pub walk_block-walk_statement-v-requires : goal.walk_block-walk_statement-v-requires
 walk_block-walk_statement-v-requires t c =
-    let on-loop-test = c.loop-at-test in
-    let on-loop = c.loop-at in
-    (omega (arith, stmts_fit on-loop-test.true on-loop.invariant.left), (stmts_first on-loop-test.true on-loop.invariant.left, search rules))
-
-pub walk_block-after_at-at-requires : goal.walk_block-after_at-at-requires
-walk_block-after_at-at-requires t c =
-    let on-loop-test = c.loop-at-test in
-    let on-loop = c.loop-at in
-    stmts_whole on-loop-test.true on-loop.invariant.left
+    let n = c.in-Some.ensures.steps in
+    let l = c.loop-at.invariant.loop in
+    let turn = turn_at l n in
+    let before = is_before l.over n in
+    (omega (arith, stmts_fit before turn.left, turn.onward), (stmts_first before turn.left, turn.standing))
 
 pub walk_block-loop-at-preserved : goal.walk_block-loop-at-preserved
 walk_block-loop-at-preserved t c =
-    let on-loop-test = c.loop-at-test in
-    let on-after-at = c.after_at-at in
-    let on-walk-statement = c.walk_statement-v in
-    let on-loop = c.loop-at in
-    stmts_again on-loop-test.true on-after-at.ensures.is on-walk-statement.auto.code on-walk-statement.auto.session on-walk-statement.auto.table on-loop.invariant on-walk-statement.ensures
+    let n = c.in-Some.ensures.steps in
+    let one = c.walk_statement-v in
+    record { can = c.in-Some.ensures.goes.keeps; loop = stmt_turn n one.auto.code one.auto.session one.auto.table c.loop-at.invariant.loop one.ensures }
 
 pub walk_block-returns : goal.walk_block-returns
-walk_block-returns t c = search stmts_end
+walk_block-returns t c = stmts_walked c.in-None.ensures.steps c.loop-at.invariant.loop
 
 pub walk_branch-walk_block-v-requires : goal.walk_branch-walk_block-v-requires
 walk_branch-walk_block-v-requires t c =
@@ -316,30 +315,27 @@ walk_expression-returns-in_default t c =
     let no = on-match.in_default-own.rest in macro_walks (macro-tag no.0.0.0.0.0.0.0.0.0.0.0.1 no.0.0.0.0.0.0.0.0.0.0.1 no.0.0.0.0.0.0.0.0.0.1 no.0.0.0.0.0.0.0.0.1 no.0.0.0.0.0.0.0.1 no.0.0.0.0.0.0.1 no.0.0.0.0.0.1 no.0.0.0.0.1 no.0.0.0.1 no.0.0.1 no.0.1 no.1 start.requires.some) start.requires.standing.ready start.requires.standing.fine on-refuse.ensures
 
 pub walk_expressions-loop-at-init : goal.walk_expressions-loop-at-init
-walk_expressions-loop-at-init t c = search turn_holds
+walk_expressions-loop-at-init t c =
+    let e = c.into_iter-at-iterator.ensures.into_iter_gives in
+    let n = c.new-at-items.ensures in
+    record { can = can_begin e n (exprs_to c.requires.some); loop = loop_holds e n c.requires.some c.requires.standing }
 
 pub walk_expressions-walk_expression-v-requires : goal.walk_expressions-walk_expression-v-requires
 walk_expressions-walk_expression-v-requires t c =
-    let on-loop-test = c.loop-at-test in
-    let on-loop = c.loop-at in
-    (omega (arith, exprs_fit on-loop-test.true on-loop.invariant.left), (exprs_first on-loop-test.true on-loop.invariant.left, search rules))
-
-pub walk_expressions-after_at-at-requires : goal.walk_expressions-after_at-at-requires
-walk_expressions-after_at-at-requires t c =
-    let on-loop-test = c.loop-at-test in
-    let on-loop = c.loop-at in
-    exprs_whole on-loop-test.true on-loop.invariant.left
+    let n = c.in-Some.ensures.steps in
+    let l = c.loop-at.invariant.loop in
+    let turn = turn_at l n in
+    let before = is_before l.over n in
+    (omega (arith, exprs_fit before turn.left, turn.onward), (exprs_first before turn.left, turn.standing))
 
 pub walk_expressions-loop-at-preserved : goal.walk_expressions-loop-at-preserved
 walk_expressions-loop-at-preserved t c =
-    let on-loop-test = c.loop-at-test in
-    let on-after-at = c.after_at-at in
-    let on-walk-expression = c.walk_expression-v in
-    let on-loop = c.loop-at in
-    exprs_again on-loop-test.true on-after-at.ensures.is on-walk-expression.auto.code on-walk-expression.auto.session on-walk-expression.auto.table on-loop.invariant on-walk-expression.ensures
+    let n = c.in-Some.ensures.steps in
+    let one = c.walk_expression-v in
+    record { can = c.in-Some.ensures.goes.keeps; loop = expr_turn n one.auto.code one.auto.session one.auto.table c.loop-at.invariant.loop one.ensures }
 
 pub walk_expressions-returns : goal.walk_expressions-returns
-walk_expressions-returns t c = search exprs_end
+walk_expressions-returns t c = exprs_walked c.in-None.ensures.steps c.loop-at.invariant.loop
 
 pub walk_function-after_at-body-requires : goal.walk_function-after_at-body-requires
 walk_function-after_at-body-requires t c =

@@ -5,7 +5,7 @@ use Rattle.field.specs.Layout.{len}
 use Rattle.scope.specs.Machine.{machine}
 use Rattle.step.specs.Memory.{rest}
 use Rattle.tree.specs.Reads.{ReadsStmts, ReadsExprs}
-use Rattle.walk.proofs.Turns.{Turn}
+use Rattle.walk.proofs.Loop.{LoopTurn}
 use mathlib.Core.List.{List}
 use Rattle.walk.proofs.+walk.Given as goal
 
@@ -59,13 +59,15 @@ abbrev pub decreases-walk_statement : goal.decreases-walk_statement
 decreases-walk_statement l = field l.tree.now l.at + 1
 
 abbrev pub invariant-walk_block-loop-at : goal.invariant-walk_block-loop-at
-invariant-walk_block-loop-at l = Turn l.tree (ReadsStmts l.tree) (walk_stmts machine) l.initial.at l.end l.initial.code (rest l.initial.session l.initial.table) l.initial.v l.at l.code (rest l.session l.table) l.v
-
-abbrev pub decreases-walk_block-loop-at : goal.decreases-walk_block-loop-at
-decreases-walk_block-loop-at l = l.end - l.at
+invariant-walk_block-loop-at l =
+    record {
+      can : (goal.iterator-walk_block-loop-at).can_next l.at-iterator;
+      loop : LoopTurn l.tree (ReadsStmts l.tree) (walk_stmts machine) l.from l.end l.initial.code (rest l.initial.session l.initial.table) l.initial.v l.at-iterator l.code (rest l.session l.table) l.v;
+    }
 
 abbrev pub invariant-walk_expressions-loop-at : goal.invariant-walk_expressions-loop-at
-invariant-walk_expressions-loop-at l = Turn l.tree (ReadsExprs l.tree) (walk_exprs machine) l.initial.at l.end l.initial.code (rest l.initial.session l.initial.table) l.initial.v l.at l.code (rest l.session l.table) l.v
-
-abbrev pub decreases-walk_expressions-loop-at : goal.decreases-walk_expressions-loop-at
-decreases-walk_expressions-loop-at l = l.end - l.at
+invariant-walk_expressions-loop-at l =
+    record {
+      can : (goal.iterator-walk_expressions-loop-at).can_next l.at-iterator;
+      loop : LoopTurn l.tree (ReadsExprs l.tree) (walk_exprs machine) l.from l.end l.initial.code (rest l.initial.session l.initial.table) l.initial.v l.at-iterator l.code (rest l.session l.table) l.v;
+    }

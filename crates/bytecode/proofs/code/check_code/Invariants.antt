@@ -1,11 +1,9 @@
 -- `bytecode::code::check_code` meets its contract: code that decodes goes up to the end; else one instruction a turn, and what is left decides.
-use Prim.Native.Nat.{◌-◌}
+use Rattle.std.proofs.Common.{◌≡◌}
 use Rattle.definition.specs.Basic.{byte_at}
+use Rattle.opcode.proofs.EachInstruction.{Over}
 use Rattle.bytecode.proofs.Instructions.{CodeLoop}
 use Rattle.bytecode.proofs.code.check_code.Given as goal
 
-abbrev pub invariant-loop-at : goal.invariant-loop-at
-invariant-loop-at l = CodeLoop (byte_at l.bytes) l.start l.end l.at
-
-abbrev pub decreases-loop-at : goal.decreases-loop-at
-decreases-loop-at l = l.end - l.at
+abbrev pub invariant-loop-next : goal.invariant-loop-next
+invariant-loop-next l = record { over : Over l.code.bytes.now l.code.end l.next-iterator; so_far : CodeLoop (byte_at l.code.bytes.now) l.code.start l.code.end l.reached; here : l.reached ≡ l.next-iterator.at }

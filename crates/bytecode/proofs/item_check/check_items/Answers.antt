@@ -1,5 +1,5 @@
 -- `bytecode::item_check::check_items` meets its contract: one item a turn.
-use Rattle.std.proofs.lemmas.Result.{err_from_is_err_and}
+use Rattle.definition.proofs.Basic.{passed_on}
 use Rattle.bytecode.proofs.Counted.{counting_begins, counting_ends, counting-full, counting-wrong, counting_again}
 use Rattle.bytecode.proofs.item_check.check_items.Goals as goal
 
@@ -11,8 +11,7 @@ returns-then-count-most g c = λ next f. counting-full _ _ _ _ c.loop-at.invaria
 
 pub returns-in_err-at : goal.returns-in_err-at
 returns-in_err-at g c =
-    let p = err_from_is_err_and c.from_residual.result c.from_residual.ensures.1 in
-    rw (p.1, p.2) (λ next f. counting-wrong _ _ _ _ c.loop-at.invariant next f c.loop-at-test.true c.if-count-most.false c.in_err-at.ensures)
+    rw (passed_on c.from_residual.ensures.1) (λ next f. counting-wrong _ _ _ _ c.loop-at.invariant next f c.loop-at-test.true c.if-count-most.false c.in_err-at.ensures)
 
 pub loop-at-preserved : goal.loop-at-preserved
 loop-at-preserved g c =

@@ -1,61 +1,67 @@
 -- `chin::row::turn_code` meets its contract: one instruction a turn; what is left decides.
-use native.Mathlib.Omega.{arith}
-use mathlib.Core.Path.{◌∙◌, sym, subst}
-use Rattle.std.proofs.lemmas.Result.{err_from_is_err_and}
-use Rattle.chin.specs.Rows.{jump_of, TurnsInstr}
-use Rattle.chin.proofs.Chunks.{code-begins, code_ends, code_there, code_within, code-instr, code_stops, code_again}
+use Rattle.std.proofs.Common.{◌≡◌, ◌-◌, ◌∙◌, arith, sym, subst}
+use Rattle.definition.proofs.Basic.{passed_on}
+use Rattle.opcode.proofs.EachInstruction.{over_new, starts_at, over_again, read_at, sized, all_stand}
+use Rattle.chin.specs.Rows.{jump_of, InstrIn, TurnsInstr}
+use Rattle.chin.proofs.Chunks.{CodeLoop, code-begins, code_ends, code_there, code-instr, code_stops, code_again}
 use Rattle.chin.proofs.row.turn_code.Goals as goal
 
 pub loop-at-init : goal.loop-at-init
 loop-at-init c =
     let a = c.args in
-    code-begins (jump_of a.from) a.image.now a.start a.end c.requires.is.order a.output.now
-
-pub size_at-requires : goal.size_at-requires
-size_at-requires c = c.requires.is.within
+    let n = c.new-at-items.ensures in
+    let e = c.into_iter-at-iterator.ensures.into_iter_gives in
+    record {
+      over = over_new e n.code n.end;
+      so_far = subst (λ at. CodeLoop (jump_of a.from) a.image.now a.start a.end a.output.now at a.output.now) (starts_at e n.at) (code-begins (jump_of a.from) a.image.now a.start a.end c.requires.is.order a.output.now);
+    }
 
 pub turn_instruction-requires : goal.turn_instruction-requires
 turn_instruction-requires c =
     let a = c.args in
-    code-instr (jump_of a.from) a.image.now a.start a.end c.requires.is c.loop-at.invariant c.loop-at-test.true (sym c.in-Some.is ∙ c.size_at.ensures)
+    let l = c.loop-at in
+    let n = c.in-Some.ensures.steps in
+    let r = read_at l.invariant.over n in
+    let z = sized r c.requires.is.within in
+    let p = subst (λ at. CodeLoop (jump_of a.from) a.image.now a.start a.end a.output.now at l.output) (sym n.here) l.invariant.so_far in
+    let s : c.in-Some.next - c.in-Some.at ≡ z.long = omega (arith, z.upto) in
+    subst (InstrIn a.image.now a.start c.in-Some.at) (sym s) (code-instr (jump_of a.from) a.image.now a.start a.end c.requires.is p r.before z.is)
 
-pub returns-in_err-turn_instruction-in-Some : goal.returns-in_err-turn_instruction-in-Some
-returns-in_err-turn_instruction-in-Some c =
-    let p = err_from_is_err_and c.from_residual.result c.from_residual.ensures.1 in
+pub returns-in_err-turn_instruction : goal.returns-in_err-turn_instruction
+returns-in_err-turn_instruction c =
     let a = c.args in
+    let l = c.loop-at in
+    let n = c.in-Some.ensures.steps in
+    let r = read_at l.invariant.over n in
+    let z = sized r c.requires.is.within in
+    let p = subst (λ at. CodeLoop (jump_of a.from) a.image.now a.start a.end a.output.now at l.output) (sym n.here) l.invariant.so_far in
+    let s : c.in-Some.next - c.in-Some.at ≡ z.long = omega (arith, z.upto) in
     let turn = c.turn_instruction in
-    let b = a.image.now in
-    rw (p.1, p.2)
-    (λ code is. code_stops (jump_of a.from) b a.start a.end is c.loop-at.invariant c.loop-at-test.true (sym c.in-Some.is ∙ c.size_at.ensures)
-    (subst (λ r. TurnsInstr (jump_of a.from) b a.start c.loop-at.at c.in-Some.size c.loop-at.output turn.new.output r) c.in_err-turn_instruction-in-Some.was turn.ensures))
-
--- an instruction is always there
-pub returns-in-None : goal.returns-in-None
-returns-in-None c =
-    let a = c.args in
-    absurd (code_there (jump_of a.from) a.image.now a.start a.end c.requires.is c.loop-at.invariant c.loop-at-test.true (sym c.in-None.is ∙ c.size_at.ensures))
-
-pub overflow_add-at : goal.overflow_add-at
-overflow_add-at c =
-    let a = c.args in
-    let w = code_within (jump_of a.from) a.image.now a.start a.end c.requires.is c.loop-at.invariant c.loop-at-test.true (sym c.in-Some.is ∙ c.size_at.ensures) in
-    omega arith
-
-pub loop-at-smaller : goal.loop-at-smaller
-loop-at-smaller c =
-    let a = c.args in
-    let w = code_within (jump_of a.from) a.image.now a.start a.end c.requires.is c.loop-at.invariant c.loop-at-test.true (sym c.in-Some.is ∙ c.size_at.ensures) in
-    omega arith
+    let t = subst (λ n. TurnsInstr (jump_of a.from) a.image.now a.start c.in-Some.at n l.output turn.new.output turn.result) s turn.ensures in
+    rw (passed_on c.from_residual.ensures.1)
+    (λ code is. code_stops (jump_of a.from) a.image.now a.start a.end is p r.before z.is
+    (subst (λ r. TurnsInstr (jump_of a.from) a.image.now a.start c.in-Some.at z.long l.output turn.new.output r) c.in_err-turn_instruction.was t))
 
 pub loop-at-preserved : goal.loop-at-preserved
 loop-at-preserved c =
     let a = c.args in
+    let l = c.loop-at in
+    let n = c.in-Some.ensures.steps in
+    let r = read_at l.invariant.over n in
+    let z = sized r c.requires.is.within in
+    let p = subst (λ at. CodeLoop (jump_of a.from) a.image.now a.start a.end a.output.now at l.output) (sym n.here) l.invariant.so_far in
+    let s : c.in-Some.next - c.in-Some.at ≡ z.long = omega (arith, z.upto) in
     let turn = c.turn_instruction in
-    let b = a.image.now in
-    code_again (jump_of a.from) b a.start a.end c.requires.is c.loop-at.invariant c.loop-at-test.true (sym c.in-Some.is ∙ c.size_at.ensures) turn.auto.output
-    (subst (λ r. TurnsInstr (jump_of a.from) b a.start c.loop-at.at c.in-Some.size c.loop-at.output turn.new.output r) c.in_ok-turn_instruction-in-Some.was turn.ensures)
+    let t = subst (λ n. TurnsInstr (jump_of a.from) a.image.now a.start c.in-Some.at n l.output turn.new.output turn.result) s turn.ensures in
+    let q = code_again (jump_of a.from) a.image.now a.start a.end c.requires.is p r.before z.is turn.auto.output (subst (λ r. TurnsInstr (jump_of a.from) a.image.now a.start c.in-Some.at z.long l.output turn.new.output r) c.in_ok-turn_instruction.was t) in
+    record {
+      over = over_again l.invariant.over n;
+      so_far = subst (λ at. CodeLoop (jump_of a.from) a.image.now a.start a.end a.output.now at turn.new.output) (sym z.upto ∙ sym n.behind) q;
+    }
 
 pub returns : goal.returns
 returns c =
     let a = c.args in
-    λ code is. code_ends (jump_of a.from) a.image.now a.start a.end is c.loop-at.invariant c.loop-at-test.false
+    let l = c.loop-at in
+    let e = all_stand l.invariant.over c.in-None.ensures.steps c.requires.is.within (λ h t. code_there (jump_of a.from) a.image.now a.start a.end c.requires.is l.invariant.so_far h t) in
+    λ code is. code_ends (jump_of a.from) a.image.now a.start a.end is l.invariant.so_far e

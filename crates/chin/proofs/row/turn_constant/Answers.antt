@@ -18,7 +18,7 @@ pub returns-then-image-at : goal.returns-then-image-at
 returns-then-image-at c =
     let start = c in
     let a = start.args in
-    λ x is. const_stays a.from a.image.now a.at a.end x is (λ e. c.if-image-at.true (e ∙ sym c.function_tag-function.ensures)) a.output.now
+    λ x is. const_stays a.from a.image.now a.at a.end x is (λ e. c.if-image-at.true (e ∙ sym c.tags-function.ensures.function)) a.output.now
 
 pub length_at-len-requires : goal.length_at-len-requires
 length_at-len-requires c = omega (
@@ -57,18 +57,18 @@ pub turn_code-requires : goal.turn_code-requires
 turn_code-requires c =
     let start = c in
     let a = start.args in
-    function_at a.from a.image.now a.at a.end start.requires.constant start.requires.is (c.if-image-at.false ∙ c.function_tag-function.ensures) c.length_at-len.ensures.is
+    function_at a.from a.image.now a.at a.end start.requires.constant start.requires.is (c.if-image-at.false ∙ c.tags-function.ensures.function) c.length_at-len.ensures.is
 
 pub shape_of-output : goal.shape_of-output
-shape_of-output c = c.turn_code.auto.output ∙ c.put_tag.auto.output
+shape_of-output c = c.turn_code.auto.output ∙ c.store.auto.output
 
 pub returns : goal.returns
 returns c =
     let start = c in
     let a = start.args in
     let other = c.other_form in
-    let tag = c.function_tag-tag in
-    let put = c.put_tag in
+    let tag = c.tags-tag in
+    let put = c.store in
     let turn = c.turn_code in
-    λ x is. function_turned a.from a.image.now a.at a.end x is (c.if-image-at.false ∙ c.function_tag-function.ensures) c.length_at-len.ensures.is
-    (put.ensures ∙ ap (set a.output.now a.at) (tag.ensures ∙ ap tag_function_in other.ensures)) turn.ensures
+    λ x is. function_turned a.from a.image.now a.at a.end x is (c.if-image-at.false ∙ c.tags-function.ensures.function) c.length_at-len.ensures.is
+    (put.ensures ∙ ap (set a.output.now a.at) (tag.ensures.function ∙ ap tag_function_in other.ensures)) turn.ensures

@@ -1,10 +1,12 @@
 -- `field::names::find_name` meets its contract: one field a turn; what is left decides.
-use Prim.Native.Nat.{◌-◌}
+use Rattle.field.proofs.EachField.{Over}
 use Rattle.field.proofs.Rows.{Searching}
 use Rattle.field.proofs.names.find_name.Given as goal
 
-abbrev pub invariant-loop-at : goal.invariant-loop-at
-invariant-loop-at l = Searching l.bytes l.from l.to l.name l.at l.k
-
-abbrev pub decreases-loop-at : goal.decreases-loop-at
-decreases-loop-at l = l.to - l.at
+abbrev pub invariant-loop-k : goal.invariant-loop-k
+invariant-loop-k l =
+    record {
+      can : (goal.iterator-loop-k).can_next l.k-iterator;
+      over : Over l.bytes l.to l.k-iterator.iter;
+      search : Searching l.bytes l.from l.to l.name l.k-iterator.iter.at l.k-iterator.count;
+    }

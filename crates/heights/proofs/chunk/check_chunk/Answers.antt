@@ -3,7 +3,7 @@ use Rattle.heights.proofs.Ends.{pass_ready, chunk_failed, chunk_ends_high, chunk
 use Rattle.heights.proofs.chunk.check_chunk.Goals as goal
 
 pub pass-requires : goal.pass-requires
-pass-requires c = let s = c in pass_ready s.args.marks.now s.args.image.now s.args.start s.args.end s.requires
+pass-requires c = let s = c in pass_ready s.args.marks.now s.args.code.bytes.now s.args.code.start s.args.code.end s.requires
 
 pub returns-in_err-chunk : goal.returns-in_err-chunk
 returns-in_err-chunk c = λ d a kind q. chunk_failed a (c.pass.ensures d a) kind (c.in_err-chunk.was) c.from_residual.ensures

@@ -10,4 +10,4 @@ returns-in_err-chunk c =
 pub returns : goal.returns
 returns c =
     let a = c.args in
-    λ d k kind q. judged-on a.before (c.check_chunk.ensures d k kind q) a.output.now c.in_ok-chunk.was c.put.ensures
+    λ d k kind q. judged-on a.before (c.check_chunk.ensures d k kind q) a.output.now c.in_ok-chunk.was c.store.ensures

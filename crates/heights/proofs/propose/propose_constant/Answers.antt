@@ -2,11 +2,11 @@
 use Rattle.heights.proofs.Flows.{no_flow, chunk_flow, chunk_proposed}
 use Rattle.heights.proofs.propose.propose_constant.Goals as goal
 
-pub returns-then-image-at-ne-FUNCTION_CONST : goal.returns-then-image-at-ne-FUNCTION_CONST
-returns-then-image-at-ne-FUNCTION_CONST c = let s = c in no_flow s.args.image.now s.requires c.if-image-at-ne-FUNCTION_CONST.true s.args.heights.now
+pub returns-then-bytes-start-ne-FUNCTION_CONST : goal.returns-then-bytes-start-ne-FUNCTION_CONST
+returns-then-bytes-start-ne-FUNCTION_CONST c = let s = c in no_flow s.args.constant.bytes.now s.requires c.if-bytes-start-ne-FUNCTION_CONST.true s.args.heights.now
 
 pub propose_chunk-requires : goal.propose_chunk-requires
-propose_chunk-requires c = let s = c in chunk_flow s.args.image.now s.requires c.if-image-at-ne-FUNCTION_CONST.false
+propose_chunk-requires c = let s = c in chunk_flow s.args.constant.bytes.now s.requires c.if-bytes-start-ne-FUNCTION_CONST.false
 
 pub returns : goal.returns
-returns c = let s = c in chunk_proposed s.args.image.now s.requires c.if-image-at-ne-FUNCTION_CONST.false c.propose_chunk.ensures
+returns c = let s = c in chunk_proposed s.args.constant.bytes.now s.requires c.if-bytes-start-ne-FUNCTION_CONST.false c.propose_chunk.ensures

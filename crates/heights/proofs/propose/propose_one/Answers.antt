@@ -9,4 +9,4 @@ use Rattle.heights.proofs.propose.propose_one.Goals as goal
 pub returns : goal.returns
 returns c =
     let a = c.args in
-    ap (drop (a.k + 1)) c.put.ensures ∙ drop-set-lt (a.k + 1) a.heights.now a.k c.height.result (omega arith)
+    ap (drop (a.k + 1)) c.store.ensures ∙ drop-set-lt (a.k + 1) a.heights.now a.k c.height.result (omega arith)

@@ -1,10 +1,7 @@
 -- `listing::code::list_code` meets its contract: a line a turn; what is left decides.
-use Prim.Native.Nat.{◌-◌}
+use Rattle.opcode.proofs.EachInstruction.{Over}
 use Rattle.listing.proofs.Lines.{CodeLoop}
 use Rattle.listing.proofs.code.list_code.Given as goal
 
-abbrev pub invariant-loop-position : goal.invariant-loop-position
-invariant-loop-position l = CodeLoop l.image l.start l.end l.initial.output l.at l.output l.next l.position
-
-abbrev pub decreases-loop-position : goal.decreases-loop-position
-decreases-loop-position l = l.end - l.position
+abbrev pub invariant-loop-place : goal.invariant-loop-place
+invariant-loop-place l = record { over : Over l.code.bytes.now l.code.end l.place-iterator; so_far : CodeLoop l.code.bytes.now l.code.start l.code.end l.initial.output l.at l.output l.next l.place-iterator.at }

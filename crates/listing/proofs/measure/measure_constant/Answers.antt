@@ -1,8 +1,8 @@
 -- `listing::measure::measure_constant` meets its contract: by its head, and then its content.
 use mathlib.Core.Path.{ap, sym}
 use native.Mathlib.Omega.{arith}
+use Rattle.definition.proofs.Basic.{passed_on}
 use Rattle.std.proofs.Common.{rules}
-use Rattle.std.proofs.lemmas.Result.{err_from_is_err_and}
 use Rattle.definition.specs.Basic.{byte_at}
 use Rattle.bytecode.proofs.Heads.{fitting, unfitting}
 use Rattle.definition.specs.Decode.{read_content}
@@ -14,10 +14,9 @@ use Rattle.listing.proofs.measure.measure_constant.Goals as goal
 
 pub returns-in_err-head-clause-is : goal.returns-in_err-head-clause-is
 returns-in_err-head-clause-is c =
-    let p = err_from_is_err_and c.from_residual.result c.from_residual.ensures.1 in
     let a = c.args in
     let e = c.head_where.ensures (is_constant Plain) (λ h r q. search rules) in
-    rw (p.1, p.2) (sym (ap constant_measured (unfitting (byte_at a.image.now) a.at a.end (is_constant Plain) e c.in_err-head.was (read_content (byte_at a.image.now)))))
+    rw (passed_on c.from_residual.ensures.1) (sym (ap constant_measured (unfitting (byte_at a.image.now) a.at a.end (is_constant Plain) e c.in_err-head.was (read_content (byte_at a.image.now)))))
 
 pub measure_content-requires : goal.measure_content-requires
 measure_content-requires c =

@@ -1,7 +1,7 @@
 -- `listing::measure::measure_constants` meets its contract: one constant a turn; what is left decides.
 use mathlib.Core.Path.{ap}
 use native.Mathlib.Omega.{arith}
-use Rattle.std.proofs.lemmas.Result.{err_from_is_err_and}
+use Rattle.definition.proofs.Basic.{passed_on}
 use Rattle.listing.specs.Measured.{text_of}
 use Rattle.listing.proofs.Measures.{pool-begins, pool_ends, pool_full, pool_wrong, pool_next, pool_again}
 use Rattle.listing.proofs.measure.measure_constants.Goals as goal
@@ -16,9 +16,8 @@ returns-then-count-eq-CONSTANTS_LIMIT-clause-is c =
 
 pub returns-in_err-constant-clause-is : goal.returns-in_err-constant-clause-is
 returns-in_err-constant-clause-is c =
-    let p = err_from_is_err_and c.from_residual.result c.from_residual.ensures.1 in
     let a = c.args in
-    rw (p.1, p.2) (pool_wrong a.image.now a.start a.end c.loop-at.invariant c.loop-at-test.true c.if-count-eq-CONSTANTS_LIMIT.false c.measure_constant.ensures.is c.in_err-constant.was)
+    rw (passed_on c.from_residual.ensures.1) (pool_wrong a.image.now a.start a.end c.loop-at.invariant c.loop-at-test.true c.if-count-eq-CONSTANTS_LIMIT.false c.measure_constant.ensures.is c.in_err-constant.was)
 
 pub loop-at-smaller : goal.loop-at-smaller
 loop-at-smaller c =

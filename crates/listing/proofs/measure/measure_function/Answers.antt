@@ -1,14 +1,13 @@
 -- `listing::measure::measure_function` meets its contract: its three numbers, and its code decides.
 use native.Mathlib.Omega.{arith}
-use Rattle.std.proofs.lemmas.Result.{err_from_is_err_and}
+use Rattle.definition.proofs.Basic.{passed_on}
 use Rattle.listing.proofs.Measures.{function_good, function_wrong}
 use Rattle.listing.proofs.measure.measure_function.Goals as goal
 
 pub returns-in_err-code-clause-is : goal.returns-in_err-code-clause-is
 returns-in_err-code-clause-is c =
-    let p = err_from_is_err_and c.from_residual.result c.from_residual.ensures.1 in
     let a = c.args in
-    rw (p.1, p.2) (function_wrong a.image.now a.from a.len (c.measure_code.ensures.is a.len (omega arith)) c.in_err-code.was)
+    rw (passed_on c.from_residual.ensures.1) (function_wrong a.image.now a.from a.len (c.measure_code.ensures.is a.len (omega arith)) c.in_err-code.was)
 
 pub returns-clause-is : goal.returns-clause-is
 returns-clause-is c =

@@ -1,8 +1,8 @@
 -- `listing::measure::measure_main` meets its contract: by its head, and then its code.
 use mathlib.Core.Path.{ap, sym}
 use native.Mathlib.Omega.{arith}
+use Rattle.definition.proofs.Basic.{passed_on}
 use Rattle.std.proofs.Common.{rules}
-use Rattle.std.proofs.lemmas.Result.{err_from_is_err_and}
 use Rattle.definition.specs.Basic.{byte_at}
 use Rattle.bytecode.proofs.Heads.{fitting, unfitting}
 use native.Mathlib.Nat.{le_refl}
@@ -16,10 +16,9 @@ use Rattle.listing.proofs.measure.measure_main.Goals as goal
 
 pub returns-in_err-head-clause-is : goal.returns-in_err-head-clause-is
 returns-in_err-head-clause-is c =
-    let p = err_from_is_err_and c.from_residual.result c.from_residual.ensures.1 in
     let b = c.args.image.now in
     let e = c.head_where.ensures (is_main Plain) (λ h r q. search rules) in
-    rw (p.1, p.2) (sym (ap code_measured (unfitting (byte_at b) 0 (length b) (is_main Plain) e c.in_err-head.was (main_content (byte_at b)))))
+    rw (passed_on c.from_residual.ensures.1) (sym (ap code_measured (unfitting (byte_at b) 0 (length b) (is_main Plain) e c.in_err-head.was (main_content (byte_at b)))))
 
 pub overflow_add-head : goal.overflow_add-head
 overflow_add-head c =

@@ -1,8 +1,8 @@
 -- `listing::measure::measure_pool` meets its contract: by its head, and then its constants.
 use mathlib.Core.Path.{ap, sym}
 use native.Mathlib.Omega.{arith}
+use Rattle.definition.proofs.Basic.{passed_on}
 use Rattle.std.proofs.Common.{rules}
-use Rattle.std.proofs.lemmas.Result.{err_from_is_err_and}
 use Rattle.definition.specs.Basic.{byte_at}
 use Rattle.bytecode.proofs.Heads.{fitting, unfitting}
 use lib.ListN.{length}
@@ -14,10 +14,9 @@ use Rattle.listing.proofs.measure.measure_pool.Goals as goal
 
 pub returns-in_err-head-clause-is : goal.returns-in_err-head-clause-is
 returns-in_err-head-clause-is c =
-    let p = err_from_is_err_and c.from_residual.result c.from_residual.ensures.1 in
     let b = c.args.image.now in
     let e = c.head_where.ensures is_pool (λ h r q. search rules) in
-    rw (p.1, p.2) (sym (ap pool_measured (unfitting (byte_at b) c.args.at (length b) is_pool e c.in_err-head.was (pool_content (byte_at b)))))
+    rw (passed_on c.from_residual.ensures.1) (sym (ap pool_measured (unfitting (byte_at b) c.args.at (length b) is_pool e c.in_err-head.was (pool_content (byte_at b)))))
 
 pub overflow_add-at-3 : goal.overflow_add-at-3
 overflow_add-at-3 c =

@@ -9,27 +9,27 @@ use Rattle.listing.proofs.pool.list_content.Goals as goal
 pub bounds-image-from : goal.bounds-image-from
 bounds-image-from c =
     let start = c in
-    let k = constant_within start.args.image.now start.args.from start.args.end start.requires.1.is in
+    let k = constant_within start.args.part.bytes.now start.args.part.start start.args.part.end start.requires.1.is in
     omega (arith, start.requires.1.is.within)
 
 pub length_at-len-requires : goal.length_at-len-requires
 length_at-len-requires c =
     let start = c in
-    let k = constant_within start.args.image.now start.args.from start.args.end start.requires.1.is in
+    let k = constant_within start.args.part.bytes.now start.args.part.start start.args.part.end start.requires.1.is in
     omega (arith, start.requires.1.is.within)
 
 pub overflow_add-from : goal.overflow_add-from
 overflow_add-from c =
     let start = c in
-    let k = constant_within start.args.image.now start.args.from start.args.end start.requires.1.is in
+    let k = constant_within start.args.part.bytes.now start.args.part.start start.args.part.end start.requires.1.is in
     omega (arith, start.requires.1.is.within)
 
 pub list_integer-requires : goal.list_integer-requires
 list_integer-requires c =
     let if1 = c.if-tag-eq-INTEGER_CONST in
     let start = c in
-    let k = constant_within start.args.image.now start.args.from start.args.end start.requires.1.is in
-    let l = integer-length start.args.image.now start.args.from start.args.end start.requires.1.is if1.true in
+    let k = constant_within start.args.part.bytes.now start.args.part.start start.args.part.end start.requires.1.is in
+    let l = integer-length start.args.part.bytes.now start.args.part.start start.args.part.end start.requires.1.is if1.true in
     (omega (arith, start.requires.0), omega (arith, start.requires.1.is.within))
 
 pub returns-then-tag-eq-INTEGER_CONST : goal.returns-then-tag-eq-INTEGER_CONST
@@ -37,19 +37,19 @@ returns-then-tag-eq-INTEGER_CONST c =
     let list-integer = c.list_integer in
     let if1 = c.if-tag-eq-INTEGER_CONST in
     let start = c in
-    λ x h. wider (reworded list-integer.ensures (integer_is start.args.image.now start.args.from start.args.end h if1.true)) (omega arith)
+    λ x h. wider (reworded list-integer.ensures (integer_is start.args.part.bytes.now start.args.part.start start.args.part.end h if1.true)) (omega arith)
 
 pub overflow_add-from-then-tag-eq-STRING_CONST : goal.overflow_add-from-then-tag-eq-STRING_CONST
 overflow_add-from-then-tag-eq-STRING_CONST c =
     let start = c in
-    let k = constant_within start.args.image.now start.args.from start.args.end start.requires.1.is in
+    let k = constant_within start.args.part.bytes.now start.args.part.start start.args.part.end start.requires.1.is in
     omega (arith, start.requires.1.is.within)
 
 pub list_string-requires : goal.list_string-requires
 list_string-requires c =
     let length_at = c.length_at-len in
     let start = c in
-    let k = constant_within start.args.image.now start.args.from start.args.end start.requires.1.is in
+    let k = constant_within start.args.part.bytes.now start.args.part.start start.args.part.end start.requires.1.is in
     (omega (arith, start.requires.0, length_at.ensures.is), omega (arith, start.requires.1.is.within, length_at.ensures.is))
 
 pub returns-then-tag-eq-STRING_CONST : goal.returns-then-tag-eq-STRING_CONST
@@ -59,12 +59,12 @@ returns-then-tag-eq-STRING_CONST c =
     let if1 = c.if-tag-eq-INTEGER_CONST in
     let length_at = c.length_at-len in
     let start = c in
-    λ x h. wider (reworded list-string.ensures (string_is start.args.image.now start.args.from start.args.end h if1.false length_at.ensures.is if2.true)) (omega (arith, length_at.ensures.is))
+    λ x h. wider (reworded list-string.ensures (string_is start.args.part.bytes.now start.args.part.start start.args.part.end h if1.false length_at.ensures.is if2.true)) (omega (arith, length_at.ensures.is))
 
 pub overflow_add-from-2 : goal.overflow_add-from-2
 overflow_add-from-2 c =
     let start = c in
-    let k = constant_within start.args.image.now start.args.from start.args.end start.requires.1.is in
+    let k = constant_within start.args.part.bytes.now start.args.part.start start.args.part.end start.requires.1.is in
     omega (arith, start.requires.1.is.within)
 
 pub list_function-requires : goal.list_function-requires
@@ -73,7 +73,7 @@ list_function-requires c =
     let if1 = c.if-tag-eq-INTEGER_CONST in
     let length_at = c.length_at-len in
     let start = c in
-    let g = function_is start.args.image.now start.args.from start.args.end start.requires.1.is if1.false length_at.ensures.is if2.false start.requires.1.is.within in
+    let g = function_is start.args.part.bytes.now start.args.part.start start.args.part.end start.requires.1.is if1.false length_at.ensures.is if2.false start.requires.1.is.within in
     (omega (arith, start.requires.0, length_at.ensures.is), g.long, record { code = g.code; is = g.stands })
 
 pub returns : goal.returns
@@ -84,5 +84,5 @@ returns c =
     let length_at = c.length_at-len in
     let start = c in
     λ x h.
-    let g = function_is start.args.image.now start.args.from start.args.end h if1.false length_at.ensures.is if2.false h.within in
+    let g = function_is start.args.part.bytes.now start.args.part.start start.args.part.end h if1.false length_at.ensures.is if2.false h.within in
     wider (reworded (list-function.ensures g.code g.stands) (ap constant_fields g.is)) (omega (arith, length_at.ensures.is))

@@ -1,5 +1,4 @@
 -- `step::closing::loads` meets its contract: the loads of the originals passed are done.
-use native.Mathlib.Omega.{arith}
 use Rattle.step.proofs.Loads.{load_holds, load_again, load_ends}
 use Rattle.step.proofs.closing.loads.Goals as goal
 
@@ -12,12 +11,6 @@ emit_operand-v-requires c = record {
   n_value = c.load_of-l.ensures.sized;
 }
 
-pub overflow_add-i : goal.overflow_add-i
-overflow_add-i c = omega arith
-
-pub loop-i-smaller : goal.loop-i-smaller
-loop-i-smaller c = omega arith
-
 pub loop-i-preserved : goal.loop-i-preserved
 loop-i-preserved c = search load_again
 
@@ -25,4 +18,4 @@ pub shape_of-code : goal.shape_of-code
 shape_of-code c = c.loop-i.invariant.same
 
 pub returns : goal.returns
-returns c = search load_ends
+returns c = load_ends _ _ _ c.loop-i.invariant c.loop-i-test.false

@@ -1,11 +1,7 @@
 -- `step::closing::loads` meets its contract: the loads of the originals passed are done.
-use Prim.Native.Nat.{◌-◌}
 use Rattle.symbol_table.specs.Layout.{part}
 use Rattle.step.proofs.Loads.{LoadTurn}
 use Rattle.step.proofs.closing.loads.Given as goal
 
 abbrev pub invariant-loop-i : goal.invariant-loop-i
 invariant-loop-i l = LoadTurn l.place (part l.level l.table) l.n l.initial.code l.code l.initial.v l.v l.i
-
-abbrev pub decreases-loop-i : goal.decreases-loop-i
-decreases-loop-i l = l.n - l.i

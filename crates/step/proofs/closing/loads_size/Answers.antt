@@ -13,12 +13,6 @@ overflow_add-size c = omega (arith, c.load_of-l.ensures.sized, width_most c.load
 pub overflow_add-size-in-loop-i : goal.overflow_add-size-in-loop-i
 overflow_add-size-in-loop-i c = omega (arith, c.load_of-l.ensures.sized, width_most c.load_of-l.result.op)
 
-pub overflow_add-i : goal.overflow_add-i
-overflow_add-i c = omega arith
-
-pub loop-i-smaller : goal.loop-i-smaller
-loop-i-smaller c = omega arith
-
 pub loop-i-preserved : goal.loop-i-preserved
 loop-i-preserved c = search size_again
 

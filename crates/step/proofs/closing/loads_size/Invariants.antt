@@ -1,11 +1,7 @@
 -- `step::closing::loads_size` meets its contract: the sum over the originals passed.
-use Prim.Native.Nat.{◌-◌}
 use Rattle.symbol_table.specs.Layout.{part}
 use Rattle.step.proofs.Loads.{SizeTurn}
 use Rattle.step.proofs.closing.loads_size.Given as goal
 
 abbrev pub invariant-loop-i : goal.invariant-loop-i
 invariant-loop-i l = SizeTurn (part l.level l.table) l.n l.size l.i
-
-abbrev pub decreases-loop-i : goal.decreases-loop-i
-decreases-loop-i l = l.n - l.i

@@ -1,6 +1,6 @@
 -- `step::closing::outside` meets its contract.
 use mathlib.Core.Path.{sym, ap, ◌∙◌}
-use Rattle.scope.proofs.Leaves.{passed_on}
+use Rattle.definition.proofs.Basic.{passed_on}
 use Rattle.step.specs.Contract.{outside_of}
 use Rattle.step.proofs.closing.outside.Goals as goal
 

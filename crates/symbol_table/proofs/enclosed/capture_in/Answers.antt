@@ -1,12 +1,7 @@
 -- `symbol_table::enclosed::capture_in` meets its contract.
 use mathlib.Core.Path.{refl}
-use native.Mathlib.Omega.{arith}
-use lib.ListN.{length-set}
 use Rattle.symbol_table.specs.Store.{free_in}
 use Rattle.symbol_table.proofs.enclosed.capture_in.Goals as goal
-
-pub bounds-part-k : goal.bounds-part-k
-bounds-part-k c = simp length-set (omega arith)
 
 pub returns : goal.returns
 unfolding free_in

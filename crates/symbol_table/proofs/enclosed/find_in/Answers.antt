@@ -7,9 +7,6 @@ use Rattle.symbol_table.specs.Layout.{entries_at, entry_of, back, table_of}
 use Rattle.symbol_table.proofs.Back.{find_hit, find_miss, find_passed, find_none}
 use Rattle.symbol_table.proofs.enclosed.find_in.Goals as goal
 
-pub tagged_below-k-requires : goal.tagged_below-k-requires
-tagged_below-k-requires c = omega (arith, c.requires.n_value, c.requires.good_table.sized)
-
 pub loop-k-init : goal.loop-k-init
 unfolding table_of
 loop-k-init c =
@@ -17,24 +14,13 @@ loop-k-init c =
     let a = s.args in
     let n = s.requires.n_value in
     let t = c.tagged_below-k in
-    (omega (arith, t.ensures.order), ap (λ m. find a.name.now (back (entry_of a.tree.now) a.part.now entries_at m)) (sym n) ∙ find_passed a.tree.now a.part.now a.name.now a.n t.result (λ i l. s.requires.good_table.each i (omega arith)) (ap (λ h. h % 128) s.requires.hash_value) t.ensures)
-
-pub content_at-requires : goal.content_at-requires
-content_at-requires c = record { fits = (c.requires.good_table.each (c.loop-k.k - 1) (omega arith)).stands }
+    (omega (arith, t.ensures.order), ap (λ m. find a.key.now.name.now (back (entry_of a.key.now.tree.now) a.part.now entries_at m)) (sym n) ∙ find_passed a.key.now.tree.now a.part.now a.key.now.name.now a.n t.result (λ i l. s.requires.good_table.each i (omega arith)) (ap (λ h. h % 128) s.args.key.now.is) t.ensures)
 
 pub returns-then-same_name : goal.returns-then-same_name
 returns-then-same_name c =
     let a = c.args in
     let l = c.loop-k in
-    sym (l.invariant.1 ∙ find_hit a.tree.now a.part.now a.name.now l.k (omega arith) (cc))
-
-pub tagged_below-k-requires-in-loop-k : goal.tagged_below-k-requires-in-loop-k
-tagged_below-k-requires-in-loop-k c =
-    let g = c.requires.good_table.sized in
-    omega (arith, c.loop-k.invariant.0, g.size, g.own, g.definitions, g.free)
-
-pub loop-k-smaller : goal.loop-k-smaller
-loop-k-smaller c = omega (arith, c.tagged_below-k-in-loop-k.ensures.order, c.loop-k-test.true)
+    sym (l.invariant.1 ∙ find_hit a.key.now.tree.now a.part.now a.key.now.name.now l.k (omega arith) (cc))
 
 pub loop-k-preserved : goal.loop-k-preserved
 loop-k-preserved c =
@@ -43,12 +29,12 @@ loop-k-preserved c =
     let l = c.loop-k in
     let t = c.tagged_below-k-in-loop-k in (
       omega (arith, t.ensures.order),
-      l.invariant.1 ∙ find_miss a.tree.now a.part.now a.name.now l.k (omega arith) (cc)
-          ∙ find_passed a.tree.now a.part.now a.name.now (l.k - 1) t.result (λ i b. s.requires.good_table.each i (omega (arith, l.invariant.0))) (ap (λ h. h % 128) s.requires.hash_value) t.ensures,
+      l.invariant.1 ∙ find_miss a.key.now.tree.now a.part.now a.key.now.name.now l.k (omega arith) (cc)
+          ∙ find_passed a.key.now.tree.now a.part.now a.key.now.name.now (l.k - 1) t.result (λ i b. s.requires.good_table.each i (omega (arith, l.invariant.0))) (ap (λ h. h % 128) s.args.key.now.is) t.ensures,
     )
 
 pub returns : goal.returns
 returns c =
     let a = c.args in
     let l = c.loop-k in
-    sym (l.invariant.1 ∙ find_none a.tree.now a.part.now a.name.now l.k (omega arith))
+    sym (l.invariant.1 ∙ find_none a.key.now.tree.now a.part.now a.key.now.name.now l.k (omega arith))

@@ -5,6 +5,3 @@ use Rattle.symbol_table.proofs.enclosed.number_at.Goals as goal
 
 pub bounds-part-i : goal.bounds-part-i
 bounds-part-i c = rw c.part.ensures (omega (arith, part_length c.args.level c.args.table.now c.requires.part_size_in_bounds))
-
-pub returns : goal.returns
-returns c = rw c.part.ensures

@@ -1,28 +1,12 @@
 -- The loop's invariant: what the search finds from k on decides.
-use Prim.Native.Nat.{◌+◌}
 use mathlib.Core.Path.{refl}
 use native.Mathlib.Omega.{arith}
 use Rattle.symbol_table.proofs.Codes.{symbol_global}
-use Rattle.symbol_table.proofs.Seeking.{sought_start, sought_small, sought_stands, sought_hit, sought_less, sought_next, sought_none}
+use Rattle.symbol_table.proofs.Seeking.{sought_small, sought_stands, sought_hit, sought_less, sought_next, sought_none}
 use Rattle.symbol_table.proofs.globals.find_side.Goals as goal
-
-pub bounds-globals-hash : goal.bounds-globals-hash
-bounds-globals-hash c = omega (arith, c.requires.good_globals.size)
-
-pub loop-k-init : goal.loop-k-init
-loop-k-init c = sought_start _ _ _ _ _ c.requires.side_bound c.requires.good_globals c.requires.hash_value c.child-k.ensures
-
-pub overflow_add-node : goal.overflow_add-node
-overflow_add-node c = omega (arith, sought_small _ _ _ _ _ c.requires.side_bound c.requires.good_globals c.loop-k.invariant c.loop-k-test.true)
-
-pub offset_bounds-globals-i : goal.offset_bounds-globals-i
-offset_bounds-globals-i c = omega (arith, sought_small _ _ _ _ _ c.requires.side_bound c.requires.good_globals c.loop-k.invariant c.loop-k-test.true)
 
 pub bounds-globals-i : goal.bounds-globals-i
 bounds-globals-i c = omega (arith, c.requires.good_globals.size, sought_small _ _ _ _ _ c.requires.side_bound c.requires.good_globals c.loop-k.invariant c.loop-k-test.true)
-
-pub offset_bounds-globals-i-in-loop-k : goal.offset_bounds-globals-i-in-loop-k
-offset_bounds-globals-i-in-loop-k c = omega (arith, sought_small _ _ _ _ _ c.requires.side_bound c.requires.good_globals c.loop-k.invariant c.loop-k-test.true)
 
 pub bounds-globals-i-in-loop-k : goal.bounds-globals-i-in-loop-k
 bounds-globals-i-in-loop-k c = omega (arith, c.requires.good_globals.size, sought_small _ _ _ _ _ c.requires.side_bound c.requires.good_globals c.loop-k.invariant c.loop-k-test.true)
@@ -32,25 +16,19 @@ same_global-requires c =
     let l = c.loop-k in
     (sought_stands _ _ _ _ _ c.requires.side_bound c.requires.good_globals l.invariant c.loop-k-test.true)
 
-pub overflow_add-result : goal.overflow_add-result
-overflow_add-result c = omega (arith, c.type_inv.globals (1024 + c.loop-k.k))
-
 pub returns-then-same_global : goal.returns-then-same_global
 returns-then-same_global c x =
     let hit = sought_hit _ _ _ _ _ c.requires.side_bound c.requires.good_globals c.loop-k.invariant c.loop-k-test.true refl c.same_global.ensures c.if-same_global.true x in
     rw (hit, symbol_global)
 
-pub overflow_add-depth : goal.overflow_add-depth
-overflow_add-depth c = omega (arith, c.loop-k.invariant.deep c.loop-k-test.true)
-
 pub loop-k-smaller : goal.loop-k-smaller
 loop-k-smaller c =
-    sought_less _ _ _ _ _ c.requires.side_bound c.requires.good_globals c.loop-k.invariant c.loop-k-test.true refl c.same_global.ensures c.if-same_global.false c.requires.hash_value
+    sought_less _ _ _ _ _ c.requires.side_bound c.requires.good_globals c.loop-k.invariant c.loop-k-test.true refl c.same_global.ensures c.if-same_global.false c.args.key.now.is
     c.side_of.ensures c.child-k-in-loop-k.ensures
 
 pub loop-k-preserved : goal.loop-k-preserved
 loop-k-preserved c =
-    sought_next _ _ _ _ _ c.requires.side_bound c.requires.good_globals c.loop-k.invariant c.loop-k-test.true refl c.same_global.ensures c.if-same_global.false c.requires.hash_value
+    sought_next _ _ _ _ _ c.requires.side_bound c.requires.good_globals c.loop-k.invariant c.loop-k-test.true refl c.same_global.ensures c.if-same_global.false c.args.key.now.is
     c.side_of.ensures c.child-k-in-loop-k.ensures
 
 pub returns : goal.returns

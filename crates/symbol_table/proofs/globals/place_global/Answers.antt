@@ -1,5 +1,6 @@
 -- `symbol_table::globals::place_global` meets its contract.
 use native.Mathlib.Omega.{arith}
+use Rattle.symbol_table.proofs.Keys.{is_name}
 use Rattle.symbol_table.proofs.Adding.{addable_new}
 use Rattle.symbol_table.proofs.Defining.{globals_full, global_defined}
 use Rattle.symbol_table.proofs.globals.place_global.Goals as goal
@@ -9,10 +10,10 @@ returns-then-k-ge-GLOBALS c = globals_full _ _ _ c.if-k-ge-GLOBALS.true
 
 pub add_global-requires : goal.add_global-requires
 add_global-requires c = record {
-  addable = addable_new c.requires.good_globals.1 c.if-k-ge-GLOBALS.false c.requires.name c.requires.name_lt_tree_limit;
+  addable = addable_new c.requires.1 c.if-k-ge-GLOBALS.false (is_name c.args.key.now) c.args.key.now.within;
   side_bound = omega arith;
 }
 
 pub returns : goal.returns
 returns c =
-    global_defined _ _ _ _ c.requires.good_globals.1.size c.if-k-ge-GLOBALS.false c.requires.name_lt_tree_limit c.requires.name.stands c.add_global.ensures
+    global_defined _ _ _ _ c.requires.1.size c.if-k-ge-GLOBALS.false c.args.key.now.within c.args.key.now.stands c.add_global.ensures

@@ -1,41 +1,57 @@
 -- The loop's invariant: what is left of the names decides.
 use mathlib.Core.List.{[]}
-use mathlib.Core.Path.{sym}
+use mathlib.Core.Path.{sym, subst}
 use native.Mathlib.Omega.{arith}
+use lib.ListN.{set}
 use lib.Seq.{length-take-le}
-use Rattle.symbol_table.proofs.Starting.{begun-start, begun_here, begun_addable, begun-step, begun_none}
+use Rattle.field.proofs.EachField.{over_new, starts_at, can_begin, over_again, is_before, is_behind, whole_here, is_over}
+use Rattle.symbol_table.proofs.Starting.{Begun, items_fields, begun-start, begun_here, begun_addable, begun-step, begun_none}
 use Rattle.symbol_table.proofs.globals.start_in.Goals as goal
 
 pub loop-at-init : goal.loop-at-init
 loop-at-init c =
-    let s = c in
-    let e = c.clear_heads.ensures in
-    begun-start s.args.session.now s.args.from c.clear_heads.new.globals e.globals_len e.by_index s.args.end s.requires.has_items
+    let a = c.args in
+    let n = c.new-at-items.ensures in
+    let e = c.into_iter-at-iterator.ensures.into_iter_gives in
+    let k = c.clear_heads.ensures in
+    record {
+      can = can_begin e n (items_fields c.requires.has_items);
+      over = over_new e n;
+      begun = subst (λ at. Begun a.session.now a.from a.end (set c.clear_heads.new.globals 0 0) at) (starts_at e n) (begun-start a.session.now a.from c.clear_heads.new.globals k.globals_len k.by_index a.end c.requires.has_items);
+    }
 
 pub hash_at-hash-requires : goal.hash_at-hash-requires
-hash_at-hash-requires c = let x = c.loop-at.invariant in omega (arith, x.within, (begun_here _ _ _ _ _ x c.requires.has_items (omega arith)).fits)
+hash_at-hash-requires c = (whole_here c.loop-at.invariant.over c.in-Some.ensures.steps).fits
 
 pub slice_bounds-add_global-end : goal.slice_bounds-add_global-end
-slice_bounds-add_global-end c = sym (length-take-le _ _ c.loop-at.invariant.within)
+slice_bounds-add_global-end c = sym (length-take-le _ _ c.loop-at.invariant.begun.within)
 
 pub add_global-requires : goal.add_global-requires
 add_global-requires c =
-    let x = c.loop-at.invariant in
+    let l = c.loop-at in
+    let a = c.args in
+    let n = c.in-Some.ensures.steps in
+    let x = subst (λ at. Begun a.session.now a.from a.end l.globals at) (sym n.here) l.invariant.begun in
     record {
-      addable = begun_addable _ _ _ _ _ x _ c.requires.session_len_bound (begun_here _ _ _ _ _ x c.requires.has_items (omega arith)) c.hash_at-hash.ensures.is;
+      addable = begun_addable _ _ _ _ _ x _ c.requires.session_len_bound (begun_here _ _ _ _ _ x c.requires.has_items (is_before l.invariant.over n)) c.hash_at-hash.ensures.is;
       side_bound = omega arith;
     }
 
-pub after_at-at-requires : goal.after_at-at-requires
-after_at-at-requires c = let x = c.loop-at.invariant in record { fits = omega (arith, x.within, (begun_here _ _ _ _ _ x c.requires.has_items (omega arith)).fits) }
-
 pub loop-at-preserved : goal.loop-at-preserved
 loop-at-preserved c =
-    let x = c.loop-at.invariant in
-    rw c.after_at-at.ensures.is (begun-step _ _ _ _ _ x _ c.requires.session_len_bound (begun_here _ _ _ _ _ x c.requires.has_items (omega arith)) c.add_global.ensures)
+    let l = c.loop-at in
+    let a = c.args in
+    let n = c.in-Some.ensures.steps in
+    let x = subst (λ at. Begun a.session.now a.from a.end l.globals at) (sym n.here) l.invariant.begun in
+    record {
+      can = c.in-Some.ensures.goes.keeps;
+      over = over_again l.invariant.over n;
+      begun = subst (λ at. Begun a.session.now a.from a.end c.add_global.new.globals at) (sym (is_behind l.invariant.over n))
+          (begun-step _ _ _ _ _ x _ c.requires.session_len_bound (begun_here _ _ _ _ _ x c.requires.has_items (is_before l.invariant.over n)) c.add_global.ensures);
+    }
 
 pub shape_of-globals : goal.shape_of-globals
-shape_of-globals c = omega (arith, (c.loop-at.invariant.good []).size)
+shape_of-globals c = omega (arith, (c.loop-at.invariant.begun.good []).size)
 
 pub returns : goal.returns
-returns c = begun_none _ _ _ _ _ c.loop-at.invariant c.requires.has_items (omega arith)
+returns c = begun_none _ _ _ _ _ c.loop-at.invariant.begun c.requires.has_items (is_over c.loop-at.invariant.over c.in-None.ensures.steps)

@@ -4,6 +4,3 @@ use Rattle.symbol_table.proofs.marks.is_marked_at.Goals as goal
 
 pub is_marked-requires : goal.is_marked-requires
 is_marked-requires c = rw c.part.ensures (part_length c.args.level c.args.table.now c.requires)
-
-pub returns : goal.returns
-returns c = rw c.part.ensures at c.is_marked.ensures

@@ -1,20 +1,13 @@
 -- `symbol_table::words::find_word` meets its contract: a word's index is small.
 use native.Mathlib.Omega.{arith}
-use Rattle.symbol_table.proofs.OwnWords.{word_index, word_hit, word_none}
+use Rattle.symbol_table.proofs.OwnWords.{word_index, word_hit}
 use Rattle.symbol_table.proofs.words.find_word.Goals as goal
 
 pub overflow_cast-result : goal.overflow_cast-result
-overflow_cast-result c =
-    omega (arith, word_index c.requires.has_row c.requires.names_len_bound _ c.find_name.ensures c.in-Some.is)
+overflow_cast-result c = omega (arith, word_index c.requires.has_row c.requires.names_len_bound _ c.find_name.ensures c.in_ok-k.was)
 
 pub overflow_add-result : goal.overflow_add-result
-overflow_add-result c =
-    omega (arith, word_index c.requires.has_row c.requires.names_len_bound _ c.find_name.ensures c.in-Some.is)
+overflow_add-result c = omega (arith, word_index c.requires.has_row c.requires.names_len_bound _ c.find_name.ensures c.in_ok-k.was)
 
-pub returns-in-Some : goal.returns-in-Some
-returns-in-Some c =
-    word_hit c.requires.has_row c.requires.names_len_bound _ c.find_name.ensures c.in-Some.is
-
-pub returns-in-None : goal.returns-in-None
-returns-in-None c =
-    word_none c.requires.has_row c.requires.names_len_bound _ c.find_name.ensures c.in-None.is
+pub returns : goal.returns
+returns c = word_hit c.requires.has_row c.requires.names_len_bound _ c.find_name.ensures c.in_ok-k.was

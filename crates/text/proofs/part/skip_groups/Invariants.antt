@@ -1,11 +1,7 @@
 -- `skip_groups` meets its contract: each parenthesis passed opens a group.
-use Prim.Native.Nat.{◌-◌}
+use mathlib.Core.Path.{◌≡◌}
 use Rattle.text.proofs.Climbing.{Skipping}
-use Rattle.text.specs.Parts.{end_of}
 use Rattle.text.proofs.part.skip_groups.Given as goal
 
-abbrev pub invariant-loop-at : goal.invariant-loop-at
-invariant-loop-at l = Skipping l.text l.from l.at l.opened
-
-abbrev pub decreases-loop-at : goal.decreases-loop-at
-decreases-loop-at l = end_of l.text - l.at
+abbrev pub invariant-loop-token : goal.invariant-loop-token
+invariant-loop-token l = record { text : l.token-iterator.text.now ≡ l.text; at : l.token-iterator.at ≡ l.groups.at; so_far : Skipping l.text l.from l.groups.at l.groups.opened }

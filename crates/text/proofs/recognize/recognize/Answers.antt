@@ -1,54 +1,49 @@
 -- `recognize` meets its contract: what is left of the text decides.
 use native.Mathlib.Omega.{arith}
-use mathlib.Core.Path.{ap, ◌∙◌}
+use mathlib.Core.Path.{refl, sym, ap, subst, ◌∙◌}
 use Rattle.std.specs.Prelude.{Err}
-use Rattle.text.specs.Kind.{an_integer}
-use Rattle.text.specs.Machine.{step}
-use Rattle.text.specs.Recognize.{refused_at, end_at, large_step}
-use Rattle.text.specs.Steps.{mode_of, under}
-use Rattle.text.proofs.Turns.{begins, at-end, at_broken, at-large, token_seen, at_stuck, goes-on}
+use Rattle.text.specs.Tokens.{Stopped}
+use Rattle.text.proofs.OverTokens.{given, stopped}
+use Rattle.text.proofs.Turns.{begins, going_at, at-end, at_broken, at-large, token_seen, at_stuck, goes-on}
 use Rattle.text.proofs.recognize.recognize.Goals as goal
-use Rattle.definition.specs.Number.{bad_script}
 
-pub loop-end-init : goal.loop-end-init
-loop-end-init c = begins _ _
+pub loop-token-init : goal.loop-token-init
+loop-token-init c = record { text = c.new-tokens.ensures.text; going = going_at c.new-tokens.ensures.at (begins _ _) }
 
-pub returns-in-Err-Finished : goal.returns-in-Err-Finished
-returns-in-Err-Finished c =
-    let loop = c.loop-end in
-    let i = c.in-Err-Finished in
-    at-end _ _ _ _ _ loop.invariant c.next_token.ensures (i.is ∙ ap Err i.field-0-is) c.top-top.ensures (λ s. c.at_end.ensures s ∙ ap (λ e. end_at e (mode_of loop.mode) (under c.top-top.result s)) i.end-is)
-
-pub returns-in-Err-Broken : goal.returns-in-Err-Broken
-returns-in-Err-Broken c =
-    let loop = c.loop-end in
-    let i = c.in-Err-Broken in
-    c.refused.ensures ∙ ap (refused_at bad_script) i.start-is ∙ at_broken _ _ _ _ _ loop.invariant c.next_token.ensures (i.is ∙ ap Err i.field-0-is)
-
-pub returns-in-Err-Large : goal.returns-in-Err-Large
-returns-in-Err-Large c =
-    let loop = c.loop-end in
-    let i = c.in-Err-Large in
-    at-large _ _ _ _ _ loop.invariant c.next_token.ensures (i.is ∙ ap Err i.field-0-is) c.top-top.ensures (λ s. c.at_large.ensures s ∙ ap (λ e. large_step e (step (mode_of loop.mode) (under c.top-top.result s) an_integer)) i.start-is)
-
-pub returns-in_default : goal.returns-in_default
-returns-in_default c =
-    let loop = c.loop-end in
-    c.refused-in_default.ensures ∙ at_stuck _ _ _ _ _ loop.invariant c.next_token.ensures c.in-Ok.is _ c.top-top.ensures c.step.ensures c.in_default.is
+pub returns-in_default-step : goal.returns-in_default-step
+returns-in_default-step c =
+    let i = c.loop-token.invariant in
+    c.refused.ensures ∙ at_stuck _ _ _ _ _ i.going (given i.text c.in-Some.ensures.steps) refl _ c.top.ensures c.step.ensures c.in_default-step.is
 
 pub change-requires : goal.change-requires
 change-requires c =
-    let loop = c.loop-end in
-    let seen = token_seen _ _ _ _ _ loop.invariant c.next_token.ensures c.in-Ok.is in
-    omega (arith, loop.invariant.low, seen.behind, seen.early)
+    let i = c.loop-token.invariant in
+    let seen = token_seen _ _ _ _ _ i.going (given i.text c.in-Some.ensures.steps) refl in
+    omega (arith, i.going.low, seen.behind, seen.early)
 
-pub loop-end-smaller : goal.loop-end-smaller
-loop-end-smaller c =
-    let loop = c.loop-end in
-    let seen = token_seen _ _ _ _ _ loop.invariant c.next_token.ensures c.in-Ok.is in
-    omega (arith, seen.behind, seen.inside)
+pub loop-token-preserved : goal.loop-token-preserved
+loop-token-preserved c =
+    let i = c.loop-token.invariant in
+    let n = c.in-Some.ensures.steps in
+    record {
+      text = n.text ∙ i.text;
+      going = going_at n.at (goes-on _ _ _ _ _ i.going (given i.text n) refl _ c.top.ensures c.step.ensures c.in-Some-step.is c.change.ensures.is c.change.ensures.low);
+    }
 
-pub loop-end-preserved : goal.loop-end-preserved
-loop-end-preserved c =
-    let loop = c.loop-end in
-    goes-on _ _ _ _ _ loop.invariant c.next_token.ensures c.in-Ok.is _ c.top-top.ensures c.step.ensures c.in-Some.is c.change.ensures.is c.change.ensures.low
+pub stop-requires : goal.stop-requires
+stop-requires c = subst Stopped (sym c.in_default.ensures.steps.same) c.in_default.ensures.steps.stopped
+
+pub returns-in-Finished : goal.returns-in-Finished
+returns-in-Finished c =
+    let i = c.loop-token.invariant in
+    at-end _ _ _ _ _ i.going (stopped i.text c.stop.result c.in_default.ensures.steps.same c.stop.ensures) (ap Err c.in-Finished.is) c.top-in-Finished.ensures c.at_end.ensures
+
+pub returns-in-Broken : goal.returns-in-Broken
+returns-in-Broken c =
+    let i = c.loop-token.invariant in
+    c.refused-in-Broken.ensures ∙ at_broken _ _ _ _ _ i.going (stopped i.text c.stop.result c.in_default.ensures.steps.same c.stop.ensures) (ap Err c.in-Broken.is)
+
+pub returns-in-Large : goal.returns-in-Large
+returns-in-Large c =
+    let i = c.loop-token.invariant in
+    at-large _ _ _ _ _ i.going (stopped i.text c.stop.result c.in_default.ensures.steps.same c.stop.ensures) (ap Err c.in-Large.is) c.top-in-Large.ensures c.at_large.ensures

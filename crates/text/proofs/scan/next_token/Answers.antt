@@ -1,13 +1,17 @@
 -- `next_token` meets its contract: blanks, then a piece.
 use native.Mathlib.Omega.{arith}
-use mathlib.Core.Path.{◌≡◌, ap, ◌∙◌}
+use mathlib.Core.Bool.{Bool, true, false}
+use mathlib.Core.Path.{◌≡◌, refl, ap, ◌∙◌}
 use lib.ListN.{length}
-use Prim.Native.Nat.{ℕ, ◌-◌}
+use lib.Dec.{ltb}
+use borrow.Author.Tests.{ltb-true, ltb-false}
+use Prim.Native.Nat.{ℕ, ◌+◌, ◌-◌, ◌≤◌}
 use Rattle.definition.specs.Basic.{Bytes, byte_at}
 use Rattle.text.specs.Parts.{end_of}
 use Rattle.text.specs.Scan.{is_blank, smaller, skip}
 use Rattle.text.proofs.Skips.{skip_most}
 use Rattle.text.proofs.Pieces.{next_late, next_piece}
+use Rattle.text.proofs.RowAt.{least_end, end_within, end_early}
 use Rattle.text.proofs.Smaller.{smaller_left}
 use Rattle.text.proofs.scan.next_token.Goals as goal
 
@@ -16,14 +20,28 @@ blanks : (text : Bytes) (at end start : ℕ) → end ≡ end_of text → start �
 unfolding end_of
 blanks text at end start e s = s ∙ ap (λ m. skip (byte_at text) (length text) is_blank (m - at) at) e
 
-pub returns-then-start-ge-TEXT_LIMIT : goal.returns-then-start-ge-TEXT_LIMIT
-returns-then-start-ge-TEXT_LIMIT c = next_late _ _ _ _ (blanks _ _ _ _ c.text_end.ensures c.skip-start.ensures) c.if-start-n.false c.if-start-ge-TEXT_LIMIT.true
+-- a place behind the last token's end and before the text's
+late : (text : Bytes) (start : ℕ) → end_of text ≤ start → start ≤ length text → (start ≡ length text → ⊥) → 8192 ≤ start
+late text start e l h = go (ltb start 8192) refl
+  where
+    go : (b : Bool) → ltb start 8192 ≡ b → 8192 ≤ start
+    go true t = let z : start + 1 ≤ end_of text = least_end text (omega arith) (omega (arith, ltb-true start 8192 t)) in absurd (omega arith)
+    go false t = ltb-false start 8192 t
 
 pub piece_at-requires : goal.piece_at-requires
-piece_at-requires c =
-    let s = c in
-    let n = length s.args.text.now in
-    omega (arith, s.requires, c.if-start-n.false, blanks _ _ _ _ c.text_end.ensures c.skip-start.ensures, skip_most (byte_at s.args.text.now) n is_blank (smaller n 8192 - s.args.at) s.args.at, smaller_left n 8192)
+piece_at-requires c = omega (arith, c.if-start-end.true, c.text_end-end.ensures, end_within c.args.text.now)
 
-pub returns : goal.returns
-returns c = next_piece _ _ _ _ (blanks _ _ _ _ c.text_end.ensures c.skip-start.ensures) c.if-start-n.false c.if-start-ge-TEXT_LIMIT.false c.piece_at.ensures
+pub returns-then-start-end : goal.returns-then-start-end
+returns-then-start-end c =
+    let t = c.args.text.now in
+    let e = c.text_end-end.ensures in
+    let l = end_within t in
+    next_piece _ _ _ _ (blanks _ _ _ _ e c.skip-start.ensures) (omega (arith, c.if-start-end.true)) (omega (arith, c.if-start-end.true, end_early t)) c.piece_at.ensures
+
+pub returns-else-start-text : goal.returns-else-start-text
+returns-else-start-text c =
+    let t = c.args.text.now in
+    let n = length t in
+    let s = blanks _ _ _ _ c.text_end-end.ensures c.skip-start.ensures in
+    let l : c.skip-start.result ≤ n = omega (arith, c.requires, s, skip_most (byte_at t) n is_blank (smaller n 8192 - c.args.at) c.args.at, smaller_left n 8192) in
+    next_late _ _ _ _ s c.if-start-text.false (late t _ (omega (arith, c.if-start-end.false, c.text_end-end.ensures)) l c.if-start-text.false)

@@ -71,9 +71,13 @@ write_expression-returns-then-left-eq0 t c =
       spares = λ h. omega (arith, ap (λ p. p.at) c.deep.ensures, ap (λ p. p.to) c.deep.ensures);
     }
 
+pub write_expression-loop-opened-init : goal.write_expression-loop-opened-init
+write_expression-loop-opened-init t c =
+    climb_begins c.skip_groups-first.ensures c.write_operand-so_far.ensures.writes c.write_operand-so_far.ensures.spares
+
 pub write_expression-token_at-token-requires : goal.write_expression-token_at-token-requires
 write_expression-token_at-token-requires t c =
-    (c.loop-opened.invariant _ (climb_begins c.skip_groups-first.ensures c.write_operand-so_far.ensures.writes c.write_operand-so_far.ensures.spares)).bounds.within
+    c.loop-opened.invariant.bounds.within
 
 pub write_expression-overflow_sub-opened : goal.write_expression-overflow_sub-opened
 write_expression-overflow_sub-opened t c =
@@ -82,37 +86,37 @@ write_expression-overflow_sub-opened t c =
 pub write_expression-loop-opened-smaller-then-closes_group : goal.write_expression-loop-opened-smaller-then-closes_group
 write_expression-loop-opened-smaller-then-closes_group t c =
     let s = c.token_at-token.ensures in
-    omega (arith, ap (λ p. p.at) c.moved_on-so_far.ensures, s.within, group_ahead _ s (c.loop-opened.invariant _ (climb_begins c.skip_groups-first.ensures c.write_operand-so_far.ensures.writes c.write_operand-so_far.ensures.spares)).bounds.within (sym c.closes_group.ensures ∙ c.if-closes_group.true))
+    omega (arith, ap (λ p. p.at) c.moved_on-so_far.ensures, s.within, group_ahead _ s c.loop-opened.invariant.bounds.within (sym c.closes_group.ensures ∙ c.if-closes_group.true))
 
 pub write_expression-loop-opened-preserved-then-closes_group : goal.write_expression-loop-opened-preserved-then-closes_group
 write_expression-loop-opened-preserved-then-closes_group t c =
-    λ base h. climb_closes (c.loop-opened.invariant base h) c.token_at-token.ensures (sees_on c.token_at-token.ensures) (sym c.closes_group.ensures ∙ c.if-closes_group.true) c.moved_on-so_far.ensures
+    climb_closes c.loop-opened.invariant c.token_at-token.ensures (sees_on c.token_at-token.ensures) (sym c.closes_group.ensures ∙ c.if-closes_group.true) c.moved_on-so_far.ensures
 
 pub write_expression-returns-then-ends_at : goal.write_expression-returns-then-ends_at
 write_expression-returns-then-ends_at t c =
     record {
-      writes = climb_ended (c.loop-opened.invariant _ (climb_begins c.skip_groups-first.ensures c.write_operand-so_far.ensures.writes c.write_operand-so_far.ensures.spares)) c.token_at-token.ensures (sym c.closes_group.ensures ∙ c.if-closes_group.false) (sym c.ends_at.ensures ∙ c.if-ends_at.true);
-      spares = (c.loop-opened.invariant _ (climb_begins c.skip_groups-first.ensures c.write_operand-so_far.ensures.writes c.write_operand-so_far.ensures.spares)).spares;
+      writes = climb_ended c.loop-opened.invariant c.token_at-token.ensures (sym c.closes_group.ensures ∙ c.if-closes_group.false) (sym c.ends_at.ensures ∙ c.if-ends_at.true);
+      spares = c.loop-opened.invariant.spares;
     }
 
 pub write_expression-write_continued-so_far-requires : goal.write_expression-write_continued-so_far-requires
 write_expression-write_continued-so_far-requires t c =
     let s = c.token_at-token.ensures in
     let r = c.requires.ready in
-    let b = (c.loop-opened.invariant _ (climb_begins c.skip_groups-first.ensures c.write_operand-so_far.ensures.writes c.write_operand-so_far.ensures.spares)).bounds in
+    let b = c.loop-opened.invariant.bounds in
     let e = operator-ahead _ _ s b.within (sym c.ends_at.ensures ∙ c.if-ends_at.false) in
     (omega (arith, b.onward, e, s.within), ((record { within = b.within; room = omega (arith, r.room, b.room); small = omega arith; few = r.few }, e, s.within, b.behind), b.depth))
 
 pub write_expression-loop-opened-smaller : goal.write_expression-loop-opened-smaller
 write_expression-loop-opened-smaller t c =
     let s = c.token_at-token.ensures in
-    let b = (c.loop-opened.invariant _ (climb_begins c.skip_groups-first.ensures c.write_operand-so_far.ensures.writes c.write_operand-so_far.ensures.spares)).bounds in
+    let b = c.loop-opened.invariant.bounds in
     let w = c.write_continued-so_far.ensures.bounds in
     omega (arith, w.within, operator-ahead _ _ s b.within (sym c.ends_at.ensures ∙ c.if-ends_at.false), c.write_continued-so_far.ensures.ahead s.within)
 
 pub write_expression-loop-opened-preserved : goal.write_expression-loop-opened-preserved
 write_expression-loop-opened-preserved t c =
-    λ base h. climb_goes (c.loop-opened.invariant base h) c.token_at-token.ensures (sym c.closes_group.ensures ∙ c.if-closes_group.false) (sym c.ends_at.ensures ∙ c.if-ends_at.false) c.write_continued-so_far.ensures
+    climb_goes c.loop-opened.invariant c.token_at-token.ensures (sym c.closes_group.ensures ∙ c.if-closes_group.false) (sym c.ends_at.ensures ∙ c.if-ends_at.false) c.write_continued-so_far.ensures
 
 pub write_function-write_block-block-requires : goal.write_function-write_block-block-requires
 write_function-write_block-block-requires t c =
@@ -143,20 +147,20 @@ write_let-returns t c =
 
 pub write_list-returns-then-closes_list : goal.write_list-returns-then-closes_list
 write_list-returns-then-closes_list t c =
-    list_end c.loop-so_far.invariant c.token_at-token.ensures (sees_on c.token_at-token.ensures) (sym c.closes_list.ensures ∙ c.if-closes_list.true) c.moved_on.ensures
+    list_end c.loop-from.invariant c.token_at-token.ensures (sees_on c.token_at-token.ensures) (sym c.closes_list.ensures ∙ c.if-closes_list.true) c.moved_on.ensures
 
-pub write_list-loop-so_far-smaller : goal.write_list-loop-so_far-smaller
-write_list-loop-so_far-smaller t c =
+pub write_list-loop-from-smaller : goal.write_list-loop-from-smaller
+write_list-loop-from-smaller t c =
     let s = c.token_at-token.ensures in
-    let b = c.loop-so_far.invariant.bounds in
+    let b = c.loop-from.invariant.bounds in
     let w = c.write_expression-item.ensures in
-    let i = item_on (separating (number_of c.token_at-token.result.kind)) (sees_on s) c.item_start.ensures in
+    let i = item_on (separating (number_of c.token_at-token.result.kind)) (sees_on s) c.item_start-at.ensures in
     let e = item-ahead s b.within (sym c.closes_list.ensures ∙ c.if-closes_list.false) in
     omega (arith, ap (λ p. p.at) c.joined-so_far.ensures, i.0, w.writes.bounds.within, expression-on w.writes.bounds w.spares i e s.within)
 
-pub write_list-loop-so_far-preserved : goal.write_list-loop-so_far-preserved
-write_list-loop-so_far-preserved t c =
-    list_on c.loop-so_far.invariant c.token_at-token.ensures (sees_on c.token_at-token.ensures) (sym c.closes_list.ensures ∙ c.if-closes_list.false) c.item_start.ensures c.write_expression-item.ensures.writes c.joined-so_far.ensures
+pub write_list-loop-from-preserved : goal.write_list-loop-from-preserved
+write_list-loop-from-preserved t c =
+    list_on c.loop-from.invariant c.token_at-token.ensures (sees_on c.token_at-token.ensures) (sym c.closes_list.ensures ∙ c.if-closes_list.false) c.item_start-at.ensures c.write_expression-item.ensures.writes c.joined-so_far.ensures
 
 pub write_one-returns-then-left-eq0 : goal.write_one-returns-then-left-eq0
 write_one-returns-then-left-eq0 t c =
@@ -203,15 +207,15 @@ write_operand-returns-in_default-2 t c =
 
 pub write_statements-returns-then-ends_statements : goal.write_statements-returns-then-ends_statements
 write_statements-returns-then-ends_statements t c =
-    statements_end c.loop-token.invariant c.token_at-token.ensures (sym c.ends_statements.ensures ∙ c.if-ends_statements.true)
+    statements_end c.loop-from.invariant c.token_at-token.ensures (sym c.ends_statements.ensures ∙ c.if-ends_statements.true)
 
 pub write_statements-write_one-next-requires : goal.write_statements-write_one-next-requires
 write_statements-write_one-next-requires t c =
     let s = c.token_at-token.ensures in
     let r = c.requires in
-    let b = c.loop-token.invariant.bounds in
+    let b = c.loop-from.invariant.bounds in
     (omega (arith, b.onward, b.within), (record { within = b.within; room = omega (arith, r.room, b.room); small = omega arith; few = r.few }, s, statement-ahead s b.within (sym c.ends_statements.ensures ∙ c.if-ends_statements.false)))
 
-pub write_statements-loop-token-preserved : goal.write_statements-loop-token-preserved
-write_statements-loop-token-preserved t c =
-    statements_on c.loop-token.invariant c.token_at-token.ensures (sym c.ends_statements.ensures ∙ c.if-ends_statements.false) c.write_one-next.ensures.writes c.joined-so_far.ensures
+pub write_statements-loop-from-preserved : goal.write_statements-loop-from-preserved
+write_statements-loop-from-preserved t c =
+    statements_on c.loop-from.invariant c.token_at-token.ensures (sym c.ends_statements.ensures ∙ c.if-ends_statements.false) c.write_one-next.ensures.writes c.joined-so_far.ensures

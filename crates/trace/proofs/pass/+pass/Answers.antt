@@ -1,11 +1,14 @@
 -- The goals of the cycle, function by function.
 use Rattle.trace.proofs.Function.{params_whole, room_inside, params_row, body_stands, body_fits, nested_passes, many_passes, inside_stands, function_whole}
 use Rattle.trace.proofs.Nodes.{some_whole, node_first}
-use Rattle.trace.proofs.Passing.{parent_tag, let_here, function_here, infix_here, row_here, identifier_stands, silent_passes, identifier_passes, let_passes, function_passes, infix_passes, row_passes, operator_byte, left_stands, right_stands, operands_fit, infix-row, less_passes, infix_whole, within_area, let-row, let-name, defined_stands, let_whole}
-use Rattle.trace.proofs.Sequence.{within, onward, row_first, row_fit, turn_holds, turn_again, turn_ends}
+use Rattle.trace.proofs.Passing.{let_here, function_here, infix_here, row_here, identifier_stands, silent_passes, identifier_passes, let_passes, function_passes, infix_passes, row_passes, operator_byte, left_stands, right_stands, operands_fit, infix-row, less_passes, infix_whole, within_area, let-row, let-name, defined_stands, let_whole}
+use Rattle.trace.proofs.Sequence.{within, onward, row_first, row_fit, turn_ends}
+use Rattle.trace.proofs.Loop.{nodes_to, loop_holds, turn_at, loop_again}
+use Rattle.field.proofs.EachField.{can_begin, is_before, is_over}
 use Rattle.tree.proofs.Children.{function_params}
 use Rattle.tree.proofs.Rows.{names_in_row}
 use mathlib.Core.Path.{sym, ◌∙◌}
+use borrow.Author.Rules.{rules}
 use native.Mathlib.Omega.{arith}
 use Rattle.trace.proofs.pass.+pass.Goals as goal
 
@@ -15,41 +18,41 @@ name_field-bounds-tree-at t c = node_first c.requires.some
 pub name_field-log_identifier-requires : goal.name_field-log_identifier-requires
 name_field-log_identifier-requires t c = record {
   whole = some_whole c.requires.some;
-  standing = identifier_stands (sym c.wide-t.ensures.is ∙ c.if-t-eq-IDENTIFIER.true) c.requires.some c.requires.standing;
+  standing = identifier_stands c.in-32.is c.requires.some c.requires.standing;
 }
 
-pub name_field-returns-then-t-eq-IDENTIFIER : goal.name_field-returns-then-t-eq-IDENTIFIER
-name_field-returns-then-t-eq-IDENTIFIER t c = identifier_passes (sym c.wide-t.ensures.is ∙ c.if-t-eq-IDENTIFIER.true) c.requires.some c.log_identifier.ensures
+pub name_field-returns-in-32 : goal.name_field-returns-in-32
+name_field-returns-in-32 t c = identifier_passes c.in-32.is c.requires.some c.log_identifier.ensures
 
 pub name_field-name_let-requires : goal.name_field-name_let-requires
-name_field-name_let-requires t c = (omega (arith, c.decreases), (some_whole c.requires.some, (let_here (sym c.wide-t.ensures.is ∙ c.if-t-eq-LET.true) c.requires.some, c.requires.standing)))
+name_field-name_let-requires t c = (omega (arith, c.decreases), (some_whole c.requires.some, (let_here c.in-19.is c.requires.some, c.requires.standing)))
 
-pub name_field-returns-then-t-eq-LET : goal.name_field-returns-then-t-eq-LET
-name_field-returns-then-t-eq-LET t c = let_passes (sym c.wide-t.ensures.is ∙ c.if-t-eq-LET.true) c.name_let.ensures
+pub name_field-returns-in-19 : goal.name_field-returns-in-19
+name_field-returns-in-19 t c = let_passes c.in-19.is c.name_let.ensures
 
 pub name_field-name_function-requires : goal.name_field-name_function-requires
-name_field-name_function-requires t c = (omega (arith, c.decreases), (function_here (sym c.wide-t.ensures.is ∙ c.if-t-eq-FUNCTION.true) c.requires.some, c.requires.standing))
+name_field-name_function-requires t c = (omega (arith, c.decreases), (function_here c.in-36.is c.requires.some, c.requires.standing))
 
-pub name_field-returns-then-t-eq-FUNCTION : goal.name_field-returns-then-t-eq-FUNCTION
-name_field-returns-then-t-eq-FUNCTION t c = function_passes (sym c.wide-t.ensures.is ∙ c.if-t-eq-FUNCTION.true) c.name_function.ensures
+pub name_field-returns-in-36 : goal.name_field-returns-in-36
+name_field-returns-in-36 t c = function_passes c.in-36.is c.name_function.ensures
 
 pub name_field-name_infix-requires : goal.name_field-name_infix-requires
-name_field-name_infix-requires t c = (omega (arith, c.decreases), (some_whole c.requires.some, (infix_here (sym c.wide-t.ensures.is ∙ c.if-t-eq-INFIX.true) c.requires.some, c.requires.standing)))
+name_field-name_infix-requires t c = (omega (arith, c.decreases), (some_whole c.requires.some, (infix_here c.in-34.is c.requires.some, c.requires.standing)))
 
-pub name_field-returns-then-t-eq-INFIX : goal.name_field-returns-then-t-eq-INFIX
-name_field-returns-then-t-eq-INFIX t c = infix_passes (sym c.wide-t.ensures.is ∙ c.if-t-eq-INFIX.true) c.name_infix.ensures
+pub name_field-returns-in-34 : goal.name_field-returns-in-34
+name_field-returns-in-34 t c = infix_passes c.in-34.is c.name_infix.ensures
 
 pub name_field-after_at-end-requires : goal.name_field-after_at-end-requires
 name_field-after_at-end-requires t c = some_whole c.requires.some
 
 pub name_field-name_row-requires : goal.name_field-name_row-requires
-name_field-name_row-requires t c = (omega (arith, c.decreases, c.after_at-end.ensures.is), (row_here (parent_tag c.wide-t.ensures.is c.has_children.ensures c.if-has_children.true) c.after_at-end.ensures.is c.requires.some, within (omega (arith, c.after_at-end.ensures.is)) c.requires.standing))
+name_field-name_row-requires t c = (omega (arith, c.decreases, c.after_at-end.ensures.is), (row_here (sym c.has_children.ensures ∙ c.if-has_children.true) c.after_at-end.ensures.is c.requires.some, within (omega (arith, c.after_at-end.ensures.is)) c.requires.standing))
 
-pub name_field-returns-then-has_children : goal.name_field-returns-then-has_children
-name_field-returns-then-has_children t c = row_passes (parent_tag c.wide-t.ensures.is c.has_children.ensures c.if-has_children.true) c.after_at-end.ensures.is c.name_row.ensures
+pub name_field-returns-in_default : goal.name_field-returns-in_default
+name_field-returns-in_default t c = row_passes (sym c.has_children.ensures ∙ c.if-has_children.true) c.after_at-end.ensures.is c.name_row.ensures
 
-pub name_field-returns : goal.name_field-returns
-name_field-returns t c = silent_passes (λ e. c.if-t-eq-IDENTIFIER.false (c.wide-t.ensures.is ∙ e)) (λ e. c.if-t-eq-LET.false (c.wide-t.ensures.is ∙ e)) (λ e. c.if-t-eq-FUNCTION.false (c.wide-t.ensures.is ∙ e)) (λ e. c.if-t-eq-INFIX.false (c.wide-t.ensures.is ∙ e)) (parent_tag c.wide-t.ensures.is c.has_children.ensures c.if-has_children.false) c.requires.standing
+pub name_field-returns-in_default-2 : goal.name_field-returns-in_default-2
+name_field-returns-in_default-2 t c = silent_passes (search rules) (search rules) (search rules) (search rules) (sym c.has_children.ensures ∙ c.if-has_children.false) c.requires.standing
 
 pub name_function-after_at-params-requires : goal.name_function-after_at-params-requires
 name_function-after_at-params-requires t c = c.requires.some.1.named.whole
@@ -123,19 +126,23 @@ pub name_let-returns : goal.name_let-returns
 name_let-returns t c = let_whole c.after_at-end.ensures.is c.define.ensures c.name_row.ensures
 
 pub name_row-loop-at-init : goal.name_row-loop-at-init
-name_row-loop-at-init t c = turn_holds c.requires.some c.requires.standing
+name_row-loop-at-init t c =
+    let e = c.into_iter-at-iterator.ensures.into_iter_gives in
+    let n = c.new-at-items.ensures in
+    record { can = can_begin e n (nodes_to c.requires.some); loop = loop_holds e n c.requires.some c.requires.standing }
 
 pub name_row-name_field-m-requires : goal.name_row-name_field-m-requires
-name_row-name_field-m-requires t c = (omega (arith, c.decreases, c.loop-at.invariant.onward, row_fit c.loop-at-test.true c.loop-at.invariant.left), (row_first c.loop-at-test.true c.loop-at.invariant.left, within (omega (arith, row_fit c.loop-at-test.true c.loop-at.invariant.left)) c.loop-at.invariant.standing))
-
-pub name_row-after_at-at-requires : goal.name_row-after_at-at-requires
-name_row-after_at-at-requires t c = some_whole (row_first c.loop-at-test.true c.loop-at.invariant.left)
-
-pub name_row-loop-at-smaller : goal.name_row-loop-at-smaller
-name_row-loop-at-smaller t c = omega (arith, c.after_at-at.ensures.is, row_fit c.loop-at-test.true c.loop-at.invariant.left)
+name_row-name_field-m-requires t c =
+    let n = c.in-Some.ensures.steps in
+    let l = c.loop-at.invariant.loop in
+    let turn = turn_at l n in
+    let before = is_before l.over n in
+    (omega (arith, c.decreases, turn.onward, row_fit before turn.left), (row_first before turn.left, within (omega (arith, row_fit before turn.left)) turn.standing))
 
 pub name_row-loop-at-preserved : goal.name_row-loop-at-preserved
-name_row-loop-at-preserved t c = turn_again c.loop-at-test.true c.after_at-at.ensures.is c.name_field-m.auto.table c.name_field-m.auto.log c.loop-at.invariant c.name_field-m.ensures
+name_row-loop-at-preserved t c =
+    let n = c.in-Some.ensures.steps in
+    record { can = c.in-Some.ensures.goes.keeps; loop = loop_again c.loop-at.invariant.loop n c.name_field-m.auto.table c.name_field-m.auto.log c.name_field-m.ensures }
 
 pub name_row-returns : goal.name_row-returns
-name_row-returns t c = turn_ends c.loop-at-test.false c.loop-at.invariant
+name_row-returns t c = let l = c.loop-at.invariant.loop in turn_ends (is_over l.over c.in-None.ensures.steps) l.turn

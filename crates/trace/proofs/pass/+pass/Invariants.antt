@@ -1,7 +1,7 @@
 -- The measures: the length of the field, or what is left of a row, doubled, so that there is room for ranks; and what each member is given at the measure t and asked below t.
 use Prim.Native.Nat.{ℕ, ◌+◌, ◌*◌, ◌-◌}
 use Rattle.field.specs.Layout.{len}
-use Rattle.trace.proofs.Sequence.{Turn}
+use Rattle.trace.proofs.Loop.{LoopTurn}
 use mathlib.Core.List.{List}
 use Rattle.trace.proofs.pass.+pass.Given as goal
 
@@ -25,7 +25,8 @@ abbrev pub decreases-name_row : goal.decreases-name_row
 decreases-name_row l = 2 * (l.end - l.from) + 2
 
 abbrev pub invariant-name_row-loop-at : goal.invariant-name_row-loop-at
-invariant-name_row-loop-at l = Turn l.tree l.names l.level l.initial.at l.end l.initial.table l.initial.log l.initial.m l.at l.table l.log l.m
-
-abbrev pub decreases-name_row-loop-at : goal.decreases-name_row-loop-at
-decreases-name_row-loop-at l = l.end - l.at
+invariant-name_row-loop-at l =
+    record {
+      can : (goal.iterator-name_row-loop-at).can_next l.at-iterator;
+      loop : LoopTurn l.tree l.names l.level l.from l.end l.initial.table l.initial.log l.initial.m l.at-iterator l.table l.log l.m;
+    }

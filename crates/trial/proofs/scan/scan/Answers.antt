@@ -7,10 +7,10 @@ use Rattle.trial.proofs.Calling.{marks_ready, marked}
 use Rattle.trial.proofs.scan.scan.Goals as goal
 
 pub pass-requires : goal.pass-requires
-pass-requires c = pass_ready (replicate 65536 0) c.args.image.now 3 c.args.end (marks_ready c.args.image.now (c.requires))
+pass-requires c = pass_ready (replicate 65536 0) c.args.program.image.now 3 c.args.program.end (marks_ready c.args.program.image.now (c.requires))
 
 pub scan_marked-requires : goal.scan_marked-requires
-scan_marked-requires c = let k = marks_ready c.args.image.now (c.requires) in (c.requires, omega (arith, k.room, length-replicate {A = ℕ} 65536 0))
+scan_marked-requires c = let k = marks_ready c.args.program.image.now (c.requires) in (c.requires, omega (arith, k.room, length-replicate {A = ℕ} 65536 0))
 
 pub returns : goal.returns
-returns c = λ m j s e. let h = c.requires in let q = main_parts c.args.image.now j h.ends h.pools in marked c.args.image.now c.args.heights.now m q.code (c.pass.ensures m.code q.code) s e (c.scan_marked.ensures m j)
+returns c = λ m j s e. let h = c.requires in let q = main_parts c.args.program.image.now j h.ends h.pools in marked c.args.program.image.now c.args.heights.now m q.code (c.pass.ensures m.code q.code) s e (c.scan_marked.ensures m j)

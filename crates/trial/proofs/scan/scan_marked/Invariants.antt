@@ -1,5 +1,5 @@
 -- `trial::scan::scan_marked` meets its contract: an instruction a turn.
-use Rattle.heights.proofs.EachInstruction.{Over}
+use Rattle.opcode.proofs.EachInstruction.{Over}
 use Rattle.trial.specs.Call.{ScanReady}
 use Rattle.trial.proofs.CodeLoop.{main_parts}
 use Rattle.trial.proofs.Scanning.{ScanLoop}
@@ -8,6 +8,6 @@ use Rattle.trial.proofs.scan.scan_marked.Given as goal
 abbrev pub invariant-loop-at : goal.invariant-loop-at
 invariant-loop-at l =
     record {
-      over : Over l.image l.end l.at-iterator;
-      so_far : (h : ScanReady l.image l.end l.pool) → ScanLoop l.image l.end l.marks h.image (main_parts l.image h.reads h.ends h.pools).code l.at-iterator.at l.names;
+      over : Over l.program.image.now l.program.end l.at-iterator;
+      so_far : (h : ScanReady l.program.image.now l.program.end l.program.pool) → ScanLoop l.program.image.now l.program.end l.marks h.image (main_parts l.program.image.now h.reads h.ends h.pools).code l.at-iterator.at l.names;
     }

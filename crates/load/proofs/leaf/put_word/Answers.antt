@@ -1,7 +1,0 @@
--- `put_word` meets its contract.
-use Rattle.load.proofs.Laws.{leaf_wrote}
-use Rattle.std.proofs.Common.{refl}
-use Rattle.load.proofs.leaf.put_word.Goals as goal
-
-pub returns : goal.returns
-returns c = leaf_wrote _ _ _ _ _ _ c.requires.word_in_bounds c.put_field.ensures refl refl
