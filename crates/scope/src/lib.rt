@@ -52,8 +52,8 @@ pub struct Stopped {
 pub type Walked = Result<State, Stopped>;
 
 // A jump that was emitted, and its position in its chunk.
-// Kept: the walk beside it, as in `step`'s Defining and Added: with a Result of the two and `?`, and the walk's slices in a
-// struct, a compile call takes up to 6 % more instructions.
+// Kept: the walk beside it, as in `step`'s Defining and Added: with a Result of the two and `?` a compile call takes up
+// to 6 % more instructions.
 #[derive(Clone, Copy)]
 pub struct Jumped {
     pub walked: Walked,

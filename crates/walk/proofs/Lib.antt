@@ -1,7 +1,7 @@
 pub mod Sequence
 pub mod Statements
 pub mod Turns
-pub mod Loop
+pub mod Compiled
 pub mod Expressions
 pub mod If
 pub mod Calls

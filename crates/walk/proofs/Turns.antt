@@ -2,7 +2,6 @@
 use Prim.Native.Nat.{ℕ, ◌≤◌, ◌<◌}
 use native.Mathlib.Omega.{arith}
 use mathlib.Core.Path.{◌≡◌, refl, sym, ap, ◌∙◌}
-use lib.ListN.{length}
 use Rattle.definition.specs.Basic.{Bytes}
 use Rattle.definition.specs.Walk.{on, Go, walk_stmt, walk_stmts, walk_expr, walk_exprs}
 use Rattle.field.specs.Layout.{after, Whole}
@@ -10,7 +9,6 @@ use Rattle.scope.specs.View.{View, then}
 use Rattle.scope.specs.Machine.{machine}
 use Rattle.scope.specs.Walked.{Walked}
 use Rattle.std.specs.Prelude.{Ok, Err}
-use Rattle.scope.specs.Walked.{stopped}
 use Rattle.step.specs.Memory.{Rest, settled, memory, Keeps, Walks}
 use Rattle.tree.specs.Reads.{Some, ReadsStmt, ReadsStmts, ReadsExpr, ReadsExprs}
 use Rattle.step.proofs.Memory.{chain, keeps_refl, deeper_keeps}
@@ -21,9 +19,6 @@ use Rattle.tree.proofs.Rows.{First, first_stmt, no-stmts, first_expr, no-exprs}
 -- in a turn: what is left, and that its walk gives what the whole walk gives
 pub record Turn {B : Type 0} (tree : Bytes) (R : ℕ → ℕ → B → Type 0) (k : B → Go View) (from end : ℕ) (c₀ : Bytes) (m₀ : Rest) (w : Walked) (at : ℕ) (c : Bytes) (m : Rest) (v : Walked) : Type 0 where
   pub onward : from ≤ at
-  pub code : length c ≡ length c₀
-  pub session : length m.session ≡ length m₀.session
-  pub table : length m.table ≡ length m₀.table
   pub left : Some (R at end)
   pub standing : Standing tree c m v
   pub keeps : Keeps w v
@@ -32,21 +27,18 @@ pub record Turn {B : Type 0} (tree : Bytes) (R : ℕ → ℕ → B → Type 0) (
 module _ {B : Type 0} {tree : Bytes} {R : ℕ → ℕ → B → Type 0} {k : B → Go View} {from end : ℕ} {c₀ : Bytes} {m₀ : Rest} {w : Walked} where
   -- before the first turn
   pub turn_holds : Some (R from end) → Standing tree c₀ m₀ w → Turn tree R k from end c₀ m₀ w from c₀ m₀ w
-  turn_holds s f = record { onward = omega arith; code = refl; session = refl; table = refl; left = s; standing = f; keeps = keeps_refl w; same = λ b r. (b, r, refl) }
+  turn_holds s f = record { onward = omega arith; left = s; standing = f; keeps = keeps_refl w; same = λ b r. (b, r, refl) }
 
   -- a turn: the first of what is left is walked
   turn_again : {A : Type 0} {P : ℕ → A → Type 0} {one : A → Go View} {cons : A → B → B} {at next : ℕ} {c c₁ : Bytes} {m m₁ : Rest} {v v₁ : Walked}
       → ((x : A) (xs : B) → k (cons x xs) ≡ (λ s. then (one x s) (k xs)))
       → ((b : B) → R at end b → First tree cons P R at end b)
-      → next ≡ after tree at → length c₁ ≡ length c → length m₁.session ≡ length m.session → length m₁.table ≡ length m.table
+      → next ≡ after tree at
       → Turn tree R k from end c₀ m₀ w at c m v → Walks tree (P at) one c c₁ m m₁ v v₁ → Turn tree R k from end c₀ m₀ w next c₁ m₁ v₁
-  turn_again {one = one} {at = at} {c = c} {m = m} {v = v} split first e lc ls lt t d =
+  turn_again {one = one} {at = at} {c = c} {m = m} {v = v} split first e t d =
       let i = first t.left.0 t.left.1 in
       record {
         onward = omega (arith, t.onward);
-        code = lc ∙ t.code;
-        session = ls ∙ t.session;
-        table = lt ∙ t.table;
         left = (i.others, rw e i.behind);
         standing = onward t.standing d;
         keeps = deeper_keeps t.keeps d.keeps;
@@ -76,7 +68,7 @@ module _ {B : Type 0} {tree : Bytes} {R : ℕ → ℕ → B → Type 0} {k : B �
 
 module _ {tree : Bytes} {from end at : ℕ} {c₀ c : Bytes} {m₀ m : Rest} {w v : Walked} where
   -- a statement more
-  pub stmts_again : {next : ℕ} {c₁ : Bytes} {m₁ : Rest} {v₁ : Walked} → at < end → next ≡ after tree at → length c₁ ≡ length c → length m₁.session ≡ length m.session → length m₁.table ≡ length m.table
+  pub stmts_again : {next : ℕ} {c₁ : Bytes} {m₁ : Rest} {v₁ : Walked} → at < end → next ≡ after tree at
       → Turn tree (ReadsStmts tree) (walk_stmts machine) from end c₀ m₀ w at c m v → Walks tree (ReadsStmt tree at) (walk_stmt machine) c c₁ m m₁ v v₁
       → Turn tree (ReadsStmts tree) (walk_stmts machine) from end c₀ m₀ w next c₁ m₁ v₁
   unfolding walk_stmt
@@ -88,7 +80,7 @@ module _ {tree : Bytes} {from end at : ℕ} {c₀ c : Bytes} {m₀ m : Rest} {w 
   stmts_end h = turn_ends refl (λ b r. (no-stmts b h r).0)
 
   -- an expression more
-  pub exprs_again : {next : ℕ} {c₁ : Bytes} {m₁ : Rest} {v₁ : Walked} → at < end → next ≡ after tree at → length c₁ ≡ length c → length m₁.session ≡ length m.session → length m₁.table ≡ length m.table
+  pub exprs_again : {next : ℕ} {c₁ : Bytes} {m₁ : Rest} {v₁ : Walked} → at < end → next ≡ after tree at
       → Turn tree (ReadsExprs tree) (walk_exprs machine) from end c₀ m₀ w at c m v → Walks tree (ReadsExpr tree at) (walk_expr machine) c c₁ m m₁ v v₁
       → Turn tree (ReadsExprs tree) (walk_exprs machine) from end c₀ m₀ w next c₁ m₁ v₁
   unfolding walk_expr

@@ -2,7 +2,7 @@
 use Prim.Native.Nat.{◌+◌}
 use Rattle.definition.specs.Tag.{tag_prefix, tag_infix, tag_if, tag_function, tag_call, tag_array, tag_index, tag_hash, tag_expr_stmt, tag_block, tag_let, tag_return}
 use Rattle.step.proofs.Memory.{fine_roomy, deeper_keeps}
-use Rattle.step.specs.Memory.{rest}
+use Rattle.walk.specs.Compiles.{beside}
 use Rattle.tree.proofs.Children.{branch_body, if_branches, first_branch, call_args, other_branch, expr_here, list_items, macro-tag, function_params, function_body, index_right, infix_left, infix_right, let_value, stmt_here, return-tag, value_expr, block_body}
 use Rattle.tree.proofs.Inside.{inside_at, if_inside, index_inside, infix_inside, let_inside, value-inside}
 use Rattle.tree.proofs.Rows.{exprs_in_row, names_in_row, stmts_to, exprs_to}
@@ -13,12 +13,12 @@ use Rattle.walk.proofs.If.{branch_walks, branches_walks, else_first, other_insid
 use Rattle.walk.proofs.Sequence.{onward, jumps-steps}
 use Rattle.walk.proofs.Statements.{let_walks, stmt_walks, expr_stmt_walks, block_walks, return_walks}
 use Rattle.walk.proofs.Turns.{stmts_first, stmts_fit, exprs_first, exprs_fit}
-use Rattle.walk.proofs.Loop.{loop_holds, turn_at, stmt_turn, expr_turn, stmts_walked, exprs_walked}
+use Rattle.walk.proofs.Compiled.{loop_holds, turn_at, stmt_turn, expr_turn, stmts_walked, exprs_walked}
 use Rattle.field.proofs.EachField.{can_begin, is_before}
 use borrow.Author.Rules.{rules}
-use mathlib.Core.Path.{refl, ap}
+use mathlib.Core.Path.{refl, ap, ◌∙◌}
 use native.Mathlib.Omega.{arith}
-use Rattle.walk.proofs.+walk.Goals as goal
+use Rattle.walk.proofs.Compiler.+walk.Goals as goal
 
 pub walk_block-loop-at-init : goal.walk_block-loop-at-init
 walk_block-loop-at-init t c =
@@ -37,8 +37,7 @@ walk_block-walk_statement-v-requires t c =
 pub walk_block-loop-at-preserved : goal.walk_block-loop-at-preserved
 walk_block-loop-at-preserved t c =
     let n = c.in-Some.ensures.steps in
-    let one = c.walk_statement-v in
-    record { can = c.in-Some.ensures.goes.keeps; loop = stmt_turn n one.auto.code one.auto.session one.auto.table c.loop-at.invariant.loop one.ensures }
+    record { can = c.in-Some.ensures.goes.keeps; loop = stmt_turn n c.loop-at.invariant.loop c.walk_statement-v.ensures }
 
 pub walk_block-returns : goal.walk_block-returns
 walk_block-returns t c = stmts_walked c.in-None.ensures.steps c.loop-at.invariant.loop
@@ -55,7 +54,7 @@ walk_branch-returns t c =
     let on-after-at = c.after_at-end in
     let on-walk-block = c.walk_block-v in
     let on-drop-pop = c.drop_pop in
-    branch_walks start.args.place on-after-at.ensures.is on-walk-block.ensures on-drop-pop.ensures
+    record { walks = branch_walks start.args.place on-after-at.ensures.is on-walk-block.ensures.walks on-drop-pop.ensures; same = on-walk-block.ensures.same }
 
 pub walk_branches-walk_branch-v-requires : goal.walk_branches-walk_branch-v-requires
 walk_branches-walk_branch-v-requires t c =
@@ -65,20 +64,17 @@ walk_branches-walk_branch-v-requires t c =
 
 pub walk_branches-walk_else-u-requires : goal.walk_branches-walk_else-u-requires
 walk_branches-walk_else-u-requires t c =
-    let start = c in
     let on-walk-branch = c.walk_branch-v in
-    let on-jump-and-patch = c.jump_and_patch-away in
-    (omega (arith, start.decreases), (start.requires.whole, (start.requires.some, onward (onward start.requires.standing on-walk-branch.ensures) (jumps-steps on-walk-branch.ensures.fine on-jump-and-patch.ensures))))
+    (omega (arith, c.decreases), (c.requires.whole, (c.requires.some, onward (onward c.requires.standing on-walk-branch.ensures.walks) (jumps-steps on-walk-branch.ensures.walks.fine c.jump_and_patch-away.ensures))))
 
 pub walk_branches-returns : goal.walk_branches-returns
 walk_branches-returns t c =
-    let start = c in
-    let on-after-at = c.after_at-branch in
     let on-walk-branch = c.walk_branch-v in
-    let on-jump-and-patch = c.jump_and_patch-away in
     let on-walk-else = c.walk_else-u in
-    let on-patch = c.patch in
-    branches_walks start.args.skip on-after-at.ensures.is on-walk-branch.ensures on-jump-and-patch.ensures on-walk-else.ensures on-patch.ensures
+    record {
+      walks = branches_walks c.args.skip c.after_at-branch.ensures.is on-walk-branch.ensures.walks c.jump_and_patch-away.ensures on-walk-else.ensures.walks c.patch.ensures;
+      same = on-walk-else.ensures.same ∙ on-walk-branch.ensures.same;
+    }
 
 pub walk_call-count_fields-n-requires : goal.walk_call-count_fields-n-requires
 walk_call-count_fields-n-requires t c =
@@ -93,7 +89,7 @@ walk_call-walk_expressions-u-requires t c =
     let on-after-at = c.after_at-end in
     let start = c in
     let on-walk-expression = c.walk_expression-v in
-    (search rules, (call_args on-after-at2.ensures.is on-after-at.ensures.is start.requires.some, onward start.requires.standing on-walk-expression.ensures))
+    (search rules, (call_args on-after-at2.ensures.is on-after-at.ensures.is start.requires.some, onward start.requires.standing on-walk-expression.ensures.walks))
 
 pub walk_call-returns-then-n-gt-ARGUMENTS_LIMIT : goal.walk_call-returns-then-n-gt-ARGUMENTS_LIMIT
 walk_call-returns-then-n-gt-ARGUMENTS_LIMIT t c =
@@ -103,7 +99,7 @@ walk_call-returns-then-n-gt-ARGUMENTS_LIMIT t c =
     let on-if1 = c.if-n-gt-ARGUMENTS_LIMIT in
     let on-walk-expression = c.walk_expression-v in
     let on-refuse = c.refuse in
-    many_walks on-after-at2.ensures.is on-after-at.ensures.is on-count-fields.ensures on-if1.true on-walk-expression.ensures on-refuse.ensures
+    record { walks = many_walks on-after-at2.ensures.is on-after-at.ensures.is on-count-fields.ensures on-if1.true on-walk-expression.ensures.walks on-refuse.ensures; same = on-walk-expression.ensures.same }
 
 pub walk_call-returns-else-n-gt-ARGUMENTS_LIMIT : goal.walk_call-returns-else-n-gt-ARGUMENTS_LIMIT
 walk_call-returns-else-n-gt-ARGUMENTS_LIMIT t c =
@@ -114,7 +110,7 @@ walk_call-returns-else-n-gt-ARGUMENTS_LIMIT t c =
     let on-walk-expression = c.walk_expression-v in
     let on-walk-expressions = c.walk_expressions-u in
     let on-emit-any = c.emit_any in
-    call_walks on-after-at2.ensures.is on-after-at.ensures.is on-count-fields.ensures on-if1.false on-walk-expression.ensures on-walk-expressions.ensures on-emit-any.ensures
+    record { walks = call_walks on-after-at2.ensures.is on-after-at.ensures.is on-count-fields.ensures on-if1.false on-walk-expression.ensures.walks on-walk-expressions.ensures.walks on-emit-any.ensures; same = on-walk-expressions.ensures.same ∙ on-walk-expression.ensures.same }
 
 pub walk_else-after_at-at-requires : goal.walk_else-after_at-at-requires
 walk_else-after_at-at-requires t c =
@@ -138,7 +134,7 @@ walk_else-returns-then-at-end t c =
     let on-after-at = c.after_at-end in
     let on-if1 = c.if-at-end in
     let on-walk-branch = c.walk_branch in
-    else_walks on-after-at2.ensures.is on-after-at3.ensures.is on-after-at.ensures.is on-if1.true on-walk-branch.ensures
+    record { walks = else_walks on-after-at2.ensures.is on-after-at3.ensures.is on-after-at.ensures.is on-if1.true on-walk-branch.ensures.walks; same = on-walk-branch.ensures.same }
 
 pub walk_else-returns-else-at-end : goal.walk_else-returns-else-at-end
 walk_else-returns-else-at-end t c =
@@ -148,7 +144,7 @@ walk_else-returns-else-at-end t c =
     let on-if1 = c.if-at-end in
     let start = c in
     let on-emit = c.emit in
-    null_walks on-after-at2.ensures.is on-after-at3.ensures.is on-after-at.ensures.is on-if1.false start.requires.standing.fine on-emit.ensures
+    record { walks = null_walks on-after-at2.ensures.is on-after-at3.ensures.is on-after-at.ensures.is on-if1.false start.requires.standing.fine on-emit.ensures; same = refl }
 
 pub walk_expression-load-requires : goal.walk_expression-load-requires
 walk_expression-load-requires t c =
@@ -196,7 +192,7 @@ walk_expression-literal-requires t c =
     record {
       whole = search rules;
       ready = search rules;
-      roomy = fine_roomy start.args.tree.now (rest start.args.session.now start.args.table.now) start.requires.standing.fine;
+      roomy = fine_roomy start.args.tree.now (beside start.args.self.now) start.requires.standing.fine;
     }
 
 pub walk_expression-bounds-tree-at-in-39 : goal.walk_expression-bounds-tree-at-in-39
@@ -211,7 +207,7 @@ walk_expression-literal-requires-in-40 t c =
     record {
       whole = search rules;
       ready = search rules;
-      roomy = fine_roomy start.args.tree.now (rest start.args.session.now start.args.table.now) start.requires.standing.fine;
+      roomy = fine_roomy start.args.tree.now (beside start.args.self.now) start.requires.standing.fine;
     }
 
 pub walk_expression-walk_list-requires : goal.walk_expression-walk_list-requires
@@ -236,83 +232,83 @@ pub walk_expression-returns-in-32 : goal.walk_expression-returns-in-32
 walk_expression-returns-in-32 t c =
     let on-match = c.in-32 in
     let on-load = c.load in
-    identifier_walks on-match.is on-load.ensures
+    record { walks = identifier_walks on-match.is on-load.ensures; same = refl }
 
 pub walk_expression-returns-in-33 : goal.walk_expression-returns-in-33
 walk_expression-returns-in-33 t c =
     let on-match = c.in-33 in
     let on-walk-prefix = c.walk_prefix in
-    expr_walks tag_prefix on-match.is on-walk-prefix.ensures
+    record { walks = expr_walks tag_prefix on-match.is on-walk-prefix.ensures.walks; same = on-walk-prefix.ensures.same }
 
 pub walk_expression-returns-in-34 : goal.walk_expression-returns-in-34
 walk_expression-returns-in-34 t c =
     let on-match = c.in-34 in
     let on-walk-infix = c.walk_infix in
-    expr_walks tag_infix on-match.is on-walk-infix.ensures
+    record { walks = expr_walks tag_infix on-match.is on-walk-infix.ensures.walks; same = on-walk-infix.ensures.same }
 
 pub walk_expression-returns-in-35 : goal.walk_expression-returns-in-35
 walk_expression-returns-in-35 t c =
     let on-match = c.in-35 in
     let on-walk-if = c.walk_if in
-    expr_walks tag_if on-match.is on-walk-if.ensures
+    record { walks = expr_walks tag_if on-match.is on-walk-if.ensures.walks; same = on-walk-if.ensures.same }
 
 pub walk_expression-returns-in-36 : goal.walk_expression-returns-in-36
 walk_expression-returns-in-36 t c =
     let on-match = c.in-36 in
     let on-walk-function = c.walk_function in
-    expr_walks tag_function on-match.is on-walk-function.ensures
+    record { walks = expr_walks tag_function on-match.is on-walk-function.ensures.walks; same = on-walk-function.ensures.same }
 
 pub walk_expression-returns-in-37 : goal.walk_expression-returns-in-37
 walk_expression-returns-in-37 t c =
     let on-match = c.in-37 in
     let on-walk-call = c.walk_call in
-    expr_walks tag_call on-match.is on-walk-call.ensures
+    record { walks = expr_walks tag_call on-match.is on-walk-call.ensures.walks; same = on-walk-call.ensures.same }
 
 pub walk_expression-returns-in-38 : goal.walk_expression-returns-in-38
 walk_expression-returns-in-38 t c =
     let on-match = c.in-38 in
     let on-literal = c.literal in
     let start = c in
-    integer_walks on-match.is (on-literal.ensures.steps _ start.requires.standing.fine)
+    record { walks = integer_walks on-match.is (on-literal.ensures.steps _ start.requires.standing.fine); same = refl }
 
 pub walk_expression-returns-in-39 : goal.walk_expression-returns-in-39
 walk_expression-returns-in-39 t c =
     let on-match = c.in-39 in
     let start = c in
     let on-boolean = c.boolean in
-    boolean_walks on-match.is start.requires.standing.fine on-boolean.ensures
+    record { walks = boolean_walks on-match.is start.requires.standing.fine on-boolean.ensures; same = refl }
 
 pub walk_expression-returns-in-40 : goal.walk_expression-returns-in-40
 walk_expression-returns-in-40 t c =
     let on-match = c.in-40 in
     let on-literal2 = c.literal-in-40 in
     let start = c in
-    string_walks on-match.is (on-literal2.ensures.steps _ start.requires.standing.fine)
+    record { walks = string_walks on-match.is (on-literal2.ensures.steps _ start.requires.standing.fine); same = refl }
 
 pub walk_expression-returns-in-41 : goal.walk_expression-returns-in-41
 walk_expression-returns-in-41 t c =
     let on-match = c.in-41 in
     let on-walk-list = c.walk_list in
-    array_walks on-match.is on-walk-list.ensures
+    record { walks = array_walks on-match.is on-walk-list.ensures.walks; same = on-walk-list.ensures.same }
 
 pub walk_expression-returns-in-42 : goal.walk_expression-returns-in-42
 walk_expression-returns-in-42 t c =
     let on-match = c.in-42 in
     let on-walk-index = c.walk_index in
-    expr_walks tag_index on-match.is on-walk-index.ensures
+    record { walks = expr_walks tag_index on-match.is on-walk-index.ensures.walks; same = on-walk-index.ensures.same }
 
 pub walk_expression-returns-in-43 : goal.walk_expression-returns-in-43
 walk_expression-returns-in-43 t c =
     let on-match = c.in-43 in
     let on-walk-list2 = c.walk_list-in-43 in
-    hash_walks on-match.is on-walk-list2.ensures
+    record { walks = hash_walks on-match.is on-walk-list2.ensures.walks; same = on-walk-list2.ensures.same }
 
 pub walk_expression-returns-in_default : goal.walk_expression-returns-in_default
 walk_expression-returns-in_default t c =
     let on-match = c.in_default in
     let start = c in
     let on-refuse = c.refuse in
-    let no = on-match.in_default-own.rest in macro_walks (macro-tag no.0.0.0.0.0.0.0.0.0.0.0.1 no.0.0.0.0.0.0.0.0.0.0.1 no.0.0.0.0.0.0.0.0.0.1 no.0.0.0.0.0.0.0.0.1 no.0.0.0.0.0.0.0.1 no.0.0.0.0.0.0.1 no.0.0.0.0.0.1 no.0.0.0.0.1 no.0.0.0.1 no.0.0.1 no.0.1 no.1 start.requires.some) start.requires.standing.ready start.requires.standing.fine on-refuse.ensures
+    record { walks = let no = on-match.in_default-own.rest in macro_walks (macro-tag no.0.0.0.0.0.0.0.0.0.0.0.1 no.0.0.0.0.0.0.0.0.0.0.1 no.0.0.0.0.0.0.0.0.0.1 no.0.0.0.0.0.0.0.0.1 no.0.0.0.0.0.0.0.1 no.0.0.0.0.0.0.1 no.0.0.0.0.0.1 no.0.0.0.0.1 no.0.0.0.1 no.0.0.1 no.0.1 no.1 start.requires.some) start.requires.standing.ready start.requires.standing.fine on-refuse.ensures; same = refl }
 
 pub walk_expressions-loop-at-init : goal.walk_expressions-loop-at-init
 walk_expressions-loop-at-init t c =
@@ -331,8 +327,7 @@ walk_expressions-walk_expression-v-requires t c =
 pub walk_expressions-loop-at-preserved : goal.walk_expressions-loop-at-preserved
 walk_expressions-loop-at-preserved t c =
     let n = c.in-Some.ensures.steps in
-    let one = c.walk_expression-v in
-    record { can = c.in-Some.ensures.goes.keeps; loop = expr_turn n one.auto.code one.auto.session one.auto.table c.loop-at.invariant.loop one.ensures }
+    record { can = c.in-Some.ensures.goes.keeps; loop = expr_turn n c.loop-at.invariant.loop c.walk_expression-v.ensures }
 
 pub walk_expressions-returns : goal.walk_expressions-returns
 walk_expressions-returns t c = exprs_walked c.in-None.ensures.steps c.loop-at.invariant.loop
@@ -387,8 +382,8 @@ walk_function-leave-requires t c =
     let entered = on-enter.ensures.enters _ _ start.requires.standing.ready start.requires.standing.fine in record {
       ready = search rules;
       sound = start.requires.standing.ready.sound;
-      deeper = deeper_keeps entered.inside on-walk-block.ensures.keeps;
-      fine_for = record { tree = _; fine = on-walk-block.ensures.fine };
+      deeper = deeper_keeps entered.inside on-walk-block.ensures.walks.keeps;
+      fine_for = record { tree = _; fine = on-walk-block.ensures.walks.fine };
     }
 
 pub walk_function-returns : goal.walk_function-returns
@@ -401,28 +396,28 @@ walk_function-returns t c =
     let start = c in
     let on-walk-block = c.walk_block-v in
     let on-leave = c.leave in
-    function_walks on-after-at.ensures.is on-after-at2.ensures.is on-after-at3.ensures.is on-count-fields.ensures (on-enter.ensures.enters _ _ start.requires.standing.ready start.requires.standing.fine) on-walk-block.ensures (on-leave.ensures.closed.leaves _ on-walk-block.ensures.fine)
+    record { walks = function_walks on-after-at.ensures.is on-after-at2.ensures.is on-after-at3.ensures.is on-count-fields.ensures (on-enter.ensures.enters _ _ start.requires.standing.ready start.requires.standing.fine) on-walk-block.ensures.walks (on-leave.ensures.closed.leaves _ on-walk-block.ensures.walks.fine); same = on-walk-block.ensures.same }
 
 pub walk_if-walk_branches-requires : goal.walk_if-walk_branches-requires
 walk_if-walk_branches-requires t c =
-    let start = c in
     let on-walk-expression = c.walk_expression-v in
-    let on-jump = c.jump-skip in
-    (omega (arith, start.decreases), (start.requires.whole, (start.requires.some, onward (onward start.requires.standing on-walk-expression.ensures) (jumps-steps on-walk-expression.ensures.fine on-jump.ensures))))
+    (omega (arith, c.decreases), (c.requires.whole, (c.requires.some, onward (onward c.requires.standing on-walk-expression.ensures.walks) (jumps-steps on-walk-expression.ensures.walks.fine c.jump-skip.ensures))))
 
 pub walk_if-returns : goal.walk_if-returns
 walk_if-returns t c =
     let on-walk-expression = c.walk_expression-v in
-    let on-jump = c.jump-skip in
     let on-walk-branches = c.walk_branches in
-    if_walks on-walk-expression.ensures on-jump.ensures on-walk-branches.ensures
+    record {
+      walks = if_walks on-walk-expression.ensures.walks c.jump-skip.ensures on-walk-branches.ensures.walks;
+      same = on-walk-branches.ensures.same ∙ on-walk-expression.ensures.same;
+    }
 
 pub walk_index-walk_expression-u-requires : goal.walk_index-walk_expression-u-requires
 walk_index-walk_expression-u-requires t c =
     let on-after-at = c.after_at-right in
     let start = c in
     let on-walk-expression = c.walk_expression-v in
-    (omega (arith, inside_at on-after-at.ensures.is (index_inside start.requires.some.1).1, start.decreases), (index_right on-after-at.ensures.is start.requires.some, onward start.requires.standing on-walk-expression.ensures))
+    (omega (arith, inside_at on-after-at.ensures.is (index_inside start.requires.some.1).1, start.decreases), (index_right on-after-at.ensures.is start.requires.some, onward start.requires.standing on-walk-expression.ensures.walks))
 
 pub walk_index-returns : goal.walk_index-returns
 walk_index-returns t c =
@@ -430,7 +425,7 @@ walk_index-returns t c =
     let on-walk-expression = c.walk_expression-v in
     let on-walk-expression2 = c.walk_expression-u in
     let on-emit = c.emit in
-    index_walks on-after-at.ensures.is on-walk-expression.ensures on-walk-expression2.ensures on-emit.ensures
+    record { walks = index_walks on-after-at.ensures.is on-walk-expression.ensures.walks on-walk-expression2.ensures.walks on-emit.ensures; same = on-walk-expression2.ensures.same ∙ on-walk-expression.ensures.same }
 
 pub walk_infix-walk_expression-v-requires : goal.walk_infix-walk_expression-v-requires
 walk_infix-walk_expression-v-requires t c =
@@ -442,14 +437,14 @@ pub walk_infix-walk_expression-u-requires : goal.walk_infix-walk_expression-u-re
 walk_infix-walk_expression-u-requires t c =
     let start = c in
     let on-walk-expression = c.walk_expression-v in
-    (omega (arith, (infix_inside start.requires.some.1).0, start.decreases), (infix_left start.requires.some, onward start.requires.standing on-walk-expression.ensures))
+    (omega (arith, (infix_inside start.requires.some.1).0, start.decreases), (infix_left start.requires.some, onward start.requires.standing on-walk-expression.ensures.walks))
 
 pub walk_infix-walk_expression-u-requires-else-o-eq-LESS_THAN : goal.walk_infix-walk_expression-u-requires-else-o-eq-LESS_THAN
 walk_infix-walk_expression-u-requires-else-o-eq-LESS_THAN t c =
     let on-after-at = c.after_at-op in
     let start = c in
     let on-walk-expression3 = c.walk_expression-v-else-o-eq-LESS_THAN in
-    (omega (arith, inside_at (ap (λ x. x + 4) on-after-at.ensures.is) (infix_inside start.requires.some.1).2, start.decreases), (infix_right on-after-at.ensures.is start.requires.some, onward start.requires.standing on-walk-expression3.ensures))
+    (omega (arith, inside_at (ap (λ x. x + 4) on-after-at.ensures.is) (infix_inside start.requires.some.1).2, start.decreases), (infix_right on-after-at.ensures.is start.requires.some, onward start.requires.standing on-walk-expression3.ensures.walks))
 
 pub walk_infix-returns-then-o-eq-LESS_THAN : goal.walk_infix-returns-then-o-eq-LESS_THAN
 walk_infix-returns-then-o-eq-LESS_THAN t c =
@@ -458,7 +453,7 @@ walk_infix-returns-then-o-eq-LESS_THAN t c =
     let on-walk-expression = c.walk_expression-v in
     let on-walk-expression2 = c.walk_expression-u in
     let on-infix-operator = c.infix_operator in
-    less_walks on-after-at.ensures.is on-if1.true on-walk-expression.ensures on-walk-expression2.ensures on-infix-operator.ensures
+    record { walks = less_walks on-after-at.ensures.is on-if1.true on-walk-expression.ensures.walks on-walk-expression2.ensures.walks on-infix-operator.ensures; same = on-walk-expression2.ensures.same ∙ on-walk-expression.ensures.same }
 
 pub walk_infix-returns-else-o-eq-LESS_THAN : goal.walk_infix-returns-else-o-eq-LESS_THAN
 walk_infix-returns-else-o-eq-LESS_THAN t c =
@@ -467,7 +462,7 @@ walk_infix-returns-else-o-eq-LESS_THAN t c =
     let on-walk-expression3 = c.walk_expression-v-else-o-eq-LESS_THAN in
     let on-walk-expression4 = c.walk_expression-u-else-o-eq-LESS_THAN in
     let on-infix-operator2 = c.infix_operator-else-o-eq-LESS_THAN in
-    infix_walks on-after-at.ensures.is on-if1.false on-walk-expression3.ensures on-walk-expression4.ensures on-infix-operator2.ensures
+    record { walks = infix_walks on-after-at.ensures.is on-if1.false on-walk-expression3.ensures.walks on-walk-expression4.ensures.walks on-infix-operator2.ensures; same = on-walk-expression4.ensures.same ∙ on-walk-expression3.ensures.same }
 
 pub walk_let-define-defined-requires : goal.walk_let-define-defined-requires
 walk_let-define-defined-requires t c =
@@ -480,19 +475,15 @@ walk_let-define-defined-requires t c =
 
 pub walk_let-walk_expression-v-requires : goal.walk_let-walk_expression-v-requires
 walk_let-walk_expression-v-requires t c =
-    let on-define = c.define-defined in
-    let start = c in
     let on-after-at = c.after_at-value in
-    let defined = on-define.ensures.defines _ _ start.requires.standing.ready start.requires.standing.fine in (omega (arith, inside_at on-after-at.ensures.is (let_inside start.requires.some.1).1, start.decreases), (let_value on-after-at.ensures.is start.requires.some, record { ready = defined.ready; fine = defined.fine; short = start.requires.standing.short }))
+    let defined = c.define-defined.ensures.defines _ _ c.requires.standing.ready c.requires.standing.fine in
+    (omega (arith, inside_at on-after-at.ensures.is (let_inside c.requires.some.1).1, c.decreases), (let_value on-after-at.ensures.is c.requires.some, record { ready = defined.ready; fine = defined.fine; short = c.requires.standing.short }))
 
 pub walk_let-returns : goal.walk_let-returns
 walk_let-returns t c =
-    let on-after-at = c.after_at-value in
-    let on-define = c.define-defined in
-    let start = c in
     let on-walk-expression = c.walk_expression-v in
-    let on-emit-any = c.emit_any in
-    let_walks on-after-at.ensures.is (on-define.ensures.defines _ _ start.requires.standing.ready start.requires.standing.fine) on-walk-expression.ensures on-emit-any.ensures
+    let defined = c.define-defined.ensures.defines _ _ c.requires.standing.ready c.requires.standing.fine in
+    record { walks = let_walks c.after_at-value.ensures.is defined on-walk-expression.ensures.walks c.emit_any.ensures; same = on-walk-expression.ensures.same }
 
 pub walk_list-count_fields-n-requires : goal.walk_list-count_fields-n-requires
 walk_list-count_fields-n-requires t c =
@@ -512,13 +503,13 @@ walk_list-returns t c =
     let on-count-fields = c.count_fields-n in
     let on-walk-expressions = c.walk_expressions-u in
     let on-emit-any = c.emit_any in
-    list_walks _ _ on-after-at.ensures.is on-count-fields.ensures on-walk-expressions.ensures on-emit-any.ensures
+    record { walks = list_walks _ _ on-after-at.ensures.is on-count-fields.ensures on-walk-expressions.ensures.walks on-emit-any.ensures; same = on-walk-expressions.ensures.same }
 
 pub walk_prefix-returns : goal.walk_prefix-returns
 walk_prefix-returns t c =
     let on-walk-expression = c.walk_expression-v in
     let on-prefix-operator = c.prefix_operator in
-    prefix_walks on-walk-expression.ensures on-prefix-operator.ensures
+    record { walks = prefix_walks on-walk-expression.ensures.walks on-prefix-operator.ensures; same = on-walk-expression.ensures.same }
 
 pub walk_statement-walk_expression-v-requires : goal.walk_statement-walk_expression-v-requires
 walk_statement-walk_expression-v-requires t c =
@@ -550,20 +541,20 @@ walk_statement-returns-in-17 t c =
     let on-match = c.in-17 in
     let on-walk-expression = c.walk_expression-v in
     let on-emit = c.emit in
-    expr_stmt_walks on-match.is on-walk-expression.ensures on-emit.ensures
+    record { walks = expr_stmt_walks on-match.is on-walk-expression.ensures.walks on-emit.ensures; same = on-walk-expression.ensures.same }
 
 pub walk_statement-returns-in-18 : goal.walk_statement-returns-in-18
 walk_statement-returns-in-18 t c =
     let on-match = c.in-18 in
     let on-after-at = c.after_at-end in
     let on-walk-block = c.walk_block in
-    block_walks on-match.is on-after-at.ensures.is on-walk-block.ensures
+    record { walks = block_walks on-match.is on-after-at.ensures.is on-walk-block.ensures.walks; same = on-walk-block.ensures.same }
 
 pub walk_statement-returns-in-19 : goal.walk_statement-returns-in-19
 walk_statement-returns-in-19 t c =
     let on-match = c.in-19 in
     let on-walk-let = c.walk_let in
-    stmt_walks tag_let on-match.is on-walk-let.ensures
+    record { walks = stmt_walks tag_let on-match.is on-walk-let.ensures.walks; same = on-walk-let.ensures.same }
 
 pub walk_statement-returns-in_default : goal.walk_statement-returns-in_default
 walk_statement-returns-in_default t c =
@@ -571,4 +562,4 @@ walk_statement-returns-in_default t c =
     let start = c in
     let on-walk-expression2 = c.walk_expression-v-in_default in
     let on-emit2 = c.emit-in_default in
-    return_walks (return-tag on-match.in_default-own.rest.0.0.1 on-match.in_default-own.rest.0.1 on-match.in_default-own.rest.1 start.requires.some) on-walk-expression2.ensures on-emit2.ensures
+    record { walks = return_walks (return-tag on-match.in_default-own.rest.0.0.1 on-match.in_default-own.rest.0.1 on-match.in_default-own.rest.1 start.requires.some) on-walk-expression2.ensures.walks on-emit2.ensures; same = on-walk-expression2.ensures.same }

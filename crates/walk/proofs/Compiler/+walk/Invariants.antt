@@ -3,11 +3,10 @@ use Prim.Native.Nat.{ℕ, ◌+◌, ◌*◌, ◌-◌}
 use Rattle.definition.specs.Walk.{walk_stmts, walk_exprs}
 use Rattle.field.specs.Layout.{len}
 use Rattle.scope.specs.Machine.{machine}
-use Rattle.step.specs.Memory.{rest}
 use Rattle.tree.specs.Reads.{ReadsStmts, ReadsExprs}
-use Rattle.walk.proofs.Loop.{LoopTurn}
+use Rattle.walk.proofs.Compiled.{LoopTurn}
 use mathlib.Core.List.{List}
-use Rattle.walk.proofs.+walk.Given as goal
+use Rattle.walk.proofs.Compiler.+walk.Given as goal
 
 -- the length of the field at an offset, doubled, so that there is room for ranks: a function that calls another on the same field has the higher one
 abbrev field : List ℕ → ℕ → ℕ
@@ -62,12 +61,12 @@ abbrev pub invariant-walk_block-loop-at : goal.invariant-walk_block-loop-at
 invariant-walk_block-loop-at l =
     record {
       can : (goal.iterator-walk_block-loop-at).can_next l.at-iterator;
-      loop : LoopTurn l.tree (ReadsStmts l.tree) (walk_stmts machine) l.from l.end l.initial.code (rest l.initial.session l.initial.table) l.initial.v l.at-iterator l.code (rest l.session l.table) l.v;
+      loop : LoopTurn l.tree (ReadsStmts l.tree) (walk_stmts machine) l.from l.end l.initial.self l.initial.v l.at-iterator l.self l.v;
     }
 
 abbrev pub invariant-walk_expressions-loop-at : goal.invariant-walk_expressions-loop-at
 invariant-walk_expressions-loop-at l =
     record {
       can : (goal.iterator-walk_expressions-loop-at).can_next l.at-iterator;
-      loop : LoopTurn l.tree (ReadsExprs l.tree) (walk_exprs machine) l.from l.end l.initial.code (rest l.initial.session l.initial.table) l.initial.v l.at-iterator l.code (rest l.session l.table) l.v;
+      loop : LoopTurn l.tree (ReadsExprs l.tree) (walk_exprs machine) l.from l.end l.initial.self l.initial.v l.at-iterator l.self l.v;
     }
