@@ -34,16 +34,34 @@ def public(old, name):
 
 
 def lemmas(root):
-    """Names of the lemmas of proofs/, by crate."""
+    """The top-level lemmas and records of proofs/ by crate: for each name where it lies and what it states."""
     out = {}
     for path in sorted((root / "crates").glob("*/proofs/**/*.antt")):
         if path.name in ("Answers.antt", "Invariants.antt", "Lib.antt", "Proof.antt"):
             continue
         crate = path.relative_to(root / "crates").parts[0]
-        for m in re.finditer(r"^ *pub (?:record |data )?([^\s:(){}]+)(?: [^:=]*)? *:", path.read_text(), re.M):
-            if m.group(1) not in ("mod", "use"):
-                out.setdefault(crate, {}).setdefault(m.group(1), str(path.relative_to(root / "crates" / crate)))
+        levels = [0]
+        for line in path.read_text().split("\n"):
+            text = line.lstrip(" ")
+            indent = len(line) - len(text)
+            if not text or text.startswith("--"):
+                continue
+            levels = [k for k in levels if k <= indent]
+            if indent in levels and text.startswith("module "):
+                levels.append(indent + 2)
+                continue
+            m = indent in levels and re.match(r"(?:pub )?(?:record |data )?([^\s:(){}]+)((?: [^:=]*)?) :(?: (.*))?$", text)
+            if m and m.group(1) not in ("mod", "use", "module", "unfolding", "where"):
+                out.setdefault(crate, {}).setdefault(m.group(1), (str(path.relative_to(root / "crates" / crate)), re.sub(r"\s+", " ", m.group(3) or "")))
     return out
+
+
+def elsewhere(now, crate, name, statement):
+    """Another crate's lemma of the name and the statement, if there is one."""
+    for other in now:
+        if other != crate and now[other].get(name, ("", ""))[1] == statement:
+            return f"`{other}/{now[other][name][0]}` states it"
+    return "?"
 
 
 def kept_words(text):
@@ -95,12 +113,11 @@ def main():
         out.append(f"| {key} | {words.get(key, '?')} |\n")
     out.append("\n## Lemmas of proofs/ that are gone, and what states the same now\n\n| Lemma | Now |\n|---|---|\n")
     before, now = lemmas(old), lemmas(ROOT)
-    everywhere = {n for c in now.values() for n in c}
     for crate in sorted(before):
-        for name, path in before[crate].items():
-            if name not in everywhere:
+        for name, (path, statement) in before[crate].items():
+            if name not in now.get(crate, {}):
                 key = cell(f"{crate}/{path} {name}")
-                out.append(f"| {key} | {words.get(key, '?')} |\n")
+                out.append(f"| {key} | {words.get(key) or elsewhere(now, crate, name, statement)} |\n")
     out.append("\n## Must-fail edits whose text changed\n\n| Edit | Old | New |\n|---|---|---|\n")
     for crate, name, a, b in data["edits and outputs"]["changed"]:
         if name.endswith(".edit"):

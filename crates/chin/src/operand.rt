@@ -17,11 +17,10 @@ pub fn other_form(form: Form) -> Form
 }
 
 // A number of two bytes with its bytes exchanged.
-// Kept: arithmetic, since it takes any number, and `swap_bytes` of this type exchanges eight bytes.
 fn exchanged(a: usize) -> usize
     ensures { result ≡ exchangedOf a }
 {
-    a % 256 * 256 + a / 256 % 256
+    usize::from(((a % 65536) as u16).swap_bytes())
 }
 
 // The operand of a jump that ends at an offset of its chunk: the distance to its target, or the target of its distance; or there is none.

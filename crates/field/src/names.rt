@@ -14,8 +14,8 @@ pub fn same_name(x: &[u8], y: &[u8]) -> bool
     if x.len() != y.len() {
         return false;
     }
-    for (i, b) in x.iter().enumerate() {
-        if *b != y[i] {
+    for (a, b) in x.iter().zip(y) {
+        if a != b {
             return false;
         }
     }

@@ -3,16 +3,10 @@
 #![tactic(auto)]
 
 use bytecode::constants::Constants;
-use definition::{Refusal, tag};
+use definition::tag;
 use field::length_at;
 use report::{print_in_heights, read_full};
 use std::io;
-
-// Writes a refusal as a sentence.
-fn print_refusal(rt: &impl Eprint, refusal: Refusal) -> io::Result<()> {
-    rt.eprint("image_depths")?;
-    print_in_heights(rt, refusal)
-}
 
 // Writes the line of each function among the constants from an offset on, with the greatest heights in their order.
 fn print_functions(rt: &impl Print, image: &[u8], start: usize, tops: &[u32]) -> io::Result<()> {
@@ -45,7 +39,7 @@ fn check(rt: &(impl Print + Eprint), image: &[u8], heights: &[u32]) -> io::Resul
     let mut tops = [0u32; 4097];
     match heights::check_heights(image, heights, &mut tops) {
         Ok(_) => print_depths(rt, image, &tops),
-        Err(r) => print_refusal(rt, r),
+        Err(r) => print_in_heights(rt, "image_depths", r),
     }
 }
 
@@ -54,7 +48,7 @@ fn run(rt: &(impl Print + Eprint), image: &[u8]) -> io::Result<()> {
     let mut heights = [0u32; 65536];
     match heights::propose_heights(image, &mut heights) {
         Ok(_) => check(rt, image, &heights),
-        Err(r) => print_refusal(rt, r),
+        Err(r) => print_in_heights(rt, "image_depths", r),
     }
 }
 

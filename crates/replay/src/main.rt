@@ -51,20 +51,6 @@ impl TryFrom<usize> for Record {
     }
 }
 
-// What a record came to: a call that agrees or differs, or something between two calls.
-#[derive(Clone, Copy)]
-enum Came {
-    Agrees,
-    Differs,
-    Between,
-}
-
-impl From<bool> for Came {
-    fn from(same: bool) -> Came {
-        if same { Came::Agrees } else { Came::Differs }
-    }
-}
-
 // The lengths of the session's buffer and of the work areas that are lent.
 #[derive(Clone, Copy)]
 struct Sizes {
@@ -106,11 +92,6 @@ fn read_part<R: Read>(reader: &mut R, buffer: &mut [u8], length: usize) -> io::R
     Ok(())
 }
 
-// Whether two buffers are the same.
-fn same_buffers(a: &[u8; SESSION_SIZE], b: &[u8; SESSION_SIZE]) -> bool {
-    a[..] == b[..]
-}
-
 // Whether all numbers are a value.
 fn all_numbers(numbers: &[u32; TABLE_SIZE], value: u32) -> bool {
     numbers.iter().all(|n| *n == value)
@@ -118,7 +99,7 @@ fn all_numbers(numbers: &[u32; TABLE_SIZE], value: u32) -> bool {
 
 // Whether all bytes of the code area are a value.
 fn all_code(code: &[u8; CODE_SIZE], value: u8) -> bool {
-    code[..] == [value; CODE_SIZE][..]
+    *code == [value; CODE_SIZE]
 }
 
 // Compiles a tree in parts of these lengths.
@@ -209,13 +190,13 @@ fn run_call<R: Read>(
         &mut table,
         sizes,
     );
-    let kept = (number == 0) | same_buffers(&before, session);
+    let kept = (number == 0) | (before == *session);
     let areas = if number == 1 {
         all_code(&code, 0x5A) & all_numbers(&table, 7)
     } else {
         all_code(&code, 0) & all_numbers(&table, 0)
     };
-    Ok(as_recorded(answer, number, value) & same_buffers(&output, &expected) & kept & areas)
+    Ok(as_recorded(answer, number, value) & (output == expected) & kept & areas)
 }
 
 // Buffers of the full lengths.
@@ -286,7 +267,7 @@ fn check_session<R: Read>(reader: &mut R, session: &[u8; SESSION_SIZE]) -> io::R
     let length = read_word(reader)?;
     let mut expected = [0u8; SESSION_SIZE];
     read_part(reader, &mut expected, length)?;
-    Ok(same_buffers(&expected, session))
+    Ok(expected == *session)
 }
 
 // A session of its own: its first bytes, and zeros after them.
@@ -298,29 +279,29 @@ fn start_session<R: Read>(reader: &mut R, session: &mut [u8; SESSION_SIZE]) -> i
     Ok(())
 }
 
-// Runs a record.
+// Runs a record: whether it agrees; none of what lies between two calls.
 fn run_record<R: Read>(
     reader: &mut R,
     session: &mut [u8; SESSION_SIZE],
     record: Record,
-) -> io::Result<Came> {
+) -> io::Result<Option<bool>> {
     match record {
         Record::Fresh => {
             let _ = compiler::make_session(session);
-            Ok(Came::Between)
+            Ok(None)
         }
         Record::Own => {
             start_session(reader, session)?;
-            Ok(Came::Between)
+            Ok(None)
         }
-        Record::Call => Ok(Came::from(run_call(reader, session, full_sizes())?)),
-        Record::Session => Ok(Came::from(check_session(reader, session)?)),
-        Record::Made => Ok(Came::from(run_make(reader, session)?)),
+        Record::Call => Ok(Some(run_call(reader, session, full_sizes())?)),
+        Record::Session => Ok(Some(check_session(reader, session)?)),
+        Record::Made => Ok(Some(run_make(reader, session)?)),
         Record::CallInParts => {
             let sizes = read_sizes(reader)?;
-            Ok(Came::from(run_call(reader, session, sizes)?))
+            Ok(Some(run_call(reader, session, sizes)?))
         }
-        Record::MadeWithWords => Ok(Came::from(run_make_words(reader, session)?)),
+        Record::MadeWithWords => Ok(Some(run_make_words(reader, session)?)),
     }
 }
 
@@ -333,9 +314,9 @@ fn run_records<R: Read>(reader: &mut R, most: u64) -> io::Result<Counts> {
             break;
         };
         match run_record(reader, &mut session, record)? {
-            Came::Agrees => counts.agree += 1,
-            Came::Differs => counts.differ += 1,
-            Came::Between => {}
+            Some(true) => counts.agree += 1,
+            Some(false) => counts.differ += 1,
+            None => {}
         }
     }
     Ok(counts)

@@ -60,33 +60,31 @@ fn number_of(bytes: [u8; 4]) -> usize {
     u32::from_be_bytes(bytes) as usize
 }
 
-// Write a listing behind its answer's line.
-fn write_listing(rt: &impl Print, output: &[u8], length: usize) -> io::Result<()> {
-    if length <= output.len() {
-        rt.println("ok")?;
-        rt.write_all(&output[..length])?;
-    }
-    Ok(())
-}
-
-// List an image into an output.
-fn list_into(rt: &impl Print, image: &[u8], output: &mut [u8]) -> io::Result<()> {
-    match listing::list_image(image, output) {
-        Ok(n) => write_listing(rt, output, n),
-        Err(r) => write_refusal(rt, r),
-    }
-}
-
-// Answer a question on a listing: the length of its output in three bytes, then the image.
-fn answer_list(rt: &impl Print, bytes: &[u8]) -> io::Result<()> {
+// Answer a question that wants an output: the output's length in three bytes, then what a function turns into it, whose bytes another writes.
+fn answer_turned<
+    R: Print,
+    T: Fn(&[u8], &mut [u8]) -> Result<usize, Refusal>,
+    W: Fn(&R, &[u8]) -> io::Result<()>,
+>(rt: &R, bytes: &[u8], turn: T, write: W) -> io::Result<()>
+    requires { T.IsAlwaysCallable turn × W.IsAlwaysCallable write }
+{
     let Some(([a, b, c], image)) = bytes.split_first_chunk::<3>() else {
         return Ok(());
     };
     let mut output = [0u8; 65536];
-    match output.get_mut(..number_of([0, *a, *b, *c])) {
-        Some(part) => list_into(rt, image, part),
-        None => Ok(()),
+    let Some(part) = output.get_mut(..number_of([0, *a, *b, *c])) else {
+        return Ok(());
+    };
+    match turn(image, part) {
+        Ok(n) => write(rt, part.get(..n).unwrap_or(part)),
+        Err(r) => write_refusal(rt, r),
     }
+}
+
+// Write a listing behind its answer's line.
+fn write_listing<R: Print>(rt: &R, listing: &[u8]) -> io::Result<()> {
+    rt.println("ok")?;
+    rt.write_all(listing)
 }
 
 // Answer a question on decoding.
@@ -159,47 +157,24 @@ fn answer_part(rt: &impl Print, bytes: &[u8]) -> io::Result<()> {
 }
 
 // Write the line of a translation's bytes.
-fn write_bytes(rt: &impl Print, output: &[u8], length: usize) -> io::Result<()> {
+fn write_bytes<R: Print>(rt: &R, bytes: &[u8]) -> io::Result<()> {
     rt.print("ok ")?;
-    for b in output.iter().take(length) {
+    for b in bytes {
         print!(rt; "{b:02x}")?;
     }
     rt.println("")
 }
 
-// Translate an image into an output.
-fn turn_into(image: &[u8], output: &mut [u8], to_chin: bool) -> Result<usize, Refusal> {
-    if to_chin {
-        return chin::to_chin(image, output);
-    }
-    chin::from_chin(image, output)
-}
-
-// Write what a translation answers.
-fn write_turned(rt: &impl Print, image: &[u8], output: &mut [u8], to_chin: bool) -> io::Result<()> {
-    match turn_into(image, output, to_chin) {
-        Ok(n) => write_bytes(rt, output, n),
-        Err(r) => write_refusal(rt, r),
-    }
-}
-
-// Answer a question on the chin form: the length of its output in three bytes, then the image or the chin form.
-fn answer_turn(rt: &impl Print, bytes: &[u8], to_chin: bool) -> io::Result<()> {
-    let Some(([a, b, c], image)) = bytes.split_first_chunk::<3>() else {
-        return Ok(());
-    };
-    let mut output = [0u8; 65536];
-    match output.get_mut(..number_of([0, *a, *b, *c])) {
-        Some(part) => write_turned(rt, image, part, to_chin),
-        None => Ok(()),
-    }
-}
-
 // Answer a line's question, by the first letter of its word.
-fn answer(rt: &impl Print, word: &str, mut bytes: Vec<u8>) -> io::Result<()> {
+fn answer<R: Print>(rt: &R, word: &str, mut bytes: Vec<u8>) -> io::Result<()> {
     match word.as_bytes().first() {
         Some(b'i') => answer_image(rt, bytes.as_slice()),
-        Some(b'l') => answer_list(rt, bytes.as_slice()),
+        Some(b'l') => answer_turned(
+            rt,
+            bytes.as_slice(),
+            listing::list_image,
+            write_listing::<R>,
+        ),
         Some(b'd') => answer_decode(rt, bytes.as_slice()),
         Some(b's') => {
             bytes.resize(65536, 0)?;
@@ -207,8 +182,8 @@ fn answer(rt: &impl Print, word: &str, mut bytes: Vec<u8>) -> io::Result<()> {
         }
         Some(b'c') => answer_count(rt, bytes.as_slice()),
         Some(b'p') => answer_part(rt, bytes.as_slice()),
-        Some(b't') => answer_turn(rt, bytes.as_slice(), true),
-        _ => answer_turn(rt, bytes.as_slice(), false),
+        Some(b't') => answer_turned(rt, bytes.as_slice(), chin::to_chin, write_bytes::<R>),
+        _ => answer_turned(rt, bytes.as_slice(), chin::from_chin, write_bytes::<R>),
     }
 }
 

@@ -73,12 +73,12 @@ fn place_word(reason: Reason) -> &'static str {
     }
 }
 
-// Writes a refusal of an image or of its heights, behind the program's name.
-pub fn print_in_heights(rt: &impl Eprint, refusal: Refusal) -> io::Result<()> {
+// Writes a refusal of an image or of its heights, behind a program's name.
+pub fn print_in_heights(rt: &impl Eprint, program: &str, refusal: Refusal) -> io::Result<()> {
     let Refusal { reason, place } = refusal;
     let number = reason.number();
     let word = place_word(reason);
-    eprintln!(rt; ": refused with number {number}, {reason}, {word} {place}.")
+    eprintln!(rt; "{program}: refused with number {number}, {reason}, {word} {place}.")
 }
 
 // Writes a refusal's number and place alone.
@@ -119,6 +119,7 @@ pub fn print_in_text(rt: &impl Eprint, text: &[u8], refusal: Refusal) -> io::Res
 }
 
 // Writes the first bytes of an output to standard output; nothing where it has fewer.
+// Kept: the length is what a call answered for this output; with slices each program would cut, where the cut stands once here.
 pub fn write_first(rt: &impl Print, output: &[u8], length: usize) -> io::Result<()> {
     match output.get(..length) {
         Some(first) => rt.write_all(first),

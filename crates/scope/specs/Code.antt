@@ -1,21 +1,21 @@
 -- What the leaves on the code area are said with, beside the machine's steps.
-use Rattle.std.specs.Prelude.{ℕ, eqb, Ok, Err}
-use Rattle.std.proofs.Math.Option.{Option, none, some}
-use Rattle.definition.specs.Basic.{pick}
-use Rattle.definition.specs.Opcode.{op_jump}
+use Rattle.std.specs.Prelude.{ℕ, ◌≡◌, Ok, Err, Option, Some, None}
+use Rattle.std.proofs.Math.Option as maybe
+use Rattle.definition.specs.Opcode.{op_jump, width}
 use Rattle.definition.specs.Walk.{Res, on, bind}
 use Rattle.scope.specs.View.{View}
 use Rattle.scope.specs.Machine.{jump, patch}
 use Rattle.scope.specs.Walked.{Walked}
-use Rattle.scope.specs.Walked.{stopped}
 
--- the byte that stands for no instruction
-abbrev pub no_opcode : ℕ
-no_opcode = 0xFF
+-- the instruction of an answer, if it has one
+abbrev pub opcode_of : Option ℕ → maybe.Option ℕ
+opcode_of (Some o) = maybe.some o
+opcode_of None = maybe.none
 
--- the instruction that a byte stands for, if any
-abbrev pub opcode_of : ℕ → Option ℕ
-opcode_of o = pick (eqb o no_opcode) none (some o)
+-- it has no operands
+abbrev pub Alone : Option ℕ → Type 0
+Alone (Some o) = 0 ≡ width o
+Alone None = Unit {0}
 
 -- the length of the chunk in work
 abbrev pub length_of : Walked → ℕ

@@ -92,27 +92,3 @@ pub fn change_operand(code: &mut [u8], chunk: &mut Chunk, at: usize) -> bool
     *chunk = r.chunk;
     r.room
 }
-
-// Lends a chunk to emission.
-pub fn emit_lent(code: &mut [u8], mut c: Chunk, i: Instruction) -> Emitted
-    requires { Within code.old c × Sized i }
-    ensures { Adds code.old c i result code.new }
-{
-    let room = add_instruction(code, &mut c, i);
-    Emitted {
-        chunk: c,
-        room: room,
-    }
-}
-
-// Lends a chunk to patching.
-pub fn patch_lent(code: &mut [u8], mut c: Chunk, at: usize) -> Emitted
-    requires { Within code.old c }
-    ensures { Changes code.old c at result code.new }
-{
-    let room = change_operand(code, &mut c, at);
-    Emitted {
-        chunk: c,
-        room: room,
-    }
-}

@@ -19,20 +19,14 @@ fn low(x: usize) -> u8
     (x % 256) as u8
 }
 
-// The byte above it.
-fn high(x: usize) -> u8
-    ensures { result ≡ x / 256 % 256 }
-{
-    low(x / 256)
-}
-
 // Writes a number as two bytes, the high one first.
 pub fn write_word(code: &mut [u8], at: usize, x: usize)
     requires { at + 1 < length code.old }
     ensures { code.new ≡ sets code.old at (x / 256 % 256 ∷ x % 256 ∷ []) }
 {
-    code[at] = high(x);
-    code[at + 1] = low(x);
+    let [high, low] = ((x % 65536) as u16).to_be_bytes();
+    code[at] = high;
+    code[at + 1] = low;
 }
 
 // Writes the operands of an instruction that has `n` operand bytes.

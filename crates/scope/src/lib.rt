@@ -8,15 +8,15 @@ ghost use Rattle.definition.specs.Opcode.{instr, plain, width, op_closure};
 ghost use Rattle.definition.specs.Walk.{on, operate, prefixes, infixes};
 ghost use Rattle.scope.specs.View.{Ready, Done, Jumps, Refuses};
 ghost use Rattle.scope.specs.Machine;
-ghost use Rattle.scope.specs.Code.{length_of, opcode_of, jump_and_patch};
+ghost use Rattle.scope.specs.Code.{length_of, opcode_of, Alone, jump_and_patch};
 
 mod emission;
 mod instruction;
 mod operators;
 
 use definition::{Reason, Refusal};
+use emission::{add_instruction, change_operand};
 use opcode::opcodes;
-use opcode::table::NO_INSTRUCTION;
 
 // The target of a jump that is not yet patched.
 const UNPATCHED: usize = 9999;
@@ -136,9 +136,9 @@ fn emit_instruction(
         a,
         b,
     };
-    let e = emission::emit_lent(code, s.chunk, i);
-    if e.room {
-        return Ok(with_chunk(s, e.chunk));
+    let mut chunk = s.chunk;
+    if add_instruction(code, &mut chunk, i) {
+        return Ok(with_chunk(s, chunk));
     }
     refuse(Ok(s), Reason::Code, place)
 }
@@ -207,8 +207,9 @@ pub fn patch(code: &mut [u8], w: Walked, at: usize) -> Walked
     ensures { Done code.old code.new w result (λ v. on tt (Machine.patch at v)) }
 {
     let s = w?;
-    let e = emission::patch_lent(code, s.chunk, at);
-    Ok(with_chunk(s, e.chunk))
+    let mut chunk = s.chunk;
+    change_operand(code, &mut chunk, at);
+    Ok(with_chunk(s, chunk))
 }
 
 // Emits a Jump, and patches the jump from before behind it.
@@ -268,15 +269,15 @@ pub fn boolean(code: &mut [u8], w: Walked, place: usize, b: u8) -> Walked
 }
 
 // Emits an operator's instruction, or refuses where it has none.
-fn operator(code: &mut [u8], w: Walked, place: usize, op: u8) -> Walked
+fn operator(code: &mut [u8], w: Walked, place: usize, op: Option<u8>) -> Walked
     requires ready { Ready code.old w }
-    requires value { 0 ≡ width op }
+    requires alone { Alone op }
     ensures { Done code.old code.new w result (operate Machine.machine place (opcode_of op)) }
 {
-    if op == NO_INSTRUCTION {
-        return refuse(w, Reason::Operator, place);
+    match op {
+        Some(op) => emit(code, w, place, op),
+        None => refuse(w, Reason::Operator, place),
     }
-    emit(code, w, place, op)
 }
 
 // Emits the instruction of a prefix operator.

@@ -4,49 +4,43 @@ ghost use Rattle.std.proofs.Math.Option.{none};
 ghost use Rattle.definition.specs.Basic.{pick};
 ghost use Rattle.definition.specs.Opcode.{op_true, op_false, width};
 ghost use Rattle.definition.specs.Walk.{prefixes, infixes};
-ghost use Rattle.scope.specs.Code.{opcode_of};
+ghost use Rattle.scope.specs.Code.{opcode_of, Alone};
 
 use opcode::opcodes;
-use opcode::table::NO_INSTRUCTION;
 
 // The instructions of the prefix operators, in the order of `Operator`.
-const PREFIXES: [u8; 4] = [
-    NO_INSTRUCTION,
-    NO_INSTRUCTION,
-    opcodes::MINUS,
-    opcodes::BANG,
-];
+const PREFIXES: [Option<u8>; 4] = [None, None, Some(opcodes::MINUS), Some(opcodes::BANG)];
 
 // The instructions of the infix operators.
-const INFIXES: [u8; 10] = [
-    NO_INSTRUCTION,
-    opcodes::ADD,
-    opcodes::SUB,
-    NO_INSTRUCTION,
-    opcodes::MUL,
-    opcodes::DIV,
-    opcodes::EQUAL,
-    opcodes::NOT_EQUAL,
-    opcodes::GREATER_THAN,
-    opcodes::GREATER_THAN,
+const INFIXES: [Option<u8>; 10] = [
+    None,
+    Some(opcodes::ADD),
+    Some(opcodes::SUB),
+    None,
+    Some(opcodes::MUL),
+    Some(opcodes::DIV),
+    Some(opcodes::EQUAL),
+    Some(opcodes::NOT_EQUAL),
+    Some(opcodes::GREATER_THAN),
+    Some(opcodes::GREATER_THAN),
 ];
 
-// The instruction of a prefix operator, or NO_INSTRUCTION.
-pub fn prefix_opcode(o: u8) -> u8
+// The instruction of a prefix operator, if it has one.
+pub fn prefix_opcode(o: u8) -> Option<u8>
     ensures is { opcode_of result ≡ get_or prefixes o none }
-    ensures alone { 0 ≡ width result }
+    ensures alone { Alone result }
 {
     let i = o as usize;
-    if i < 4 { PREFIXES[i] } else { NO_INSTRUCTION }
+    if i < 4 { PREFIXES[i] } else { None }
 }
 
-// The instruction of an infix operator, or NO_INSTRUCTION.
-pub fn infix_opcode(o: u8) -> u8
+// The instruction of an infix operator, if it has one.
+pub fn infix_opcode(o: u8) -> Option<u8>
     ensures is { opcode_of result ≡ get_or infixes o none }
-    ensures alone { 0 ≡ width result }
+    ensures alone { Alone result }
 {
     let i = o as usize;
-    if i < 10 { INFIXES[i] } else { NO_INSTRUCTION }
+    if i < 10 { INFIXES[i] } else { None }
 }
 
 // The instruction of a boolean.

@@ -4,7 +4,7 @@ use native.Mathlib.Omega.{arith}
 use mathlib.Core.Bool.{Bool, true, false}
 use mathlib.Core.List.{[], ◌∷◌}
 use mathlib.Core.Path.{◌≡◌, refl, ap, ◌∙◌}
-use lib.ListN.{length, set, take, drop, length-drop}
+use lib.ListN.{length, take, drop, length-drop}
 use lib.Seq.{sets, length-take-le}
 use Rattle.definition.specs.Basic.{Bytes}
 use Rattle.definition.specs.Limit.{code_size}
@@ -22,13 +22,6 @@ use Rattle.step.specs.declared.Added.{Added}
 use Rattle.step.specs.Memory.{Roomy}
 use Rattle.step.specs.Contract.{has_room, Adds}
 use Rattle.step.proofs.Constants.{roomy_write, adds_on, adds_full}
-
--- three stores in a row
-pub counts-stored : (l : Bytes) (i a b c : ℕ) → set (set (set l i a) (i + 1) b) (i + 2) c ≡ sets l i (a ∷ b ∷ c ∷ [])
-counts-stored l i a b c =
-    let one : i + 1 ≡ suc i = omega arith in
-    let two : i + 2 ≡ suc (suc i) = omega arith in
-    λ j. set (set (set l i a) (one j) b) (two j) c
 
 -- the head, the counts, the code
 pub function_stored : (l : Bytes) {m n r : Bytes} (i locals params : ℕ) (b : Bytes) → m ≡ sets l i (heading tag_function_const (3 + length b)) → n ≡ sets m (i + 3) (locals / 256 % 256 ∷ locals % 256 ∷ params % 256 ∷ [])

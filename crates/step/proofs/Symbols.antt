@@ -7,23 +7,22 @@ use lib.ListN.{length}
 use lib.Seq.{length-take-le}
 use Rattle.definition.specs.Basic.{Bytes}
 use Rattle.definition.specs.Limit.{nesting_limit}
-use Rattle.definition.specs.Number.{refusal}
-use Rattle.definition.specs.Opcode.{instr}
+use Rattle.definition.specs.Opcode.{instr, op_set_global}
 use Rattle.definition.specs.SymbolTable.{Table, load_of}
 use Rattle.definition.specs.Decode.{words_in}
 use Rattle.definition.specs.Walk.{refuse}
-use Rattle.definition.specs.declared.reason.Refusal.{Refusal}
 use Rattle.symbol_table.specs.Layout.{part_size, base, symbol_of, globals_of, tables_of, Good}
 use Rattle.symbol_table.specs.Contract as Symbol
-use Rattle.symbol_table.specs.Contract.{Lookup, Definition, defined_of, resolved_of, HasWords, Resolves}
+use Rattle.symbol_table.specs.Contract.{lookup_reason, define_reason, Lookup, Definition, defined_of, resolved_of, HasWords, Resolves}
 use Rattle.symbol_table.specs.declared.Found.{Found}
 use Rattle.symbol_table.specs.declared.Slot.TheVariants.{Global, Local}
-use Rattle.symbol_table.specs.declared.DefineError.TheVariants.{GlobalsFull, LocalsFull}
+use Rattle.symbol_table.specs.declared.DefineError.{DefineError}
+use Rattle.symbol_table.specs.declared.LookupError.{LookupError}
+use Rattle.symbol_table.specs.declared.LookupError.TheVariants.{Undefined, Full}
 use Rattle.std.specs.Prelude.{Ok, Err}
 use Rattle.field.specs.Layout.{content}
 use Rattle.scope.specs.declared.State.{State}
 use Rattle.scope.specs.Walked.{Walked}
-use Rattle.scope.specs.Walked.{stopped}
 use Rattle.scope.specs.View.{Symbols, View, view, Ready, Done, Refuses}
 use Rattle.scope.specs.Machine.{define, placed, with_tables, load, loaded, emit}
 use Rattle.step.specs.declared.Defining.{Defining}
@@ -73,8 +72,8 @@ module _ (p : ℕ) (s : State) (a : Definition) where
   pub placed_is : {d : Defining} {b : Definition} → a ≡ b → d ≡ placed_at p s b → d ≡ placed_at p s a
   placed_is q e = e ∙ sym (ap (placed_at p s) q)
 
-  pub placed-refused : {r : Walked} {k : Reason} {o i : ℕ} → Refuses (Ok s) r k p → record { walked = Err (stopped (refusal k p) s); op = o; operand = i } ≡ placed_at p s a → record { walked = r; op = o; operand = i } ≡ placed_at p s a
-  placed-refused {o = o} {i = i} d e = (λ u. record { walked = refuses_is d u; op = o; operand = i }) ∙ e
+  pub placed-refused : {r : Walked} {k : Reason} {u : DefineError} → a ≡ Err u → k ≡ define_reason u → Refuses (Ok s) r k p → record { walked = r; op = op_set_global; operand = 0 } ≡ placed_at p s a
+  placed-refused q i d = rw (q, refuses_is d, i)
 
 -- and as the machine takes it
 module _ (tree c e : Bytes) (t : List ℕ) (p : ℕ) (s : State) where
@@ -83,26 +82,22 @@ module _ (tree c e : Bytes) (t : List ℕ) (p : ℕ) (s : State) where
       ≡ settled (placed p (view c e y s) (defined_of a (symbols_of tree (rest e t) s).globals (symbols_of tree (rest e t) s).tables))
   place-step y (Ok (Global k)) = refl
   place-step y (Ok (Local k)) = refl
-  place-step y (Err GlobalsFull) = refl
-  place-step y (Err LocalsFull) = refl
+  place-step y (Err e) = refl
 
   place_ready : (a : Definition) → Ready c (Ok s) → Ready c (placed_at p s a).walked
   place_ready (Ok (Global k)) h = h
   place_ready (Ok (Local k)) h = h
-  place_ready (Err GlobalsFull) h = record { area = h.area; sound = tt }
-  place_ready (Err LocalsFull) h = record { area = h.area; sound = tt }
+  place_ready (Err e) h = record { area = h.area; sound = tt }
 
   place_fine : (a : Definition) → FineState tree (rest e t) s → Fine tree (rest e t) (placed_at p s a).walked
   place_fine (Ok (Global k)) f = f
   place_fine (Ok (Local k)) f = f
-  place_fine (Err GlobalsFull) f = tt
-  place_fine (Err LocalsFull) f = tt
+  place_fine (Err e) f = tt
 
 place_keeps : (p : ℕ) (s : State) (a : Definition) → Keeps (Ok s) (placed_at p s a).walked
 place_keeps p s (Ok (Global k)) = keeps_refl (Ok s)
 place_keeps p s (Ok (Local k)) = keeps_refl (Ok s)
-place_keeps p s (Err GlobalsFull) = stop_deeper
-place_keeps p s (Err LocalsFull) = stop_deeper
+place_keeps p s (Err e) = stop_deeper
 
 pub define-on : (p : ℕ) {tree : Bytes} {t t' : List ℕ} {w : Walked} {s : State} {a : Definition} {d : Defining} → w ≡ Ok s → length t' ≡ length t → Symbol.Defines tree s.level (p + 3) a t t' → d ≡ placed_at p s a → DefinesBeside tree p t t' w d
 unfolding define
@@ -133,6 +128,11 @@ module _ (p : ℕ) (tree e : Bytes) (t t' : List ℕ) (s : State) {a : Lookup} (
   answer_view : view c e (symbols_of tree (rest e t') s) s ≡ with_tables (tables_of tree s.level t') (view c e (symbols_of tree (rest e t) s) s)
   answer_view = ap (λ g. view c e (record { globals = globals_of tree (names_of e s) g; tables = tables_of tree s.level t' }) s) x.globals
 
+-- a lookup that is refused tells the machine's reason
+loaded_refused : (p : ℕ) (v : View) (ts : List Table) (u : LookupError) → loaded p v (resolved_of (Err u) ts) ≡ refuse (lookup_reason u) p v
+loaded_refused p v ts Undefined = refl
+loaded_refused p v ts Full = refl
+
 module _ (p : ℕ) {tree e : Bytes} {t t' : List ℕ} {w : Walked} {s : State} (q : w ≡ Ok s) where
   pub load_found : {c c' : Bytes} {b : Lookup} {k : Found} {o i : ℕ} {r : Walked} → length t' ≡ length t → Fine tree (rest e t) w → Resolves (words_in (names_of e s)) tree (names_of e s) s.level p b t t' → b ≡ Ok k → instr o i 0 ≡ load_of (symbol_of k.code)
       → Done c c' (Ok s) r (emit p (instr o i 0)) → Steps tree (load p (content tree p)) c c' (rest e t) (rest e t') w r
@@ -148,14 +148,14 @@ module _ (p : ℕ) {tree e : Bytes} {t t' : List ℕ} {w : Walked} {s : State} (
         keeps = y.keeps;
       })
 
-  -- a lookup that is refused with number k
-  pub load-refused : (k : Reason) {c : Bytes} {b : Lookup} (a : Lookup) {r : Walked} → ((v : View) (ts : List Table) → loaded p v (resolved_of a ts) ≡ refuse k p v) → Ready c w → Resolves (words_in (names_of e s)) tree (names_of e s) s.level p b t t' → b ≡ a
+  -- a lookup that is refused
+  pub load-refused : {k : Reason} {c : Bytes} {b : Lookup} {u : LookupError} {r : Walked} → k ≡ lookup_reason u → Ready c w → Resolves (words_in (names_of e s)) tree (names_of e s) s.level p b t t' → b ≡ Err u
       → Refuses (Ok s) r k p → Steps tree (load p (content tree p)) c c (rest e t) (rest e t') w r
-  load-refused k {c} a none h z g d =
+  load-refused {c = c} {u = u} i h z g d =
       let x = rw g at z in
-      rw (q, refuses_is d)
+      rw (q, refuses_is d, i)
       (record {
-        step = λ _ _. ap settled (sym (answer_step p tree e t t' s x c ∙ none (view c e (symbols_of tree (rest e t) s) s) (tables_of tree s.level t')));
+        step = λ _ _. ap settled (sym (answer_step p tree e t t' s x c ∙ loaded_refused p (view c e (symbols_of tree (rest e t) s) s) (tables_of tree s.level t') u));
         ready = record { area = h.area; sound = tt };
         fine = tt;
         keeps = stop_deeper;

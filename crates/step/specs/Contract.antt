@@ -2,14 +2,12 @@
 use Rattle.std.specs.Prelude.{ℕ, ◌+◌, ◌≤◌, ◌≡◌, Bool, false, List, leb, length, Ok, Err}
 use Rattle.definition.specs.Basic.{Bytes, pick}
 use Rattle.definition.specs.Limit.{code_size, constants_limit, pool_limit}
-use Rattle.definition.specs.Number
 use Rattle.definition.specs.Number.{refusal}
 use Rattle.definition.specs.Opcode.{Instr, instr, op_set_global, op_set_local}
 use Rattle.definition.specs.Walk.{Res, bind, Go}
 use Rattle.symbol_table.specs.Layout.{part_size, base, part, Sized}
-use Rattle.symbol_table.specs.Contract.{Definition}
+use Rattle.symbol_table.specs.Contract.{Definition, define_reason}
 use Rattle.symbol_table.specs.declared.Slot.TheVariants.{Global, Local}
-use Rattle.symbol_table.specs.declared.DefineError.TheVariants.{GlobalsFull, LocalsFull}
 use Rattle.scope.specs.View.{View, then, Fits, Ready}
 use Rattle.scope.specs.Machine.{define, enter, outside, close_over, leave}
 use Rattle.field.specs.Layout.{content, after, Whole}
@@ -65,8 +63,7 @@ pub record DefinesBeside (tree : Bytes) (p : ℕ) (t t' : List ℕ) (w : Walked)
 abbrev pub placed_at : ℕ → State → Definition → Defining
 placed_at p s (Ok (Global k)) = record { walked = Ok s; op = op_set_global; operand = k }
 placed_at p s (Ok (Local k)) = record { walked = Ok s; op = op_set_local; operand = k }
-placed_at p s (Err GlobalsFull) = record { walked = Err (stopped (refusal Number.globals p) s); op = op_set_global; operand = 0 }
-placed_at p s (Err LocalsFull) = record { walked = Err (stopped (refusal Number.locals p) s); op = op_set_local; operand = 0 }
+placed_at p s (Err e) = record { walked = Err (stopped (refusal (define_reason e) p) s); op = op_set_global; operand = 0 }
 
 -- the name of the function at p, and its n parameters
 pub record HeadAt (tree : Bytes) (p n : ℕ) : Type 0 where

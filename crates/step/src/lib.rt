@@ -20,7 +20,7 @@ use field::{after_at, content_at};
 use opcode::opcodes;
 use pool::add_constant;
 use scope::{Chunk, State, Walked, emit_operand, refuse, returned};
-use symbol_table::{DefineError, LookupError, Slot, load_of, resolve_name};
+use symbol_table::{DefineError, Slot, load_of, resolve_name};
 
 // The open functions, as a level.
 const NESTING_LIMIT: u32 = limit::NESTING_LIMIT as u32;
@@ -83,8 +83,7 @@ pub fn load(
             let l = load_of(found.code);
             emit_operand(code, Ok(s), at, l.op, l.operands, l.operand as usize)
         }
-        Err(LookupError::Undefined) => refuse(Ok(s), Reason::Undefined, at),
-        Err(LookupError::Full) => refuse(Ok(s), Reason::Captures, at),
+        Err(error) => refuse(Ok(s), Reason::from(error), at),
     }
 }
 
@@ -103,14 +102,9 @@ fn placed(s: State, place: usize, answer: Result<Slot, DefineError>) -> Defining
             op: opcodes::SET_LOCAL,
             operand: k as usize,
         },
-        Err(DefineError::GlobalsFull) => Defining {
-            walked: refuse(Ok(s), Reason::Globals, place),
+        Err(error) => Defining {
+            walked: refuse(Ok(s), Reason::from(error), place),
             op: opcodes::SET_GLOBAL,
-            operand: 0,
-        },
-        Err(DefineError::LocalsFull) => Defining {
-            walked: refuse(Ok(s), Reason::Locals, place),
-            op: opcodes::SET_LOCAL,
             operand: 0,
         },
     }

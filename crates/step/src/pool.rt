@@ -84,12 +84,8 @@ fn put_counts(out: &mut [u8], at: usize, locals: usize, params: usize)
     requires { at + 3 ≤ length out.old }
     ensures { out.new ≡ sets out.old at (locals / 256 % 256 ∷ locals % 256 ∷ params % 256 ∷ []) }
 {
-    let high = (locals / 256 % 256) as u8;
-    let low = (locals % 256) as u8;
-    let count = (params % 256) as u8;
-    out[at] = high;
-    out[at + 1] = low;
-    out[at + 2] = count;
+    let [high, low] = ((locals % 65536) as u16).to_be_bytes();
+    out[at..at + 3].copy_from_slice(&[high, low, (params % 256) as u8]);
 }
 
 // Writes a function's constant: its head, its locals and parameters, its code.

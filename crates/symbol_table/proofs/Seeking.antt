@@ -13,7 +13,9 @@ use Rattle.definition.specs.Limit.{globals_limit}
 use Rattle.definition.specs.SymbolTable.{Symbol, same}
 use Rattle.field.specs.Layout.{content}
 use Rattle.symbol_table.specs.Name.{buckets, hash_of}
-use Rattle.symbol_table.specs.Search.{nodes_at, side_of, child_of, latest_of, with_child, with_latest, Node, name_of, next_of, Way, ends, hits, goes, Goes, hangs, follows, further}
+use Rattle.symbol_table.specs.Search.{side_number, nodes_at, side_of, child_of, latest_of, with_child, with_latest, Node, name_of, next_of, Way, ends, hits, goes, Goes, hangs, follows, further}
+use Rattle.symbol_table.specs.declared.globals.Side.{Side}
+use Rattle.symbol_table.specs.declared.globals.Side.TheVariants.{Session, Tree}
 use Rattle.symbol_table.specs.Layout.{globals_size, heads_at, global_name, first_found, GlobalStands, Finds, found_on, GoodGlobals}
 use Rattle.symbol_table.specs.Contract.{as_symbol}
 use Rattle.symbol_table.proofs.Growing.{way_none}
@@ -44,6 +46,11 @@ module _ {bytes : Bytes} {side : ℕ} {g : List ℕ} {n : Bytes} {d k : ℕ} {r 
 falls : (j k : ℕ) → 0 < k → k ≤ 1024 → (0 < j → k < j) → (2048 - j) % 2048 < (2048 - k) % 2048
 falls zero k a b h = omega arith
 falls (suc j) k a b h = omega (arith, h (omega arith))
+
+-- there are two sides
+pub two_sides : (s : Side) → side_number s < 2
+two_sides Session = omega arith
+two_sides Tree = omega arith
 
 -- the bytes that have the names of a side
 abbrev pub bytes_on : Bytes → Bytes → ℕ → Bytes

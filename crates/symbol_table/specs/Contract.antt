@@ -4,6 +4,7 @@ use Rattle.std.proofs.Math.Option as maybe
 use Rattle.std.proofs.Math.Option.{none, some}
 use Rattle.definition.specs.Basic.{Bytes, byte_at}
 use Rattle.definition.specs.Number
+use Rattle.definition.specs.declared.reason.Reason.{Reason}
 use Rattle.definition.specs.Opcode.{instr, op_set_global, op_set_local}
 use Rattle.definition.specs.SymbolTable.{Symbol, Table, find, find_global, find_builtin, Resolved, cross, resolve, crossed, Defined, place, named, with_params}
 use Rattle.definition.specs.Session.{Words}
@@ -46,6 +47,11 @@ resolved_of (Ok f) ts = Resolved.found (symbol_of f.code) ts
 resolved_of (Err Undefined) ts = Resolved.undefined
 resolved_of (Err Full) ts = Resolved.full
 
+-- the reason that a refused lookup tells
+abbrev pub lookup_reason : LookupError → Reason
+lookup_reason Undefined = Number.undefined
+lookup_reason Full = Number.captures
+
 -- the functions crossed by a lookup that found its name
 abbrev pub Crossed : ℕ → Lookup → Type 0
 Crossed n (Ok f) = f.crossed ≡ n
@@ -72,12 +78,16 @@ first_of none none = Resolved.undefined
 abbrev pub outermost_of : List Bytes → List Bytes → Bytes → Resolved
 outermost_of bs gs n = first_of (as_symbol Symbol.global (find_global n gs)) (as_symbol Symbol.builtin (find_builtin n bs 0))
 
+-- the reason that a refused definition tells
+abbrev pub define_reason : DefineError → Reason
+define_reason GlobalsFull = Number.globals
+define_reason LocalsFull = Number.locals
+
 -- a definition's answer, with the names and the tables after it
 abbrev pub defined_of : Definition → List Bytes → List Table → Defined
 defined_of (Ok (Global k)) gs ts = Defined.defined (instr op_set_global k 0) gs ts
 defined_of (Ok (Local k)) gs ts = Defined.defined (instr op_set_local k 0) gs ts
-defined_of (Err GlobalsFull) gs ts = Defined.no_room Number.globals
-defined_of (Err LocalsFull) gs ts = Defined.no_room Number.locals
+defined_of (Err e) gs ts = Defined.no_room (define_reason e)
 
 -- a name of the tree, and its hash
 pub record IsName (tree : Bytes) (name hash : ℕ) : Type 0 where

@@ -6,6 +6,13 @@ use Rattle.definition.specs.Basic.{Bytes, pick}
 use Rattle.definition.specs.SymbolTable.{same}
 use Rattle.field.specs.Layout.{content}
 use Rattle.symbol_table.specs.Name.{Stands, hash_of}
+use Rattle.symbol_table.specs.declared.globals.Side.{Side}
+use Rattle.symbol_table.specs.declared.globals.Side.TheVariants.{Session, Tree}
+
+-- the session's globals are on side 0, the tree's on side 1
+abbrev pub side_number : Side → ℕ
+side_number Session = 0
+side_number Tree = 1
 
 -- where the nodes are
 abbrev pub nodes_at : ℕ

@@ -6,7 +6,7 @@ ghost use Rattle.definition.specs.Basic.{Bytes};
 ghost use Rattle.definition.specs.Limit.{session_size, globals_limit};
 ghost use Rattle.definition.specs.SymbolTable.{Symbol, same, find_global};
 ghost use Rattle.symbol_table.specs.Name.{buckets, hash_of};
-ghost use Rattle.symbol_table.specs.Search.{side_of, child_of, with_child, Way, Goes};
+ghost use Rattle.symbol_table.specs.Search.{side_number, side_of, child_of, with_child, Way, Goes};
 ghost use Rattle.symbol_table.specs.Layout.{globals_size, heads_at, global_name, globals_of, GlobalStands, Finds, found_on, GoodGlobals};
 ghost use Rattle.symbol_table.specs.Store.{global_in};
 ghost use Rattle.symbol_table.specs.Contract.{hit_of, as_symbol, Addable, Adds, DefinesGlobal, HasItems, StartsGlobals};
@@ -20,6 +20,38 @@ use super::{DefineError, Slot};
 use field::content_at;
 use field::fields::Fields;
 use field::names::same_name;
+
+// Whose a global is, and so the side of its bucket's heads: the session's or the tree's.
+#[derive(Clone, Copy)]
+enum Side {
+    Session = 0,
+    Tree = 1,
+}
+
+impl Side {
+    // The side's number.
+    fn number(self) -> usize
+        ensures is { result ≡ side_number self }
+        ensures small { result < 2 }
+    {
+        self as usize
+    }
+
+    // The first of its globals, of a bucket's heads.
+    fn head(self, heads: u32) -> u32
+        ensures { result ≡ child_of heads (side_number self) }
+    {
+        child(heads, self.number())
+    }
+
+    // The number of a global of its own, whose name is at an offset.
+    fn global(self, name: usize) -> u32
+        requires { name < 65536 }
+        ensures { result ≡ 65536 * side_number self + name }
+    {
+        (IN_TREE * self.number() + name) as u32
+    }
+}
 
 // Where a global more goes: an index of the area, and the number that is to stand there.
 #[derive(Clone, Copy)]
@@ -77,15 +109,14 @@ fn same_global(tree: &[u8], names: &[u8], v: u32, name: &[u8]) -> bool
     same_name(name, content_at(tree, at - IN_TREE))
 }
 
-// The latest global of a name among the session's, on side 0, or the tree's.
+// The latest global of a name among the session's or the tree's.
 // Kept: a way down a tree, whose node decides where it goes on: an iterator of the nodes would stand for this loop alone.
 #[inline(always)]
-fn find_side(key: &Key, names: &[u8], side: usize, globals: &[u32]) -> Option<u32>
+fn find_side(key: &Key, names: &[u8], side: Side, globals: &[u32]) -> Option<u32>
     requires good_globals { GoodGlobals key.now.tree.now names.now globals.now }
-    requires side_bound { side < 2 }
-    ensures { (x : Finds key.now.tree.now names.now globals.now key.now.name.now) → hit_of result ≡ as_symbol Symbol.global (found_on x side) }
+    ensures { (x : Finds key.now.tree.now names.now globals.now key.now.name.now) → hit_of result ≡ as_symbol Symbol.global (found_on x (side_number side)) }
 {
-    let mut k = child(globals[HEADS_AT + key.hash % BUCKETS], side);
+    let mut k = side.head(globals[HEADS_AT + key.hash % BUCKETS]);
     let mut depth = 0;
     while k > 0 {
         let i = k as usize;
@@ -105,24 +136,24 @@ pub fn find_global(key: &Key, names: &[u8], globals: &[u32]) -> Option<u32>
     requires { GoodGlobals key.now.tree.now names.now globals.now }
     ensures { hit_of result ≡ as_symbol Symbol.global (find_global key.now.name.now (globals_of key.now.tree.now names.now globals.now)) }
 {
-    if let Some(code) = find_side(key, names, 1, globals) {
+    if let Some(code) = find_side(key, names, Side::Tree, globals) {
         return Some(code);
     }
-    find_side(key, names, 0, globals)
+    find_side(key, names, Side::Session, globals)
 }
 
 // Where a global more of a name goes: it becomes the latest of its name, or hangs where the search for its name ends.
 // Kept: a way down a tree, as in `find_side`, which also keeps the side on which it left the last node.
-fn find_place(bytes: &[u8], side: usize, globals: &[u32], name: &[u8], hash: usize) -> Place
+fn find_place(bytes: &[u8], side: Side, globals: &[u32], name: &[u8], hash: usize) -> Place
     requires globals_len { length globals.now ≡ globals_size }
     requires globals_bound { get_or globals.now 0 0 < globals_limit }
     requires hash_value { hash ≡ hash_of name.now }
-    requires by_index { (r : Option ℕ) × Way bytes.now side globals.now name.now 0 (child_of (get_or globals.now (heads_at + hash % buckets) 0) side) r }
-    ensures { Goes bytes.now side globals.now name.now 0 (heads_at + hash % buckets) side result.at result.number }
+    requires by_index { (r : Option ℕ) × Way bytes.now (side_number side) globals.now name.now 0 (child_of (get_or globals.now (heads_at + hash % buckets) 0) (side_number side)) r }
+    ensures { Goes bytes.now (side_number side) globals.now name.now 0 (heads_at + hash % buckets) (side_number side) result.at result.number }
 {
     let new = globals[0];
     let mut at = HEADS_AT + hash % BUCKETS;
-    let mut on = side;
+    let mut on = side.number();
     let mut k = child(globals[at], on);
     let mut depth = 0;
     while k > 0 {
@@ -161,41 +192,34 @@ fn push_global(globals: &mut [u32], v: u32, at: usize, number: u32)
 
 // A global more, the first of its side in its bucket.
 #[inline(always)]
-fn add_first(globals: &mut [u32], side: usize, v: u32, hash: usize)
+fn add_first(globals: &mut [u32], side: Side, v: u32, hash: usize)
     requires globals_len { length globals.old ≡ globals_size }
     requires globals_bound { get_or globals.old 0 0 < globals_limit }
-    requires side_value { child_of (get_or globals.old (heads_at + hash % buckets) 0) side ≡ 0 }
-    ensures { globals.new ≡ global_in globals.old v (heads_at + hash % buckets) (with_child (get_or globals.old (heads_at + hash % buckets) 0) side (get_or globals.old 0 0 + 1)) }
+    requires side_value { child_of (get_or globals.old (heads_at + hash % buckets) 0) (side_number side) ≡ 0 }
+    ensures { globals.new ≡ global_in globals.old v (heads_at + hash % buckets) (with_child (get_or globals.old (heads_at + hash % buckets) 0) (side_number side) (get_or globals.old 0 0 + 1)) }
 {
     let at = HEADS_AT + hash % BUCKETS;
-    let number = with_child(globals[at], side, globals[0] + 1);
+    let number = with_child(globals[at], side.number(), globals[0] + 1);
     push_global(globals, v, at, number);
 }
 
 // A global more, where the search for its name ends.
-fn add_below(bytes: &[u8], side: usize, globals: &mut [u32], name: usize, hash: usize)
-    requires addable { Addable bytes.now side globals.old name hash }
-    requires side_bound { side < 2 }
-    ensures { Adds bytes.now side name globals.old globals.new }
+fn add_below(bytes: &[u8], side: Side, globals: &mut [u32], name: usize, hash: usize)
+    requires addable { Addable bytes.now (side_number side) globals.old name hash }
+    ensures { Adds bytes.now (side_number side) name globals.old globals.new }
 {
     let place = find_place(bytes, side, globals, content_at(bytes, name), hash);
-    push_global(
-        globals,
-        (IN_TREE * side + name) as u32,
-        place.at,
-        place.number,
-    );
+    push_global(globals, side.global(name), place.at, place.number);
 }
 
-// A global more, of the session's on side 0 or of the tree's on side 1: its name is at an offset.
+// A global more, of the session's or of the tree's: its name is at an offset.
 #[inline(always)]
-fn add_global(bytes: &[u8], side: usize, globals: &mut [u32], name: usize, hash: usize)
-    requires addable { Addable bytes.now side globals.old name hash }
-    requires side_bound { side < 2 }
-    ensures { Adds bytes.now side name globals.old globals.new }
+fn add_global(bytes: &[u8], side: Side, globals: &mut [u32], name: usize, hash: usize)
+    requires addable { Addable bytes.now (side_number side) globals.old name hash }
+    ensures { Adds bytes.now (side_number side) name globals.old globals.new }
 {
-    if child(globals[HEADS_AT + hash % BUCKETS], side) == 0 {
-        add_first(globals, side, (IN_TREE * side + name) as u32, hash);
+    if side.head(globals[HEADS_AT + hash % BUCKETS]) == 0 {
+        add_first(globals, side, side.global(name), hash);
         return;
     }
     add_below(bytes, side, globals, name, hash);
@@ -210,7 +234,7 @@ pub fn place_global(key: &Key, globals: &mut [u32]) -> Result<Slot, DefineError>
     if GLOBALS <= k {
         return Err(DefineError::GlobalsFull);
     }
-    add_global(key.tree, 1, globals, key.at, key.hash);
+    add_global(key.tree, Side::Tree, globals, key.at, key.hash);
     Ok(Slot::Global(k))
 }
 
@@ -236,6 +260,6 @@ pub fn start_in(session: &[u8], globals: &mut [u32], from: usize, end: usize)
     globals[0] = 0;
     for at in Fields::new(session, from, end) {
         let hash = hash_at(session, at);
-        add_global(&session[..end], 0, globals, at, hash);
+        add_global(&session[..end], Side::Session, globals, at, hash);
     }
 }

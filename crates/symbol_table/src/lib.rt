@@ -20,8 +20,9 @@ ghost use Rattle.definition.specs.Decode.{words_in};
 ghost use Rattle.field.specs.Layout.{after};
 ghost use Rattle.symbol_table.specs.Name.{Stands, Row};
 ghost use Rattle.symbol_table.specs.Layout.{globals_size, part_size, base, part, symbol_of, Sized, Good};
-ghost use Rattle.symbol_table.specs.Contract.{Inside, Resolves, DefinesLocal, Defines, Enters, HasWords, HasNames, HasItems, StartsFrom, Starts};
+ghost use Rattle.symbol_table.specs.Contract.{lookup_reason, define_reason, Inside, Resolves, DefinesLocal, Defines, Enters, HasWords, HasNames, HasItems, StartsFrom, Starts};
 
+use definition::Reason;
 use enclosed::{open_in, place_in};
 use globals::{place_global, start_in};
 use layout::{BUILTIN, FREE, GLOBAL, GLOBALS_SIZE, LOCAL, PART_SIZE};
@@ -43,6 +44,18 @@ pub enum LookupError {
     Full,
 }
 
+// The reason that a caller is told.
+impl From<LookupError> for Reason {
+    ghost from_gives = { λ error reason. reason ≡ lookup_reason error };
+
+    fn from(error: LookupError) -> Reason {
+        match error {
+            LookupError::Undefined => Reason::Undefined,
+            LookupError::Full => Reason::Captures,
+        }
+    }
+}
+
 // Where a definition stands: its index among the globals, or among the definitions of a function.
 #[derive(Clone, Copy, PartialEq, Eq, Debug)]
 pub enum Slot {
@@ -55,6 +68,18 @@ pub enum Slot {
 pub enum DefineError {
     GlobalsFull,
     LocalsFull,
+}
+
+// The reason that a caller is told.
+impl From<DefineError> for Reason {
+    ghost from_gives = { λ error reason. reason ≡ define_reason error };
+
+    fn from(error: DefineError) -> Reason {
+        match error {
+            DefineError::GlobalsFull => Reason::Globals,
+            DefineError::LocalsFull => Reason::Locals,
+        }
+    }
 }
 
 // An instruction with at most one operand, and the number of its operand bytes.

@@ -1,10 +1,10 @@
 -- The contents of tokens, and the fields made of them.
-use Prim.Native.Nat.{ℕ, ◌+◌, ◌-◌, ◌≤◌, ◌<◌}
+use Prim.Native.Nat.{ℕ, ◌+◌, ◌-◌, ◌≤◌}
 use native.Mathlib.Omega.{arith}
 use mathlib.Core.List.{[], ◌∷◌}
 use mathlib.Core.Path.{◌≡◌, refl, sym, ap, ◌∙◌}
-use lib.ListN.{length, take, drop, length-drop}
-use lib.Seq.{sets, length-take-le}
+use lib.ListN.{length}
+use lib.Seq.{sets}
 use borrow.Author.Tests.{ne_eqb, le-leb}
 use Rattle.definition.specs.Basic.{Bytes, byte_at}
 use Rattle.definition.specs.Field.{field, bytes}
@@ -13,9 +13,8 @@ use Rattle.text.specs.Kind.{an_integer, a_string, true_word, false_word, number_
 use Rattle.text.specs.Scan.{value, eight, integer_limit}
 use Rattle.text.specs.Seen.{within_limit}
 use Rattle.std.specs.Prelude.{Some}
-use Rattle.text.specs.Parts.{end_of, head_of, content_of, Sees}
+use Rattle.text.specs.Parts.{head_of, content_of, Sees}
 use Rattle.text.specs.declared.scan.Token as piece
-use Rattle.text.proofs.RowAt.{end_early, end_within}
 
 module _ (text : Bytes) (t : piece.Token) where
   pub content_integer : number_of t.kind ≡ an_integer → value 0 (bytes (byte_at text) t.start (t.end - t.start)) ≤ integer_limit → (v : ℕ) → Some v ≡ within_limit (value 0 (bytes (byte_at text) t.start (t.end - t.start))) → content_of text t ≡ eight v
@@ -41,10 +40,6 @@ module _ (text : Bytes) (t : piece.Token) where
   -- put
   pub put_done : (to : ℕ) (old : Bytes) {content : Bytes} {r : ℕ} {out : Bytes} → content_of text t ≡ content → r ≡ to + length content → out ≡ sets old to content → length content ≤ 8 + (t.end - t.start) → record { behind : r ≡ to + length (content_of text t); stored : out ≡ sets old to (content_of text t); most : length (content_of text t) ≤ 8 + (t.end - t.start) }
   put_done to old {content} {r} {out} e a b c = record { behind = a ∙ ap (λ x. to + length x) (sym e); stored = b ∙ ap (sets old to) (sym e); most = omega (arith, ap length e) }
-
--- a part of a text's tokens is short
-pub part_small : (text : Bytes) (from n : ℕ) → from + n ≤ end_of text → length (take n (drop from text)) < 1048576
-part_small text from n h = omega (arith, end_early text, end_within text, length-take-le n (drop from text) (omega (arith, length-drop from text, end_within text)))
 
 -- a head in front of a content
 pub field_stored : (tag : ℕ) (content : Bytes) (to : ℕ) (old : Bytes) {end : ℕ} {mid out : Bytes} → mid ≡ sets old (to + 3) content → end ≡ to + 3 + length content → out ≡ sets mid to (head_of tag (end - to - 3)) → out ≡ sets old to (field tag content)

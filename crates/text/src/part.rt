@@ -12,7 +12,7 @@ ghost use Rattle.text.specs.declared.kind.Kind.TheVariants as kinds;
 ghost use Rattle.text.specs.Parts.{end_of, head_of, Sees, Holds, content_of, PutToken, Ready, Writes, WritesNode, Skips, Passes, Named, joined_of, moved_on, closed_of};
 
 use crate::kind::Kind;
-use crate::put::{make_room, put, put_head};
+use crate::put::{make_room, put, put_bytes, put_head};
 use crate::scan::{Token, next_token, text_end, value};
 use crate::tokens::Tokens;
 use definition::tag;
@@ -172,11 +172,11 @@ fn put_content(text: &[u8], output: &mut [u8], token: Token, to: usize) -> usize
 {
     let Token { kind, start, end } = token;
     match kind {
-        Kind::Integer => put(output, to, &value(text, start, end).unwrap().to_be_bytes()),
-        Kind::String => put(output, to, &text[start + 1..end - 1]),
-        Kind::True => put(output, to, &[1]),
-        Kind::False => put(output, to, &[0]),
-        _ => put(output, to, &text[start..end]),
+        Kind::Integer => put_bytes(output, to, &value(text, start, end).unwrap().to_be_bytes()),
+        Kind::String => put_bytes(output, to, &text[start + 1..end - 1]),
+        Kind::True => put_bytes(output, to, &[1]),
+        Kind::False => put_bytes(output, to, &[0]),
+        _ => put_bytes(output, to, &text[start..end]),
     }
 }
 
@@ -220,8 +220,8 @@ pub fn put_operator(output: &mut [u8], at: usize, to: usize, b: u8) -> Part
     ensures part { result ≡ record { at = at; to = to + 4; levels = 1; tag = tag_operator } }
     ensures stored { output.new ≡ sets output.old to (field tag_operator (b ∷ [])) }
 {
-    let end = put(output, to + 3, &[b]);
-    close(output, to, tag::OPERATOR as u8, Part::empty(at, end))
+    put(output, to + 3, b);
+    close(output, to, tag::OPERATOR as u8, Part::empty(at, to + 4))
 }
 
 // Names, and the token behind them.

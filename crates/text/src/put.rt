@@ -1,18 +1,25 @@
 // Bytes of a tree put into an output: stored where there is room, so that an output of no bytes measures.
-ghost use Rattle.std.specs.Prelude.{◌≡◌, ◌+◌, ◌-◌, ◌≤◌, ◌<◌, length};
+ghost use Rattle.std.specs.Prelude.{◌≡◌, ◌+◌, ◌-◌, ◌≤◌, ◌<◌, length, set};
 ghost use Rattle.std.proofs.lemmas.List.Edits.{sets};
 ghost use Rattle.text.specs.Parts.{head_of, moved_by};
 
 use definition::output::store;
 
+// Puts a byte.
+pub fn put(output: &mut [u8], to: usize, b: u8)
+    ensures { output.new ≡ set output.old to b }
+{
+    store(output, to, b);
+}
+
 // Puts bytes; the offset behind them.
-pub fn put(output: &mut [u8], to: usize, bytes: &[u8]) -> usize
-    requires { (length bytes.now < 1048576) × (to < 1048576) }
+pub fn put_bytes(output: &mut [u8], to: usize, bytes: &[u8]) -> usize
+    requires { to < 1048576 }
     ensures behind { result ≡ to + length bytes.now }
     ensures puts { output.new ≡ sets output.old to bytes.now }
 {
     for (k, b) in bytes.iter().enumerate() {
-        store(output, to + k, *b);
+        put(output, to + k, *b);
     }
     to + bytes.len()
 }
@@ -22,12 +29,8 @@ pub fn put_head(output: &mut [u8], to: usize, tag: u8, end: usize)
     requires { (to + 3 ≤ end) × (end < 1048576) }
     ensures { output.new ≡ sets output.old to (head_of tag (end - to - 3)) }
 {
-    let size = end - to - 3;
-    put(
-        output,
-        to,
-        &[tag, (size / 256 % 256) as u8, (size % 256) as u8],
-    );
+    let [high, low] = (((end - to - 3) % 65536) as u16).to_be_bytes();
+    put_bytes(output, to, &[tag, high, low]);
 }
 
 // Moves the bytes from an offset up to another further back.

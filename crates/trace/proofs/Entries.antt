@@ -1,10 +1,10 @@
 -- A record more in the log.
 use Prim.Native.Nat.{ℕ, zero, suc, ◌+◌, ◌*◌, ◌/◌, ◌%◌, ◌≤◌, ◌<◌}
 use native.Mathlib.Omega.{arith}
-use mathlib.Core.List.{◌∷◌}
+use mathlib.Core.List.{[], ◌∷◌}
 use mathlib.Core.Path.{◌≡◌, refl, ◌∙◌}
 use lib.ListN.{length, set, length-set}
-use lib.Seq.{get_or-set_same, get_or-set_other}
+use lib.Seq.{sets, get_or-set_same, get_or-set_other}
 use Rattle.definition.specs.Basic.{Bytes, byte_at}
 use Rattle.definition.specs.Limit.{tree_limit}
 use Rattle.symbol_table.specs.Layout.{symbol_of}
@@ -50,6 +50,14 @@ module _ (l : Bytes) (at a b c d : ℕ) (room : at + 4 ≤ length l) where
 
   pub four_3 : byte_at (four l at a b c d) (at + 3) ≡ d
   four_3 = get_or-set_same (set (set (set l at a) (at + 1) b) (at + 2) c) (at + 3) d 0 (omega (arith, length-set (set (set l at a) (at + 1) b) (at + 2) c, length-set (set l at a) (at + 1) b, length-set l at a))
+
+-- they are bytes stored in a row
+pub four_stored : (l : Bytes) (i a b c d : ℕ) → sets l i (a ∷ b ∷ c ∷ d ∷ []) ≡ four l i a b c d
+four_stored l i a b c d =
+    let one : suc i ≡ i + 1 = omega arith in
+    let two : suc (suc i) ≡ i + 2 = omega arith in
+    let three : suc (suc (suc i)) ≡ i + 3 = omega arith in
+    λ j. set (set (set (set l i a) (one j) b) (two j) c) (three j) d
 
 -- a record more, written so
 pub entry-logged : (l : Bytes) (n at code crossed : ℕ) → 4 * n + 4 ≤ length l → at < tree_limit → code < 2048 → crossed < 32

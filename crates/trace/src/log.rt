@@ -18,10 +18,8 @@ pub fn put_entry(log: &mut [u8], n: usize, at: usize, code: usize, crossed: usiz
     ensures { log_of log.new (n + 1) ≡ record_of at crossed (symbol_of code) ∷ log_of log.old n }
 {
     let i = 4 * n;
-    log[i] = (at / 256) as u8;
-    log[i + 1] = (at % 256) as u8;
-    log[i + 2] = (crossed * 8 + code / 256) as u8;
-    log[i + 3] = (code % 256) as u8;
+    let entry = (at * 65536 + crossed * 2048 + code) as u32;
+    log[i..i + 4].copy_from_slice(&entry.to_be_bytes());
 }
 
 // The record of a symbol's code.

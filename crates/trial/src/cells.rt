@@ -5,6 +5,7 @@ ghost use Rattle.trial.specs.Cells.{Keeps};
 ghost use Rattle.trial.specs.Machine.{InfixAt};
 
 use opcode::opcodes;
+use std::fmt;
 
 // A value.
 #[derive(Clone, Copy, PartialEq, Eq)]
@@ -14,14 +15,33 @@ pub enum Value {
     Null,
 }
 
-// The value that a kind and a word of the work area keep; none where none is set.
+impl fmt::Display for Value {
+    fn fmt<W: fmt::Write>(&self, f: &mut fmt::Formatter<W>) -> fmt::Result {
+        match self {
+            Value::Integer(n) => write!(f, "integer {n}"),
+            Value::Boolean(b) => write!(f, "boolean {b}"),
+            Value::Null => f.write_str("null"),
+        }
+    }
+}
+
+// The kind of an integer; a number that is no kind stands where no value is set.
+const INTEGER: u64 = 1;
+
+// The kind of a boolean.
+const BOOLEAN: u64 = 2;
+
+// The kind of null.
+const NULL: u64 = 3;
+
+// The value that a kind and a word of the work area keep, or a cell of the output; none where none is set.
 pub fn value_in(kind: u64, word: u64) -> Option<Value>
     ensures { (v : Option Value) → Keeps kind word v → result ≡ v }
 {
     match kind {
-        1 => Some(Value::Integer(word.cast_signed())),
-        2 => Some(Value::Boolean(word == 1)),
-        3 => Some(Value::Null),
+        INTEGER => Some(Value::Integer(word.cast_signed())),
+        BOOLEAN => Some(Value::Boolean(word == 1)),
+        NULL => Some(Value::Null),
         _ => None,
     }
 }
@@ -31,9 +51,9 @@ pub fn parts(x: Value) -> (u64, u64)
     ensures { Keeps result.0 result.1 (Some x) }
 {
     match x {
-        Value::Integer(n) => (1, n.cast_unsigned()),
-        Value::Boolean(b) => (2, u64::from(b)),
-        Value::Null => (3, 0),
+        Value::Integer(n) => (INTEGER, n.cast_unsigned()),
+        Value::Boolean(b) => (BOOLEAN, u64::from(b)),
+        Value::Null => (NULL, 0),
     }
 }
 

@@ -16,6 +16,7 @@ ghost use Rattle.trial.specs.Cells.{work_size};
 ghost use Rattle.trial.specs.Call.{taken_outcome, refused_with, image_outcome, run_outcome, outcome_answer, outcome_into, work_after, ChunkToRun};
 
 use bytecode::check_image;
+pub use cells::{Value, value_in};
 use definition::{Reason, Refusal};
 use field::length_at;
 use heights::image::judge;

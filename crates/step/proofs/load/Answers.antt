@@ -1,11 +1,7 @@
 -- `step::load` meets its contract: a lookup among the session's names and the tables, and the load of what it finds.
-use mathlib.Core.Path.{refl, ap, ◌∙◌}
-use Rattle.definition.specs.Number
 use Rattle.scope.proofs.Leaves.{ready_on}
 use Rattle.step.proofs.Memory.{stays}
 use Rattle.step.proofs.Symbols.{fine_base, fine_words, fine_good, names-length, load_found, load-refused}
-use Rattle.std.specs.Prelude.{Err}
-use Rattle.symbol_table.specs.declared.LookupError.TheVariants.{Undefined, Full}
 use Rattle.step.proofs.load.Goals as goal
 
 pub slice_bounds-resolve_name-end : goal.slice_bounds-resolve_name-end
@@ -29,11 +25,8 @@ emit_operand-requires c = record {
 pub returns-in-Ok : goal.returns-in-Ok
 returns-in-Ok c = load_found _ c.in_ok-s.was c.resolve_name.auto.table c.requires.fine c.resolve_name.ensures c.in-Ok.is c.load_of-l.ensures.is c.emit_operand.ensures
 
-pub returns-in-Err-Undefined : goal.returns-in-Err-Undefined
-returns-in-Err-Undefined c = load-refused _ c.in_ok-s.was Number.undefined (Err Undefined) (λ v ts. refl) c.requires.ready c.resolve_name.ensures (c.in-Err-Undefined.is ∙ ap Err c.in-Err-Undefined.field-0-is) c.refuse.ensures
-
-pub returns-in-Err-Full : goal.returns-in-Err-Full
-returns-in-Err-Full c = load-refused _ c.in_ok-s.was Number.captures (Err Full) (λ v ts. refl) c.requires.ready c.resolve_name.ensures (c.in-Err-Full.is ∙ ap Err c.in-Err-Full.field-0-is) c.refuse-in-Err-Full.ensures
+pub returns-in-Err : goal.returns-in-Err
+returns-in-Err c = load-refused _ c.in_ok-s.was c.from.ensures c.requires.ready c.resolve_name.ensures c.in-Err.is c.refuse.ensures
 
 pub returns-in_err-s : goal.returns-in_err-s
 returns-in_err-s c = stays c.in_err-s.was c.from_residual.ensures.1 c.requires.ready

@@ -1,7 +1,6 @@
 -- `step::placed` meets its contract: an arm for each answer.
-use Rattle.std.specs.Prelude.{Ok, Err}
+use Rattle.std.specs.Prelude.{Ok}
 use Rattle.symbol_table.specs.declared.Slot.TheVariants.{Global, Local}
-use Rattle.symbol_table.specs.declared.DefineError.TheVariants.{GlobalsFull, LocalsFull}
 use mathlib.Core.Path.{◌≡◌, refl, ap, ◌∙◌}
 use Rattle.step.proofs.Symbols.{placed_is, placed-refused}
 use Rattle.step.proofs.placed.Goals as goal
@@ -16,12 +15,5 @@ returns-in-Ok-Local c =
     let slot : c.in-Ok-Local.field-0 ≡ Local c.in-Ok-Local.k = rw c.in-Ok-Local.is at c.in-Ok-Local.field-0-is in
     placed_is _ _ _ (c.in-Ok-Local.is ∙ ap Ok slot) refl
 
-pub returns-in-Err-GlobalsFull : goal.returns-in-Err-GlobalsFull
-returns-in-Err-GlobalsFull c =
-    let full : c.in-Err-GlobalsFull.field-0 ≡ GlobalsFull = rw c.in-Err-GlobalsFull.is at c.in-Err-GlobalsFull.field-0-is in
-    placed-refused _ _ c.args.answer c.refuse.ensures (placed_is _ _ _ (c.in-Err-GlobalsFull.is ∙ ap Err full) refl)
-
-pub returns-in-Err-LocalsFull : goal.returns-in-Err-LocalsFull
-returns-in-Err-LocalsFull c =
-    let full : c.in-Err-LocalsFull.field-0 ≡ LocalsFull = rw c.in-Err-LocalsFull.is at c.in-Err-LocalsFull.field-0-is in
-    placed-refused _ _ c.args.answer c.refuse-in-Err-LocalsFull.ensures (placed_is _ _ _ (c.in-Err-LocalsFull.is ∙ ap Err full) refl)
+pub returns-in-Err : goal.returns-in-Err
+returns-in-Err c = placed-refused _ _ _ c.in-Err.is c.from.ensures c.refuse.ensures

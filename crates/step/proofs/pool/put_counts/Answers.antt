@@ -1,15 +1,16 @@
--- `step::pool::put_counts` meets its contract: three stores in a row.
-use Prim.Native.Nat.{◌/◌, ◌%◌}
+-- `step::pool::put_counts` meets its contract: three bytes are stored.
+use Prim.Native.Nat.{◌+◌, ◌-◌, ◌/◌, ◌%◌}
 use native.Mathlib.Omega.{arith}
-use lib.ListN.{length-set}
-use Rattle.step.proofs.FunctionConstants.{counts-stored}
+use mathlib.Core.List.{[], ◌∷◌}
+use mathlib.Core.Path.{◌≡◌, ap, ◌∙◌}
+use lib.ListN.{get_or}
+use Rattle.session.proofs.Parts.{part_copied}
 use Rattle.step.proofs.pool.put_counts.Goals as goal
 
-pub bounds-out-at-2 : goal.bounds-out-at-2
-bounds-out-at-2 c = simp length-set (omega arith)
-
-pub bounds-out-at-3 : goal.bounds-out-at-3
-bounds-out-at-3 c = simp length-set (omega arith)
-
 pub returns : goal.returns
-returns c = counts-stored c.args.out.now c.args.at (c.args.locals / 256 % 256) (c.args.locals % 256) (c.args.params % 256)
+returns c =
+    let a = c.args in
+    let high : a.locals % 65536 / 256 % 256 ≡ a.locals / 256 % 256 = omega arith in
+    let low : a.locals % 65536 % 256 ≡ a.locals % 256 = omega arith in
+    part_copied a.out.now a.at (a.at + 3 - a.at) (omega arith) (a.locals / 256 % 256 ∷ a.locals % 256 ∷ a.params % 256 ∷ []) (omega arith)
+    (c.copy_from_slice.ensures.after ∙ ap (λ b. get_or b 0 0 ∷ get_or b 1 0 ∷ a.params % 256 ∷ []) c.to_be_bytes.ensures ∙ (λ i. high i ∷ low i ∷ a.params % 256 ∷ []))

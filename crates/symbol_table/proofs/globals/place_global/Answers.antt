@@ -1,5 +1,4 @@
 -- `symbol_table::globals::place_global` meets its contract.
-use native.Mathlib.Omega.{arith}
 use Rattle.symbol_table.proofs.Keys.{is_name}
 use Rattle.symbol_table.proofs.Adding.{addable_new}
 use Rattle.symbol_table.proofs.Defining.{globals_full, global_defined}
@@ -11,7 +10,6 @@ returns-then-k-ge-GLOBALS c = globals_full _ _ _ c.if-k-ge-GLOBALS.true
 pub add_global-requires : goal.add_global-requires
 add_global-requires c = record {
   addable = addable_new c.requires.1 c.if-k-ge-GLOBALS.false (is_name c.args.key.now) c.args.key.now.within;
-  side_bound = omega arith;
 }
 
 pub returns : goal.returns

@@ -34,7 +34,6 @@ add_global-requires c =
     let x = subst (λ at. Begun a.session.now a.from a.end l.globals at) (sym n.here) l.invariant.begun in
     record {
       addable = begun_addable _ _ _ _ _ x _ c.requires.session_len_bound (begun_here _ _ _ _ _ x c.requires.has_items (is_before l.invariant.over n)) c.hash_at-hash.ensures.is;
-      side_bound = omega arith;
     }
 
 pub loop-at-preserved : goal.loop-at-preserved
