@@ -64,6 +64,17 @@ def elsewhere(now, crate, name, statement):
     return "?"
 
 
+def types(root):
+    """Each public struct, enum and type of the sources, by crate and name, with its fields or variants."""
+    out = {}
+    for path in sorted((root / "crates").glob("*/src/**/*.rt")):
+        crate = path.relative_to(root / "crates").parts[0]
+        for m in re.finditer(r"^pub (struct|enum|type) (\w+)(<[^>]*>)?( =[^;]*;|;| \{\n(?:.*\n)*?\})", path.read_text(), re.M):
+            body = re.sub(r"//.*", "", m.group(4)).strip().strip(";").replace("pub ", "")
+            out[(crate, m.group(2))] = m.group(1) + " " + re.sub(r"\s+", " ", body)
+    return out
+
+
 def kept_words(text):
     """What the page says now of what is gone: by the first cell of a row."""
     words = {}
@@ -87,6 +98,11 @@ def main():
     for name, a, b in data["signatures changed"]:
         if public(old, name):
             out.append(f"| {cell(name)} | {cell(a)} | {cell(b)} |\n")
+    out.append("\n## Public types that changed, are gone or are new\n\n| Type | Old | New |\n|---|---|---|\n")
+    before, now = types(old), types(ROOT)
+    for key in sorted(before.keys() | now.keys()):
+        if before.get(key) != now.get(key):
+            out.append(f"| {cell(' '.join(key))} | {cell(before.get(key, ''))} | {cell(now.get(key, ''))} |\n")
     out.append("\n## Functions whose clauses changed\n\n| Function | Old | New |\n|---|---|---|\n")
     for name, r1, e1, r2, e2 in data["contracts changed"]:
         a = "; ".join(x for x in (clauses("requires", r1), clauses("ensures", e1)) if x)

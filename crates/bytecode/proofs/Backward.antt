@@ -12,7 +12,8 @@ use Rattle.definition.specs.Bytecode.{Code}
 use Rattle.definition.specs.Decode.{Decoded, decoded, malformed, items, read_instr, read_code}
 use Rattle.opcode.specs.Decoding.{size_at}
 use Rattle.opcode.specs.Table.{entry}
-use Rattle.opcode.proofs.Widths.{size_end, width_small}
+use Rattle.opcode.proofs.Widths.{size_end}
+use Rattle.definition.proofs.Instructions.{width_most}
 use Rattle.opcode.proofs.Decoding.{Stands, stands, read_next, read_none}
 use Rattle.std.specs.Prelude.{Option, Some, None, Ok}
 use Rattle.bytecode.specs.Checked.{is_read, is_code, item}
@@ -154,7 +155,7 @@ module _ (byte : ℕ → ℕ) (end : ℕ) where
           → four (is_code byte end) (at + 1) / 2 ^ (pick a (width (byte at)) 255 % 64) % 2
           ≡ bit (pick (both a (leb (at + 1 + width (byte at)) end)) (is_code byte end (at + 1 + width (byte at))) false)
       known false s = unpicked (is_code byte end) (at + 1)
-      known true s = picked (is_code byte end) (at + 1) (width (byte at)) (width_small (byte at)) ∙ ap bit (inside (leb (at + 1 + width (byte at)) end) refl)
+      known true s = picked (is_code byte end) (at + 1) (width (byte at)) (width_most (byte at)) ∙ ap bit (inside (leb (at + 1 + width (byte at)) end) refl)
         where
           inside : (b : Bool) → leb (at + 1 + width (byte at)) end ≡ b → is_code byte end (at + 1 + width (byte at)) ≡ pick b (is_code byte end (at + 1 + width (byte at))) false
           inside true t = refl

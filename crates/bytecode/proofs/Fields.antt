@@ -8,16 +8,16 @@ use lib.Dec.{leb}
 use borrow.Author.Tests.{leb-true}
 use Rattle.definition.specs.Basic.{pick, both, Bytes}
 use Rattle.definition.specs.Tag.{tag_integer_const, tag_string_const}
-use Rattle.definition.specs.Field.{Head, head, fits, name_head, tagged, bytes}
+use Rattle.definition.specs.Field.{Head, head, fits, tagged, bytes}
 use Rattle.definition.specs.Bytecode.{Code, Const}
-use Rattle.definition.specs.Decode.{Decoded, decoded, malformed, then, read_head, read_instr, read_code, read_function, read_content, read_const, read_name_field}
+use Rattle.definition.specs.Decode.{Decoded, decoded, malformed, then, read_head, read_instr, read_code, read_function, read_content, read_const}
 use Rattle.bytecode.specs.declared.Form.{Form}
 use Rattle.bytecode.specs.declared.Form.TheVariants.{Plain}
 use Rattle.bytecode.specs.Form.{const_head_in, read_const_in}
 use Rattle.std.specs.Prelude.{Result, Ok, Err}
 use Rattle.bytecode.specs.declared.Malformed.{Malformed}
 use Rattle.bytecode.specs.Checked.{item, constants, constants_in, name_fields}
-use Rattle.bytecode.proofs.Heads.{both_true}
+use Rattle.definition.proofs.Basic.{both_true}
 use Rattle.bytecode.proofs.Items.{unlike, ended}
 
 -- what follows a name's head
@@ -111,9 +111,3 @@ module _ (byte : ℕ → ℕ) (at end : ℕ) where
 
   pub const_ends : (x : Const) (n : ℕ) → read_const byte at end ≡ decoded x n → (at < n) × (n ≤ end)
   const_ends x n e = const_ends_in Plain x n e
-
-  pub name_ends : (x : Bytes) (n : ℕ) → read_name_field byte at end ≡ decoded x n → (at < n) × (n ≤ end)
-  name_ends x n e =
-      let p = head_read (name_head 1) (name_content byte) e in
-      let m : at + 3 + (head byte at).len ≡ n = cc p.1 in
-      omega (arith, p.0.within)

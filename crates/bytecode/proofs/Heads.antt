@@ -10,13 +10,10 @@ use Rattle.std.specs.Prelude.{Result, Ok, Err}
 use Rattle.definition.specs.Basic.{Bytes, both}
 use Rattle.definition.specs.Field.{Head, head, fits}
 use Rattle.definition.specs.Decode.{Decoded, decoded, malformed, then, read_head}
+use Rattle.definition.proofs.Basic.{both_true}
 use Rattle.bytecode.specs.declared.field_head.Head.{Head as Found}
 use Rattle.bytecode.specs.declared.Malformed.{Malformed}
 use Rattle.bytecode.specs.Checked.{Part, head_of, found}
-
-pub both_true : (a b : Bool) → both a b ≡ true → (a ≡ true) × (b ≡ true)
-both_true true b e = (refl, e)
-both_true false b e = let z : ◌≡◌ {A = ℕ} 0 1 = cc in absurd (omega arith)
 
 -- a part that ends where another does
 pub part : (b : Bytes) (at end : ℕ) → end ≤ length b → at < end → Part b at end

@@ -64,8 +64,5 @@ module _ (byte : ℕ → ℕ) (start end : ℕ) where
       code_wrong e len l = sym (ap item (reads_wrong h.read b e len l))
 
       module _ {size : ℕ} (e : Some size ≡ size_at byte at end) where
-        pub code_next : (0 < size) × (at + size ≤ end)
-        code_next = let k = stands byte at end e in (omega (arith, k.is), k.within)
-
         pub code_again : CodeLoop (at + size)
         code_again = record { code = instr_at byte at ∷ h.code; read = reads_again h.read b e }

@@ -17,7 +17,7 @@ use Rattle.bytecode.specs.declared.SessionLayout.{SessionLayout}
 use Rattle.std.specs.Prelude.{Some}
 use Rattle.bytecode.specs.Checked.{layout, layout_of}
 use Rattle.bytecode.specs.Layout.{LaidOut}
-use Rattle.bytecode.proofs.Heads.{both_true}
+use Rattle.definition.proofs.Basic.{both_true}
 use Rattle.bytecode.proofs.Items.{unlike, ended}
 use Rattle.bytecode.proofs.Fields.{then_read, head_read, names_content, pool_content}
 use Rattle.bytecode.proofs.Sessions.{after_words, after_front, session_is}

@@ -23,7 +23,7 @@ use Rattle.bytecode.specs.declared.Malformed.{Malformed}
 use Rattle.bytecode.specs.declared.SessionLayout.{SessionLayout}
 use Rattle.bytecode.specs.Checked.{item, checked, layout, layout_of, layout_answer, session_answer, WordsEnd, LaysOut}
 use Rattle.bytecode.proofs.Items.{unlike, ended}
-use Rattle.bytecode.proofs.Fields.{item_next, item_wrong, then_read, head_read, names_content, pool_content}
+use Rattle.bytecode.proofs.Fields.{item_wrong, then_read, head_read, names_content, pool_content}
 use Rattle.bytecode.proofs.ReadConstants.{checked_good, checked_wrong}
 
 -- what a result was whose value was taken
@@ -79,10 +79,6 @@ module _ (b : Bytes) where
   -- words that are wrong
   pub words_wrong : {r : Result ℕ Malformed} {x : Malformed} → r ≡ item (read_words (byte_at b) 0 (length b)) → r ≡ Err x → None ≡ layout_of b
   words_wrong e w = sym (layout_is ∙ ap from_words (item_wrong (read_words (byte_at b) 0 (length b)) e w))
-
-  -- words that are read
-  pub words_good : {r : Result ℕ Malformed} {k : ℕ} → r ≡ item (read_words (byte_at b) 0 (length b)) → r ≡ Ok k → WordsEnd b k
-  words_good e w = let x = item_next (read_words (byte_at b) 0 (length b)) e w in record { words = x.0; reads = x.1 }
 
   -- a field of names that is read ends within the bytes
   pub fields_within : (tag most at : ℕ) {ns : List Bytes} {n : ℕ} → read_name_fields (byte_at b) tag most at (length b) ≡ decoded ns n → n ≤ length b

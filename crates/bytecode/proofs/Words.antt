@@ -2,7 +2,7 @@
 use Prim.Native.Nat.{◌+◌}
 use mathlib.Core.Path.{◌≡◌, ◌∙◌, ap, sym, refl}
 use mathlib.Core.Bool.{Bool, true, false}
-use mathlib.Core.List.{List, [], ◌∷◌, reverse}
+use mathlib.Core.List.{List, reverse}
 use native.Mathlib.Omega.{arith}
 use lib.ListN.{length}
 use borrow.Author.Tests.{eq-eqb, ne_eqb}
@@ -48,16 +48,12 @@ module _ (b : Bytes) {r : Result Items Malformed} (e : r ≡ checked (name_field
 
 -- Words in a session
 
--- no bytes at all, or another tag
-pub none_there : (b : Bytes) → length b ≡ 0 → Ok 0 ≡ item (read_words (byte_at b) 0 (length b))
-none_there [] e = refl
-none_there (x ∷ b) e = absurd (omega arith)
-
 module _ (b : Bytes) where
   -- their field's content
   abbrev own : Decoded (List Bytes)
   own = read_name_fields (byte_at b) tag_words words_limit 0 (length b)
 
+  -- no bytes at all, or another tag
   pub other_tag : (byte_at b 0 ≡ tag_words → ⊥) → Ok 0 ≡ item (read_words (byte_at b) 0 (length b))
   other_tag n = ap (λ t. item (pick t (then own as_words) (decoded six 0))) (sym (ne_eqb (byte_at b 0) tag_words n))
 

@@ -1,13 +1,13 @@
 -- The loop that joins all bytes by `or`: what it has is zero exactly where all were.
 use Prim.Native.Nat.{ℕ, zero, suc, ◌+◌, ◌-◌, ◌*◌, ◌≤◌, ◌<◌}
-use mathlib.Core.Path.{◌≡◌, ◌∙◌, ap, sym, refl, subst}
+use mathlib.Core.Path.{◌≡◌, ◌∙◌, ap, sym, refl}
 use mathlib.Core.Bool.{Bool, true, false}
 use mathlib.Core.List.{[], ◌∷◌}
 use native.Mathlib.Omega.{arith}
 use native.Mathlib.Numerals.{add-one}
 use lib.Bits.{bit_or, or_add_and, and_le_l, and_le_r}
 use lib.Dec.{eqb}
-use lib.ListN.{length, get_or, take, drop, length-drop, drop_of_length-le}
+use lib.ListN.{length, get_or, take, drop, length-drop}
 use lib.Seq.{drop-cons, drop-drop, take_all, length-take-le}
 use borrow.Author.Tests.{eq-eqb, ne_eqb, eqb-true, eqb-false}
 use Rattle.definition.specs.Basic.{Bytes, pick, both}
@@ -27,9 +27,6 @@ pub record Joining (b : Bytes) (any i : ℕ) : Type 0 where
   pub within : i ≤ length b
   pub decides : both (eqb any 0) (all_zero (drop i b)) ≡ all_zero b
 
-pub zeros_begin : (b : Bytes) → Joining b 0 0
-zeros_begin b = record { within = omega arith; decides = refl }
-
 step : (p q : Bool) (r : Bool) → both (both p q) r ≡ both p (pick q r false)
 step true true r = refl
 step true false r = refl
@@ -46,13 +43,6 @@ zeros_again {b} {any} {i} h z =
           ∙ ap (λ (l : Bytes). both (eqb any 0) (all_zero l)) (sym (drop-cons b i 0 h))
           ∙ z.decides;
     }
-
-alone : (p : Bool) → both p true ≡ p
-alone true = refl
-alone false = refl
-
-pub zeros_end : {b : Bytes} {any i : ℕ} → length b ≤ i → Joining b any i → eqb any 0 ≡ all_zero b
-zeros_end {b} {any} {i} h z = sym (alone (eqb any 0)) ∙ ap (λ (l : Bytes). both (eqb any 0) (all_zero l)) (sym (drop_of_length-le b h)) ∙ z.decides
 
 -- Four parts at once: after i turns, what was joined and the rests decide
 pub record FourJoining (a b c d : Bytes) (any i : ℕ) : Type 0 where
@@ -84,9 +74,6 @@ sorted true true true true w true true false d = none w
 sorted true true true true false true true true d = refl
 sorted true true true true true true true true d = refl
 
-pub four_begin : (a b c d : Bytes) → FourJoining a b c d 0 0
-four_begin a b c d = record { within = omega arith; decides = refl }
-
 joined_zero : (any x y z w : ℕ)
     → eqb (bit_or any (bit_or (bit_or (bit_or x y) z) w)) 0 ≡ both (eqb any 0) (both (both (both (eqb x 0) (eqb y 0)) (eqb z 0)) (eqb w 0))
 joined_zero any x y z w =
@@ -113,15 +100,6 @@ module _ {a b c d : Bytes} (l : Alike a b c d) {any i : ℕ} where
             ∙ sym (λ k. both (eqb any 0) (both (one k) (both (two k) (both (three k) (four k)))))
             ∙ z.decides;
       }
-
-  pub four_end : length a ≤ i → FourJoining a b c d any i → eqb any 0 ≡ four_zero a b c d
-  four_end h z =
-      let none_left : (x : Bytes) → length x ≡ length a → drop i x ≡ [] = λ x e. drop_of_length-le x (subst (λ (n : ℕ). n ≤ i) (sym e) h) in
-      let one = none_left a refl in
-      let two = none_left b l.two in
-      let three = none_left c l.three in
-      let four = none_left d l.four in
-      sym (alone (eqb any 0)) ∙ sym (λ k. both (eqb any 0) (four_zero (one k) (two k) (three k) (four k))) ∙ z.decides
 
 -- the test of a list is that of its parts
 pub zero_parts : (n : ℕ) (b : Bytes) → all_zero b ≡ both (all_zero (take n b)) (all_zero (drop n b))

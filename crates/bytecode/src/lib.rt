@@ -24,6 +24,7 @@ pub use span::Span;
 use zero::all_zero;
 
 // The tags of the chin unit's main code and functions.
+// Kept: named bytes, no enum, as `definition::tag` has them: images that callers lend hold any byte, and functions take it as it stands.
 pub const CHIN_MAIN: u8 = 0x58;
 
 pub const CHIN_FUNCTION: u8 = 0x63;
@@ -148,8 +149,7 @@ pub fn check_form(image: &[u8], form: Form) -> Result<usize, Refusal>
 pub fn check_image(image: &[u8]) -> Result<usize, Refusal>
     ensures { result ≡ image_answer (read_image image.now) }
 {
-    let form = Form::Plain;
-    check_form(image, form)
+    check_form(image, Form::Plain)
 }
 
 // Check the name at `at`: the offset after it.
@@ -187,10 +187,7 @@ fn check_names(session: &[u8], at: usize, tag: u8, most: usize) -> Result<Items,
 fn check_words(session: &[u8]) -> Result<usize, Malformed>
     ensures { result ≡ item (read_words (byte_at session.now) 0 (length session.now)) }
 {
-    if session.len() == 0 {
-        return Ok(0);
-    }
-    if session[0] != tag::WORDS {
+    if session.first() != Some(&tag::WORDS) {
         return Ok(0);
     }
     let words = check_names(session, 0, tag::WORDS, limit::WORDS_LIMIT)?;
@@ -216,8 +213,7 @@ fn read_behind(session: &[u8], start: usize) -> Option<SessionLayout>
     ensures { result ≡ layout_of session.now }
 {
     let names = check_names(session, start, tag::NAMES, limit::GLOBALS_LIMIT).ok()?;
-    let form = Form::Plain;
-    let pool = check_pool(session, names.end, session.len(), form).ok()?;
+    let pool = check_pool(session, names.end, session.len(), Form::Plain).ok()?;
     if all_zero(&session[pool.end..]) {
         return Some(SessionLayout {
             words_end: start,

@@ -13,13 +13,13 @@ use Rattle.definition.specs.Tag.{tag_pool, tag_integer_const, tag_string_const}
 use Rattle.definition.specs.Field.{Head, field, tagged, bytes}
 use Rattle.definition.specs.Bytecode.{Code, Const, encode, content, pool_size}
 use Rattle.definition.specs.Decode.{Decoded, decoded, then, read_code, read_head, read_function, read_content, pool_head}
-use Rattle.definition.specs.Valid.{All, none, more, ValidConst, ValidPool}
+use Rattle.definition.specs.Valid.{ValidConst, ValidPool}
 use Rattle.definition.proofs.Basic.{both_left}
 use Rattle.definition.proofs.Bytes.{Stands, stands_cons, stands_head, stands_tail, stands_at, bytes_stand, length-bytes, stands_number, number_stands, one-byte}
 use Rattle.definition.proofs.Items.{first, Reads, Item, Writes}
 use Rattle.definition.proofs.Fields.{head_of, tagged_true, stands_content, read-head, headed, field_stands, read-row, write_row}
 use Rattle.definition.proofs.Instructions.{code-length, read-code, write_code}
-use Rattle.definition.proofs.Pools.{Storable}
+use Rattle.definition.proofs.Pools.{Storable, storable}
 use Rattle.bytecode.specs.declared.Form.{Form}
 use Rattle.bytecode.specs.declared.Form.TheVariants.{Plain, Chin}
 use Rattle.bytecode.specs.Form.{tag_function_in, tag_in, const_in, pool_in, const_head_in, read_const_in, read_pool_in}
@@ -28,11 +28,6 @@ use Rattle.bytecode.specs.Form.{tag_function_in, tag_in, const_in, pool_in, cons
 pub pool-length : (f : Form) (cs : List Const) → length (pool_in f cs) ≡ pool_size cs
 pool-length f [] = refl
 pool-length f (c ∷ cs) = omega (arith, length-append (pool_in f cs) (const_in f c), pool-length f cs)
-
--- each constant of a pool within its limit can be held
-storable : {cs : List Const} → All ValidConst cs → pool_size cs < 65536 → All Storable cs
-storable none h = none
-storable (more {x = c} {xs = cs} v vs) h = more {x = c} (record { valid = v; short = omega arith }) (storable vs (omega arith))
 
 -- a constant's head passes
 const-head : (f : Form) (byte : ℕ → ℕ) (c : Const) → ValidConst c → const_head_in f byte (head_of (tag_in f c) (content c)) ≡ true

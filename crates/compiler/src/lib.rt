@@ -121,6 +121,7 @@ fn compile_lent(
 }
 
 // Compiles a tree in a session, and leaves image, session and zeroed work areas; or refuses it.
+// Kept: the slices one by one, here and in the functions that it calls, as C lends them; the walk has them as one struct.
 pub fn compile(
     session: &mut [u8],
     tree: &[u8],

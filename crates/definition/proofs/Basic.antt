@@ -1,9 +1,10 @@
 -- Lemmas on choices by a test.
 use mathlib.Core.Bool.{Bool, true, false}
-use mathlib.Core.Path.{◌≡◌, refl, ap, subst, ◌∙◌}
+use mathlib.Core.Path.{◌≡◌, refl, sym, ap, subst, ◌∙◌}
 use native.Mathlib.Omega.{arith}
 use Prim.Native.Nat.{ℕ}
-use Rattle.std.specs.Prelude.{Option, Some, None, Result, Err}
+use lib.Dec.{T}
+use Rattle.std.specs.Prelude.{Some, None, Result, Err}
 use Rattle.std.specs.Result.{IsErrAnd}
 use Rattle.std.proofs.lemmas.Result.{err_from_is_err_and}
 use Rattle.definition.specs.Basic.{pick, both}
@@ -37,6 +38,14 @@ both_right false b e = cc
 
 pub both_true : (a b : Bool) → both a b ≡ true → (a ≡ true) × (b ≡ true)
 both_true a b e = (both_left a b e, both_right a b e)
+
+pub both_each : (a b : Bool) → T (both a b) → T a × T b
+both_each true b t = (tt, t)
+both_each false b t = absurd t
+
+-- a test that fails does not hold
+pub contrary : {A : Type 0} → false ≡ true → A
+contrary e = absurd (subst T (sym e) tt)
 
 -- a choice whose test is known
 pub pick_true : {A : Type 0} (x y : A) {b : Bool} → b ≡ true → pick b x y ≡ x

@@ -8,6 +8,7 @@ use borrow.Author.Tests.{eqb-true}
 use Rattle.definition.specs.Basic.{pick, both}
 use Rattle.definition.specs.Number.{is_one_of}
 use Rattle.definition.specs.Valid.{All}
+use Rattle.definition.proofs.Basic.{both_each}
 
 -- what holds of each number of a list holds of a number in it
 pub one_of : (P : ℕ → Type 0) {xs : List ℕ} → All P xs → (n : ℕ) → T (is_one_of xs n) → P n
@@ -22,10 +23,6 @@ one_of P (All.more {x = x} {xs = xs} h hs) n t = go (λ u. one_of P hs n u) (eqb
 abbrev pub each : (ℕ → Bool) → List ℕ → Bool
 each test [] = true
 each test (x ∷ xs) = both (test x) (each test xs)
-
-both_each : (a b : Bool) → T (both a b) → T a × T b
-both_each true b t = (tt, t)
-both_each false b t = absurd t
 
 all_each : (test : ℕ → Bool) (xs : List ℕ) → T (each test xs) → All (λ n. T (test n)) xs
 all_each test [] h = All.none

@@ -31,7 +31,7 @@ pub record Storable (c : Const) : Type 0 where
   pub short : length (content c) < 65536
 
 -- each constant of a pool within its limit can be held
-storable : {cs : List Const} → All ValidConst cs → pool_size cs < 65536 → All Storable cs
+pub storable : {cs : List Const} → All ValidConst cs → pool_size cs < 65536 → All Storable cs
 storable none h = none
 storable (more {x = c} {xs = cs} v vs) h = more {x = c} (record { valid = v; short = omega arith }) (storable vs (omega arith))
 

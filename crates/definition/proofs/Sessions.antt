@@ -29,7 +29,7 @@ names-length none = omega arith
 names-length (more {x = n} {xs = ns} v vs) = omega (arith, names-length vs, v.short, length-append (names_bytes ns) (name_bytes n))
 
 -- words in their other order
-all_reversed : {P : Bytes → Type 0} {ns ms : List Bytes} → All P ns → All P ms → All P (reverse_aux ns ms)
+pub all_reversed : {P : Bytes → Type 0} {ns ms : List Bytes} → All P ns → All P ms → All P (reverse_aux ns ms)
 all_reversed none ms = ms
 all_reversed (more p ps) ms = all_reversed ps (more p ms)
 
@@ -54,7 +54,7 @@ words-length six v = omega arith
 words-length (listed ws) v = omega (arith, names-length (all_reversed v.names none), length-reverse ws, v.count)
 
 -- valid words, read the latest first
-as-words : {ws : List Bytes} → ValidList ws → (at : ℕ) → as_words (reverse ws) at ≡ decoded (listed ws) at
+pub as-words : {ws : List Bytes} → ValidList ws → (at : ℕ) → as_words (reverse ws) at ≡ decoded (listed ws) at
 as-words {ws} v at =
     (λ i. let x = reverse-reverse ws i in pick (distinct x) (decoded (listed x) at) (malformed at)) ∙ (λ i. pick (v.unrepeated i) (decoded (listed ws) at) (malformed at))
 

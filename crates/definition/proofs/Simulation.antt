@@ -23,7 +23,7 @@ use Rattle.definition.specs.Opcode.{Instr, instr, plain, width, op_last, op_pop,
 use Rattle.definition.specs.Valid.{All, IsName, ValidInstr, operand_bound, captures_bound}
 use Rattle.definition.specs.Walk.{Res, bind, Machine, prefixes, infixes, less_than, operate, walk_stmt, walk_stmts, walk_else, walk_expr, walk_exprs}
 use Rattle.definition.specs.declared.reason.Refusal.{Refusal}
-use Rattle.definition.proofs.Basic.{picked}
+use Rattle.definition.proofs.Basic.{picked, both_each}
 use Rattle.definition.proofs.WellFormed.{WfStmt, WfStmts, WfElse, WfExpr, WfExprs}
 use Rattle.definition.proofs.Blank.{Literals, map_stmt, map_stmts, map_else, map_expr, map_exprs}
 
@@ -89,10 +89,6 @@ known [] = true
 known (none ∷ os) = known os
 known (some o ∷ os) = both (bare o) (known os)
 
-both_known : (a b : Bool) → T (both a b) → T a × T b
-both_known true b h = (tt, h)
-both_known false b h = absurd h
-
 count_map : (f : Literals) (es : Exprs) → count (map_exprs f es) ≡ count es
 unfolding map_exprs
 count_map f Exprs.no_exprs = refl
@@ -115,9 +111,9 @@ module _ {S U : Type 0} {m : Machine S} {n : Machine U} {f : Literals} {W : Type
   unfolding known
   both_operate p [] k o r = Both.stop (refusal Number.operator p) tt (sim.halt r)
   both_operate p (none ∷ os) k zero r = Both.stop (refusal Number.operator p) tt (sim.halt r)
-  both_operate p (some x ∷ os) k zero r = rests (emits r p x (both_known (bare x) (known os) k).0)
+  both_operate p (some x ∷ os) k zero r = rests (emits r p x (both_each (bare x) (known os) k).0)
   both_operate p (none ∷ os) k (suc o) r = both_operate p os k o r
-  both_operate p (some x ∷ os) k (suc o) r = both_operate p os (both_known (bare x) (known os) k).1 o r
+  both_operate p (some x ∷ os) k (suc o) r = both_operate p os (both_each (bare x) (known os) k).1 o r
 
   prefixes_known : T (known prefixes)
   unfolding known bare

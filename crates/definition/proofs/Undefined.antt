@@ -20,6 +20,7 @@ use Rattle.definition.specs.SymbolTable.{Symbol, Entry, Table, Resolved, same, f
 use Rattle.definition.specs.Compiler.{State, with_tables, emit_beside, emit, loaded, load}
 use Rattle.definition.specs.Valid.{All}
 use Rattle.definition.proofs.Basic.{pick_false, chosen}
+use Rattle.definition.proofs.ValidSymbols.{all_first, all_rest}
 
 -- no reachable table holds a name: no open function's, not the globals, not the session's words
 pub record Unheld (bs gs : List Bytes) (n : Bytes) (ts : List Table) : Type 0 where
@@ -43,13 +44,6 @@ pub same_self : (x : Bytes) → same x x ≡ true
 unfolding same
 same_self [] = refl
 same_self (a ∷ x) = (λ i. pick (eq-eqb a a refl i) (same x x) false) ∙ same_self x
-
--- the first of all, and the others
-all_head : {A : Type 0} {P : A → Type 0} {x : A} {xs : List A} → All P (x ∷ xs) → P x
-all_head (All.more h hs) = h
-
-all_tail : {A : Type 0} {P : A → Type 0} {x : A} {xs : List A} → All P (x ∷ xs) → All P xs
-all_tail (All.more h hs) = hs
 
 -- Searches
 
@@ -135,10 +129,10 @@ module _ (bs gs : List Bytes) (n : Bytes) where
       more h u = record { tables = All.more h u.tables; globals = u.globals; builtins = u.builtins }
 
       first : Unheld bs gs n (t ∷ ts) → All (λ (e : Entry). e.name ≡ n → ⊥) t.entries
-      first u = all_head u.tables
+      first u = all_first u.tables
 
       others : Unheld bs gs n (t ∷ ts) → Unheld bs gs n ts
-      others u = record { tables = all_tail u.tables; globals = u.globals; builtins = u.builtins }
+      others u = record { tables = all_rest u.tables; globals = u.globals; builtins = u.builtins }
 
 -- an emission is not refused 5
 emit_known : (p : ℕ) (i : Instr) (s t : State) → emit p i s ≡ refuse Number.undefined p t → ⊥

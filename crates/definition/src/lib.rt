@@ -3,6 +3,7 @@
 #![tactic(auto)]
 
 pub mod limit;
+pub mod operator;
 pub mod output;
 pub mod reason;
 pub mod tag;

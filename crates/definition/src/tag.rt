@@ -1,4 +1,5 @@
 // The tags of fields, as specs/Tag.antt has them: those of a tree as numbers to go by, those of sessions and images as bytes.
+// Kept: named numbers, no enum: trees, sessions and images that callers lend hold any byte, and functions take it as it stands.
 
 // A tree: statements.
 pub const PROGRAM: usize = 0x10;

@@ -1,4 +1,5 @@
 pub mod Content
+pub mod First
 pub mod Same
 pub mod Rows
 pub mod Reading

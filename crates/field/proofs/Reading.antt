@@ -10,6 +10,7 @@ use borrow.Author.Tests.{eq-eqb, ne_eqb, leb-true, eqb-true, eqb-false}
 use Rattle.definition.specs.Basic.{Bytes, byte_at, pick, both}
 use Rattle.definition.specs.Field.{Head, tagged, name_head, fits, bytes, head}
 use Rattle.definition.specs.Decode.{Decoded, decoded, malformed, then, items, read_head, read_name_field, read_name_fields}
+use Rattle.definition.proofs.Basic.{both_left, both_right}
 use Rattle.field.specs.Layout.{len, after, content}
 use Rattle.field.specs.Row.{RowTo, HasRow}
 use Rattle.field.proofs.Content.{content-bytes}
@@ -41,15 +42,6 @@ module _ {A : Type 0} (f : ℕ → ℕ → Decoded A) where
       go : (y : Decoded A) → f at end ≡ y → then y (λ x at₁. items f m (x ∷ xs) at₁ end) ≡ decoded ns e → Next (suc m) xs at end ns e
       go (decoded x at₁) p q = let n : suc m - 1 ≡ m = omega arith in record { first = x; at₁ = at₁; here = p; some = omega arith; rest = rw n q }
       go (malformed o) p q = let z : ◌≡◌ {A = ℕ} 0 1 = cc in absurd (omega arith)
-
--- both tests hold
-both_left : (a b : Bool) → both a b ≡ true → a ≡ true
-both_left true b h = refl
-both_left false b h = h
-
-both_right : (a b : Bool) → both a b ≡ true → b ≡ true
-both_right true b h = h
-both_right false b h = cc
 
 -- Heads and names
 

@@ -1,10 +1,11 @@
 -- Two names, byte by byte.
-use Prim.Native.Nat.{ℕ, suc}
-use native.Mathlib.Omega.{arith}
+use Prim.Native.Nat.{ℕ, suc, ◌+◌, ◌≤◌, ◌<◌}
 use mathlib.Core.Path.{◌≡◌, refl, ap}
 use mathlib.Core.Bool.{Bool, true, false}
 use mathlib.Core.List.{List, [], ◌∷◌}
-use lib.ListN.{length}
+use native.Mathlib.Numerals.{add-one}
+use lib.ListN.{length, get_or, drop, drop_of_length-le}
+use lib.Seq.{drop-cons}
 use lib.Dec.{eqb}
 use borrow.Author.Tests.{eq-eqb, ne_eqb}
 use Rattle.definition.specs.Basic.{pick}
@@ -21,22 +22,15 @@ same_lengths [] (b ∷ y) h = refl
 same_lengths (a ∷ x) [] h = refl
 same_lengths (a ∷ x) (b ∷ y) h = rw (same_lengths x y (λ e. h (ap suc e))) (pick_both (eqb a b))
 
--- one byte of each is taken: what is left of the two decides, or the two bytes do
-module _ {x y u v : List ℕ} {a b : ℕ} (e : x ≡ a ∷ u) (f : y ≡ b ∷ v) where
-  pub same_step : a ≡ b → same x y ≡ same u v
+module _ (x y : List ℕ) (i : ℕ) (hx : i < length x) (hy : i < length y) where
+  pub same_step : get_or x i 0 ≡ get_or y i 0 → same (drop i x) (drop i y) ≡ same (drop (i + 1) x) (drop (i + 1) y)
   unfolding same
-  same_step h = rw (e, f, eq-eqb a b h) refl
+  same_step e = rw (drop-cons x i 0, drop-cons y i 0, add-one, eq-eqb (get_or x i 0) (get_or y i 0) e)
 
-  pub same_differ : (a ≡ b → ⊥) → same x y ≡ false
+  pub same_differ : (get_or x i 0 ≡ get_or y i 0 → ⊥) → same (drop i x) (drop i y) ≡ false
   unfolding same
-  same_differ h = rw (e, f, ne_eqb a b h) refl
+  same_differ h = rw (drop-cons x i 0, drop-cons y i 0, ne_eqb (get_or x i 0) (get_or y i 0) h)
 
-  pub left_equal : length x ≡ length y → length u ≡ length v
-  left_equal h = omega (arith, ap length e, ap length f)
-
--- none is left of either
-pub same_none : (x y : List ℕ) → length x ≡ 0 → length y ≡ 0 → same x y ≡ true
+pub same_none : (x y : List ℕ) (i : ℕ) → length x ≤ i → length y ≤ i → same (drop i x) (drop i y) ≡ true
 unfolding same
-same_none [] [] g h = refl
-same_none [] (b ∷ y) g h = absurd (omega (arith, h))
-same_none (a ∷ x) y g h = absurd (omega (arith, g))
+same_none x y i hx hy = rw (drop_of_length-le x hx, drop_of_length-le y hy)

@@ -1,5 +1,5 @@
 -- Frames tell no more of an image than its length; so the two images of a step in condition 3 are sent in equally many and equally long frames.
-use Prim.Native.Nat.{ℕ, suc, ◌*◌}
+use Prim.Native.Nat.{ℕ, ◌*◌}
 use native.Mathlib.Omega.{arith}
 use mathlib.Core.Bool.{true}
 use mathlib.Core.Path.{◌≡◌, refl, sym, ap, subst, ◌∙◌}
@@ -16,11 +16,11 @@ use Rattle.definition.specs.Session.{Session}
 use Rattle.definition.specs.Decode.{Decoded, decoded, malformed, read_image, read_session}
 use Rattle.definition.specs.Compile.{Outcome, Step, enough, compile}
 use Rattle.definition.specs.Call.{Lent, Called, answered, in_session, request, call}
-use Rattle.definition.specs.Literal.{Mask}
-use Rattle.definition.specs.Series.{Agree, Answers, Same}
+use Rattle.definition.specs.Series.{Answers, Same}
 use Rattle.definition.specs.Valid.{AreBytes, ValidImage}
 use Rattle.definition.specs.declared.reason.Refusal.{Refusal}
 use Rattle.definition.proofs.Basic.{chosen, both_right}
+use Rattle.definition.proofs.Agreement.{agree-length}
 use Rattle.definition.proofs.Images.{read-image}
 use Rattle.definition.proofs.Sessions.{write_session}
 use Rattle.definition.proofs.Steps.{compile-valid}
@@ -51,12 +51,6 @@ same_frames a b {m} {p} {n} {q} s t e = record { counts = counts; lengths = leng
 
     lengths : (size k : ℕ) → length (frame_of a size k) ≡ length (frame_of b size k)
     lengths size k = frame-length a size k ∙ ap (λ c. length_of (placed c size k)) (counts size) ∙ sym (frame-length b size k)
-
--- two lists that agree are equally long
-agree-length : {m : Mask} {x y : Bytes} → Agree m x y → length x ≡ length y
-agree-length Agree.end = refl
-agree-length (Agree.same b h) = ap suc (agree-length h)
-agree-length (Agree.free a b h) = ap suc (agree-length h)
 
 -- the answers of a step, given that its images are sound
 answers_alike : {o : Outcome} {x y : Called} → Answers o x y → Sound x → Sound y → FramesAlike x y

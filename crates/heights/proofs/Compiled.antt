@@ -24,9 +24,11 @@ use Rattle.definition.proofs.Levels.{LevelConst}
 use Rattle.definition.proofs.Invariant.{KeepsSession}
 use Rattle.definition.proofs.Reached.{LevelSession, LevelImage, level_steps, reached_enough, reached_once, reached_end, reached_not_end}
 use Rattle.definition.proofs.Trusted.{trusted_steps}
-use Rattle.heights.specs.Judgement.{Reaches, Kind, EndsAt, Passes, ChunkOf, AllPass, Tops, Offers}
+use Rattle.heights.specs.Judgement.{Reaches, EndsAt, Passes, ChunkOf, AllPass, Tops, Offers}
+use Rattle.heights.specs.declared.chunk.Kind.{Kind}
+use Rattle.heights.specs.declared.chunk.Kind.TheVariants.{Main, Function}
 use Rattle.heights.specs.Pass.{Verdict, verdict_answer, heights_answer}
-use Rattle.opcode.proofs.Decoding.{both_left, both_right}
+use Rattle.definition.proofs.Basic.{both_left, both_right}
 use Rattle.heights.proofs.Stepping.{whenever}
 use Rattle.heights.proofs.Offered.{way, some_offers}
 use Rattle.heights.proofs.Verdicts.{Right, judged_right, all_judged}
@@ -57,7 +59,7 @@ record Named (cs : List Const) (c : Code) : Type 0 where
   below : index < length cs
   is : constant_at cs index ≡ some (Const.function locals parameters c)
 
-named : {m : Image} {cs : List Const} {place first : ℕ} {c : Code} → ChunkOf m cs place Kind.function first c → Named cs c
+named : {m : Image} {cs : List Const} {place first : ℕ} {c : Code} → ChunkOf m cs place Function first c → Named cs c
 named (ChunkOf.last {l} {n} {c} {cs}) =
     record { index = length cs; locals = l; parameters = n; below = omega arith; is = ap (λ b. pick b (some (Const.function l n c)) (constant_at cs (length cs))) (eq-eqb (length cs) (length cs) refl) }
 named (ChunkOf.before {x} {cs} h) =
@@ -71,17 +73,17 @@ named (ChunkOf.before {x} {cs} h) =
       is = ap (λ b. pick b (some x) (constant_at cs n.index)) (ne_eqb (length cs) n.index (λ e. omega arith)) ∙ n.is;
     }
 
-main-code : {m : Image} {cs : List Const} {place first : ℕ} {c : Code} → ChunkOf m cs place Kind.main first c → m.code ≡ c
+main-code : {m : Image} {cs : List Const} {place first : ℕ} {c : Code} → ChunkOf m cs place Main first c → m.code ≡ c
 main-code ChunkOf.main = refl
 main-code (ChunkOf.before h) = main-code h
 
 -- a chunk as P2 has it
 chunk : {m : Image} {place first : ℕ} {c : Code} (kind : Kind) → ChunkOf m m.pool place kind first c → Chunk m c
-chunk {m} Kind.main h = subst (Chunk m) (main-code h) Chunk.main
-chunk Kind.function h = let n = named h in Chunk.function n.index n.is
+chunk {m} Main h = subst (Chunk m) (main-code h) Chunk.main
+chunk Function h = let n = named h in Chunk.function n.index n.is
 
 -- a function's heights
-function_level : {m : Image} {cs : List Const} {place first : ℕ} {c : Code} → All LevelConst cs → ChunkOf m cs place Kind.function first c → FunctionLevel c
+function_level : {m : Image} {cs : List Const} {place first : ℕ} {c : Code} → All LevelConst cs → ChunkOf m cs place Function first c → FunctionLevel c
 function_level All.none h = elim h [ ]
 function_level (All.more l ls) ChunkOf.last = l
 function_level (All.more l ls) (ChunkOf.before h) = function_level ls h
@@ -94,10 +96,10 @@ record Levels (kind : Kind) (c : Code) : Type 0 where
   ends : {x : ℕ} → Reaches c (size_of c) x → EndsAt kind x
 
 levels : {m : Image} {z : Session} {place first : ℕ} {c : Code} (kind : Kind) → LevelImage m z → ChunkOf m m.pool place kind first c → Levels kind c
-levels {m} Kind.main l h =
-    subst (Levels Kind.main) (main-code h)
+levels {m} Main l h =
+    subst (Levels Main) (main-code h)
     (record { once = λ r q. reached_once l.main (way r) (way q); enough = λ s r. reached_enough l.main (way r) s; ends = λ r. reached_end l.main (way r) refl })
-levels Kind.function l h =
+levels Function l h =
     let f = function_level l.pool h in
     record { once = λ r q. reached_once f.level (way r) (way q); enough = λ s r. reached_enough f.level (way r) s; ends = λ r. reached_not_end f (way r) refl }
 

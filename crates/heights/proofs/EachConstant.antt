@@ -1,5 +1,5 @@
 -- The constants of a pool that are gone over, as the pool has them.
-use Rattle.std.proofs.Common.{◌≡◌, ℕ, ◌≤◌, List, sym, refl, subst, arith}
+use Rattle.std.proofs.Common.{ℕ, ◌≤◌, List, sym, refl, subst, arith}
 use Rattle.definition.specs.Basic.{Bytes, byte_at}
 use Rattle.definition.specs.Limit.{constants_limit}
 use Rattle.definition.specs.Bytecode.{Const}

@@ -14,12 +14,10 @@ use Rattle.definition.specs.Field.{head}
 use Rattle.definition.specs.Valid.{AreBytes}
 use Rattle.definition.specs.Limit.{constants_limit}
 use Rattle.definition.specs.Tag.{tag_function_const}
-use Rattle.definition.specs.Opcode.{Instr}
 use Rattle.definition.specs.Bytecode.{Code, Const, Image}
-use Rattle.definition.specs.Decode.{Decoded, decoded, malformed, read_instr, read_const, read_image}
+use Rattle.definition.specs.Decode.{read_instr, read_const, read_image}
 use Rattle.definition.specs.declared.reason.Refusal.{Refusal}
 use Rattle.std.specs.Prelude.{Ok, Err, Result}
-use Rattle.bytecode.specs.Checked.{image_answer}
 use Rattle.opcode.specs.Decoding.{read_before, decode_answer, found as instruction_found}
 use Rattle.opcode.specs.declared.Instruction.{Instruction}
 use Rattle.opcode.specs.declared.Decoded.{Decoded as ReadInstruction}
@@ -88,13 +86,12 @@ module _ (b : Bytes) (start end first : ℕ) where
         flow_decodes t = unanswered e found.found t
 
         module _ {i : Instruction} {after : ℕ} (t : r ≡ instruction_found i after) where
-          pub flow_spot : length l₁ ≡ length l₀ → FlowSpot l start end at after i.op
+          pub flow_spot : length l₁ ≡ length l₀ → FlowSpot l start end at after
           flow_spot n =
               let w = whole-read (byte_at b) end at found.x found.next found.found in
               let a = answered e found.found t in
               record {
                 from = omega (arith, p.from);
-                known = omega (arith, w.known, ap (λ (j : Instr). j.op) a.0);
                 behind = omega (arith, w.after, a.1);
                 within = omega (arith, w.within, a.1);
                 room = omega (arith, p.same_marks, h.room);
@@ -224,13 +221,6 @@ module _ (b : Bytes) (a : AreBytes b) {m : Image} (i : ImageAt b m) {len : ℕ} 
       record { many = q.many; few = q.few; rest = q.rest ∙ stays_later o₁ o r₁ r₂ (omega (arith, p.many, q.many)) p.rest }
 
 -- The answer
-
-pub proposal_wrong : (b : Bytes) {x : Result ℕ Refusal} → x ≡ image_answer (read_image b) → {q : Refusal} → x ≡ Err q → (room : ℕ) → (Err q ≡ proposal_answer (read_image b) room) × (proposal_size (read_image b) room ≡ 0)
-proposal_wrong b e {q} s room = go (read_image b) (sym e ∙ s)
-  where
-    go : (d : Decoded Image) → image_answer d ≡ Err q → (Err q ≡ proposal_answer d room) × (proposal_size d room ≡ 0)
-    go (decoded m n) i = let z : ◌≡◌ {A = ℕ} 0 1 = cc in absurd (omega arith)
-    go (malformed p) i = (cc, refl)
 
 module _ (b : Bytes) {m : Image} (i : ImageAt b m) {count : ℕ} (c : count ≡ counted m m.pool) (room : ℕ) where
   by_test : {t : Bool} → leb (counted m m.pool) room ≡ t

@@ -13,12 +13,14 @@ use Rattle.definition.specs.Tag.{tag_integer_const, tag_string_const, tag_functi
 use Rattle.definition.specs.Field.{head, bytes}
 use Rattle.definition.specs.Bytecode.{Code, Const}
 use Rattle.definition.specs.Decode.{decoded, const_head, read_content, read_const}
-use Rattle.bytecode.proofs.Heads.{both_true}
+use Rattle.definition.proofs.Basic.{both_true}
 use Rattle.bytecode.proofs.Fields.{Good, head_read, const_end, const_ends}
 use Rattle.listing.specs.Reads.{CodeAt, PoolAt, function_of}
 use Rattle.listing.proofs.Items.{Reading, next}
-use Rattle.listing.proofs.Constants.{constant_within, function_is}
-use Rattle.heights.specs.Judgement.{Kind, instructions}
+use Rattle.listing.proofs.Constants.{function_is}
+use Rattle.heights.specs.Judgement.{instructions}
+use Rattle.heights.specs.declared.chunk.Kind.{Kind}
+use Rattle.heights.specs.declared.chunk.Kind.TheVariants.{Function}
 use Rattle.heights.specs.Pass.{Top, top_of}
 use Rattle.heights.specs.Marks.{Blank, chunk_answer, ChunkReady, ChunkEnds}
 use Rattle.heights.specs.Chunks.{top_answer, top_into, constant_answer, constant_into, Judges, Standing, ConstantReady}
@@ -57,10 +59,7 @@ pub blank_later : {l : List ℕ} {i j : ℕ} → i ≤ j → Blank l i → Blank
 blank_later h b = record { zero = λ k g. b.zero k (omega arith) }
 
 module _ (b : Bytes) {at next : ℕ} {x : Const} (s : Standing b at next x) where
-  -- a constant lies within the image, behind its head
-  pub standing_within : next ≤ length b
-  standing_within = let w = constant_within b at s.end s.constant in omega (arith, s.constant.within, s.sized)
-
+  -- a constant has a head
   pub standing_head : at + 3 ≤ next
   standing_head = omega (arith, s.sized)
 
@@ -104,7 +103,7 @@ module _ (b : Bytes) {at next : ℕ} {x : Const} (s : Standing b at next x) wher
         record { code = f.code; stands = subst (λ n. CodeAt b (at + 3 + 3) n f.code) (sym s.sized) f.stands; is = f.is }
 
     pub chunk_judges : (hs : List ℕ) (p : Progress) (out : List ℕ) {out₁ l : List ℕ} {r : Option Progress}
-        → Judges next (top_answer (top_of hs Kind.function p.heights chunk.code) p (length chunk.code)) (top_into (top_of hs Kind.function p.heights chunk.code) p.chunks out) r out₁ l
+        → Judges next (top_answer (top_of hs Function p.heights chunk.code) p (length chunk.code)) (top_into (top_of hs Function p.heights chunk.code) p.chunks out) r out₁ l
         → Judges next (constant_answer hs x p) (constant_into hs x p out) r out₁ l
     chunk_judges hs p out {out₁} {l} {r} j = subst (λ x. Judges next (constant_answer hs x p) (constant_into hs x p out) r out₁ l) chunk.is j
 

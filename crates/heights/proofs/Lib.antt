@@ -8,6 +8,7 @@ pub mod Offered
 pub mod Compiled
 pub mod Tables
 pub mod Laws
+pub mod Lent
 pub mod Steps
 pub mod Loops
 pub mod Ends

@@ -146,7 +146,6 @@ module _ (b : Bytes) (start end : ℕ) (hs : List ℕ) (first : ℕ) where
         -- the instruction there
         pub record Turn : Type 0 where
           pub is : instr_of i ≡ found.x
-          pub known : i.op < 30
           pub after_is : after ≡ found.next
           pub sized : after ≡ at + size (instr_of i)
           pub within : after ≤ end
@@ -157,7 +156,6 @@ module _ (b : Bytes) (start end : ℕ) (hs : List ℕ) (first : ℕ) where
             let a = answered e found.found t in
             record {
               is = a.0;
-              known = omega (arith, w.known, ap (λ (j : Instr). j.op) a.0);
               after_is = a.1;
               sized = a.1 ∙ w.after ∙ ap (λ (j : Instr). at + size j) (sym a.0);
               within = omega (arith, w.within, a.1);
@@ -171,7 +169,6 @@ module _ (b : Bytes) (start end : ℕ) (hs : List ℕ) (first : ℕ) where
         spot =
             let w = turn in
             record {
-              known = w.known;
               from = omega (arith, p.size_is);
               sized = w.sized;
               within = w.within;

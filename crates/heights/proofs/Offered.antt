@@ -11,10 +11,11 @@ use Rattle.definition.specs.Session.{Session}
 use Rattle.definition.specs.Valid.{All}
 use Rattle.definition.proofs.Heights.{EdgeHeight, Level}
 use Rattle.definition.proofs.Levels.{LevelConst}
-use Rattle.definition.proofs.Reached.{LevelImage, reached, heights_count, edge_once}
+use Rattle.definition.proofs.Reached.{LevelImage, reached, heights_count, edge_once, stands_within}
 use Rattle.definition.proofs.Reached as Reached
-use Rattle.heights.specs.Judgement.{Placed, Reaches, Kind, counted, ChunkOf, Offers}
-use Rattle.heights.proofs.Positions.{stands_within, placed_stands}
+use Rattle.heights.specs.Judgement.{Placed, Reaches, counted, ChunkOf, Offers}
+use Rattle.heights.specs.declared.chunk.Kind.{Kind}
+use Rattle.heights.proofs.Positions.{placed_stands}
 
 -- the same ways
 pub way : {c : Code} {p x : ℕ} → Reaches c p x → Reached.Reaches c p x

@@ -12,7 +12,8 @@ use Rattle.definition.specs.Decode.{read_const}
 use Rattle.session.proofs.Stores.{sets_append}
 use Rattle.listing.specs.Reads.{PoolAt}
 use Rattle.listing.proofs.Items.{Reading, begins, ends, all_read}
-use Rattle.heights.specs.Judgement.{Kind, counted}
+use Rattle.heights.specs.Judgement.{counted}
+use Rattle.heights.specs.declared.chunk.Kind.TheVariants.{Function}
 use Rattle.heights.specs.Pass.{Top, top_of, Verdict, also, judged_const, further, judged}
 use Rattle.heights.specs.Marks.{Blank}
 use Rattle.heights.specs.Chunks.{top_answer, top_into, constant_answer, constant_into, pool_answer, Judges, ConstantReady, PoolReady, SoFar, PoolJudges}
@@ -40,7 +41,7 @@ judged_failed hs m x cs e = ap (λ v. further v (judged_const hs m cs x)) e
 few_more : (hs : List ℕ) (x : Const) (p : Progress) {q : Progress} → constant_answer hs x p ≡ Some q → q.chunks ≤ p.chunks + 1
 few_more hs (Const.integer b) p {q} e = let i : p ≡ q = cc in omega (arith, ap (λ (p : Progress). p.chunks) i)
 few_more hs (Const.string b) p {q} e = let i : p ≡ q = cc in omega (arith, ap (λ (p : Progress). p.chunks) i)
-few_more hs (Const.function l n c) p {q} e = go (top_of hs Kind.function p.heights c) e
+few_more hs (Const.function l n c) p {q} e = go (top_of hs Function p.heights c) e
   where
     go : (t : Top) → top_answer t p (length c) ≡ Some q → q.chunks ≤ p.chunks + 1
     go (Top.top k) e = let i : ◌≡◌ {A = Progress} (record { chunks = p.chunks + 1; heights = p.heights + length c }) q = cc in omega (arith, ap (λ (p : Progress). p.chunks) i)
@@ -66,12 +67,12 @@ more {hs} {m} (Const.string b) {cs} {p = p} {q} s e f =
       heights = omega (arith, s.heights, ap (λ (p : Progress). p.heights) i);
       stored = f ∙ s.stored;
     }
-more {hs} {m} (Const.function l n c) {cs} {o₀} {o} {p} {q} {o₁} s e f = go (top_of hs Kind.function p.heights c) refl e f
+more {hs} {m} (Const.function l n c) {cs} {o₀} {o} {p} {q} {o₁} s e f = go (top_of hs Function p.heights c) refl e f
   where
-    go : (t : Top) → top_of hs Kind.function p.heights c ≡ t → top_answer t p (length c) ≡ Some q → o₁ ≡ top_into t p.chunks o → SoFar hs m (Const.function l n c ∷ cs) o₀ o₁ q
+    go : (t : Top) → top_of hs Function p.heights c ≡ t → top_answer t p (length c) ≡ Some q → o₁ ≡ top_into t p.chunks o → SoFar hs m (Const.function l n c ∷ cs) o₀ o₁ q
     go (Top.top k) g e f =
         let i : ◌≡◌ {A = Progress} (record { chunks = p.chunks + 1; heights = p.heights + length c }) q = cc in
-        let t : top_of hs Kind.function (counted m cs) c ≡ Top.top k = ap (λ h. top_of hs Kind.function h c) s.heights ∙ g in
+        let t : top_of hs Function (counted m cs) c ≡ Top.top k = ap (λ h. top_of hs Function h c) s.heights ∙ g in
         record {
           tops = s.tops ++ k ∷ [];
           passed = judged_more hs m (Const.function l n c) cs s.passed ∙ ap (λ t. also t (suc (length cs)) s.tops) t;
@@ -85,11 +86,11 @@ more {hs} {m} (Const.function l n c) {cs} {o₀} {o} {p} {q} {o₁} s e f = go (
 fails_there : {hs : List ℕ} {m : Image} (x : Const) {cs : List Const} {o₀ o : List ℕ} {p : Progress} → SoFar hs m cs o₀ o p → constant_answer hs x p ≡ None → judged hs m (x ∷ cs) ≡ Verdict.fails (suc (length cs))
 fails_there (Const.integer b) s e = not_fails e
 fails_there (Const.string b) s e = not_fails e
-fails_there {hs} {m} (Const.function l n c) {cs} {p = p} s e = go (top_of hs Kind.function p.heights c) refl e
+fails_there {hs} {m} (Const.function l n c) {cs} {p = p} s e = go (top_of hs Function p.heights c) refl e
   where
-    go : (t : Top) → top_of hs Kind.function p.heights c ≡ t → top_answer t p (length c) ≡ None → judged hs m (Const.function l n c ∷ cs) ≡ Verdict.fails (suc (length cs))
+    go : (t : Top) → top_of hs Function p.heights c ≡ t → top_answer t p (length c) ≡ None → judged hs m (Const.function l n c ∷ cs) ≡ Verdict.fails (suc (length cs))
     go (Top.top k) g e = not_fails e
-    go Top.fails g e = judged_more hs m (Const.function l n c) cs s.passed ∙ ap (λ t. also t (suc (length cs)) s.tops) (ap (λ h. top_of hs Kind.function h c) s.heights ∙ g)
+    go Top.fails g e = judged_more hs m (Const.function l n c) cs s.passed ∙ ap (λ t. also t (suc (length cs)) s.tops) (ap (λ h. top_of hs Function h c) s.heights ∙ g)
 
 -- The loop
 

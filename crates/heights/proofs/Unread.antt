@@ -8,7 +8,8 @@ use Rattle.definition.specs.Opcode.{Instr}
 use Rattle.definition.specs.Bytecode.{Code, Const, Image}
 use Rattle.definition.specs.Decode.{Decoded, decoded, malformed, read_image}
 use Rattle.definition.specs.Basic.{Bytes}
-use Rattle.heights.specs.Judgement.{Placed, Reaches, Kind, Passes, ChunkOf, FirstFailing, Tops}
+use Rattle.heights.specs.Judgement.{Placed, Reaches, Passes, ChunkOf, FirstFailing, Tops}
+use Rattle.heights.specs.declared.chunk.Kind.{Kind}
 use Rattle.heights.specs.Pass.{Verdict, judged, verdict_answer, verdict_into, heights_answer, heights_into}
 use Rattle.heights.proofs.Verdicts.{Right, judged_right, greatest_once}
 

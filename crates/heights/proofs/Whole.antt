@@ -13,7 +13,7 @@ use Rattle.definition.proofs.Images.{write-image}
 use Rattle.definition.proofs.Places.{image_within}
 use Rattle.listing.specs.Reads.{ImageAt}
 use Rattle.listing.proofs.Images.{parts}
-use Rattle.heights.specs.Judgement.{Kind}
+use Rattle.heights.specs.declared.chunk.Kind.TheVariants.{Main}
 use Rattle.heights.specs.Pass.{Top, top_of, Verdict, also, judged}
 use Rattle.heights.specs.Marks.{ChunkReady}
 use Rattle.heights.specs.Chunks.{top_answer, top_into, pool_answer, Judges, PoolReady, SoFar, PoolJudges}
@@ -24,7 +24,7 @@ use Rattle.heights.proofs.Judges.{not_on, blank_later}
 use Rattle.heights.proofs.Pools.{not_fails, judged_failed}
 
 -- main alone
-judged_main : (hs : List ℕ) (m : Image) → judged hs m [] ≡ also (top_of hs Kind.main 0 m.code) 0 []
+judged_main : (hs : List ℕ) (m : Image) → judged hs m [] ≡ also (top_of hs Main 0 m.code) 0 []
 unfolding judged
 judged_main hs m = refl
 
@@ -51,14 +51,14 @@ module _ (b : Bytes) (a : AreBytes b) {m : Image} (i : ImageAt b m) {len : ℕ} 
         omega arith,
       )
 
-  module _ (hs out : List ℕ) {r : Option Progress} {out₁ l : List ℕ} (j : Judges (3 + len) (top_answer (top_of hs Kind.main 0 m.code) none (length m.code)) (top_into (top_of hs Kind.main 0 m.code) 0 out) r out₁ l) where
+  module _ (hs out : List ℕ) {r : Option Progress} {out₁ l : List ℕ} (j : Judges (3 + len) (top_answer (top_of hs Main 0 m.code) none (length m.code)) (top_into (top_of hs Main 0 m.code) 0 out) r out₁ l) where
     -- main fails
     pub main_fails : r ≡ None → {o : List ℕ} → PoolJudges hs m m.pool out (Err 0) o
     main_fails f =
-        let d = all m.pool (first (top_of hs Kind.main 0 m.code) refl (sym j.answers ∙ f)) in
+        let d = all m.pool (first (top_of hs Main 0 m.code) refl (sym j.answers ∙ f)) in
         record { answers = sym (ap pool_answer d); stores = λ ns q. never (sym d ∙ q) }
       where
-        first : (t : Top) → top_of hs Kind.main 0 m.code ≡ t → top_answer t none (length m.code) ≡ None → judged hs m [] ≡ Verdict.fails 0
+        first : (t : Top) → top_of hs Main 0 m.code ≡ t → top_answer t none (length m.code) ≡ None → judged hs m [] ≡ Verdict.fails 0
         first (Top.top n) g q = not_fails q
         first Top.fails g q = judged_main hs m ∙ ap (λ t. also t 0 []) g
 
@@ -72,9 +72,9 @@ module _ (b : Bytes) (a : AreBytes b) {m : Image} (i : ImageAt b m) {len : ℕ} 
     module _ {p : Progress} (f : r ≡ Some p) where
       -- main passes
       pub main_passes : SoFar hs m [] out out₁ p
-      main_passes = go (top_of hs Kind.main 0 m.code) refl (sym j.answers ∙ f) j.stores
+      main_passes = go (top_of hs Main 0 m.code) refl (sym j.answers ∙ f) j.stores
         where
-          go : (t : Top) → top_of hs Kind.main 0 m.code ≡ t → top_answer t none (length m.code) ≡ Some p → out₁ ≡ top_into t 0 out → SoFar hs m [] out out₁ p
+          go : (t : Top) → top_of hs Main 0 m.code ≡ t → top_answer t none (length m.code) ≡ Some p → out₁ ≡ top_into t 0 out → SoFar hs m [] out out₁ p
           go (Top.top n) g q s =
               let i : ◌≡◌ {A = Progress} (record { chunks = 0 + 1; heights = 0 + length m.code }) p = cc in
               record {
@@ -100,7 +100,7 @@ module _ (b : Bytes) (a : AreBytes b) {m : Image} (i : ImageAt b m) {len : ℕ} 
           }
         where
           one : {ns : List ℕ} → judged hs m [] ≡ Verdict.tops ns → length ns ≡ 1
-          one {ns} g = go (top_of hs Kind.main 0 m.code) (sym (judged_main hs m) ∙ g)
+          one {ns} g = go (top_of hs Main 0 m.code) (sym (judged_main hs m) ∙ g)
             where
               go : (t : Top) → also t 0 [] ≡ Verdict.tops ns → length ns ≡ 1
               go (Top.top n) q = let i : n ∷ [] ≡ ns = cc in sym (ap length i)

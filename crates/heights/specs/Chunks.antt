@@ -5,7 +5,8 @@ use Rattle.definition.specs.Basic.{Bytes, byte_at}
 use Rattle.definition.specs.Field.{head}
 use Rattle.definition.specs.Bytecode.{Const, Image}
 use Rattle.listing.specs.Reads.{ConstantAt, HasPool}
-use Rattle.heights.specs.Judgement.{Kind, counted}
+use Rattle.heights.specs.Judgement.{counted}
+use Rattle.heights.specs.declared.chunk.Kind.TheVariants.{Function}
 use Rattle.heights.specs.Pass.{Top, top_of, Verdict, judged}
 use Rattle.heights.specs.Marks.{Blank}
 use Rattle.heights.specs.declared.image.Progress.{Progress}
@@ -24,13 +25,13 @@ top_into Top.fails at out = out
 abbrev pub constant_answer : List ℕ → Const → Progress → Option Progress
 constant_answer hs (Const.integer b) p = Some p
 constant_answer hs (Const.string b) p = Some p
-constant_answer hs (Const.function l n c) p = top_answer (top_of hs Kind.function p.heights c) p (length c)
+constant_answer hs (Const.function l n c) p = top_answer (top_of hs Function p.heights c) p (length c)
 
 -- the output afterwards
 abbrev pub constant_into : List ℕ → Const → Progress → List ℕ → List ℕ
 constant_into hs (Const.integer b) p out = out
 constant_into hs (Const.string b) p out = out
-constant_into hs (Const.function l n c) p out = top_into (top_of hs Kind.function p.heights c) p.chunks out
+constant_into hs (Const.function l n c) p out = top_into (top_of hs Function p.heights c) p.chunks out
 
 -- all chunks
 abbrev pub pool_answer : Verdict → Result ℕ ℕ

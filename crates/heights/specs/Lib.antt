@@ -3,3 +3,4 @@ pub mod Pass
 pub mod Marks
 pub mod Chunks
 pub mod Proposal
+pub mod Lent

@@ -8,7 +8,9 @@ use Rattle.definition.specs.Decode.{Decoded, decoded, malformed}
 use Rattle.definition.specs.Effect.{takes, gives, flow_of, falls, leaps}
 use Rattle.definition.specs.Output.{output_answer, output_after}
 use Rattle.definition.specs.Answer.{Answer}
-use Rattle.heights.specs.Judgement.{Kind, counted}
+use Rattle.heights.specs.Judgement.{counted}
+use Rattle.heights.specs.declared.chunk.Kind.{Kind}
+use Rattle.heights.specs.declared.chunk.Kind.TheVariants.{Main, Function}
 
 -- what arrives at each position: 0 nothing, 1 no way from the start, h + 2 the height h
 abbrev pub Marks : Type 0
@@ -87,8 +89,8 @@ pass hs first n (i ∷ c) =
 
 -- the most that may arrive at the end
 abbrev pub lastly : Kind → ℕ
-lastly Kind.main = 2
-lastly Kind.function = 1
+lastly Main = 2
+lastly Function = 1
 
 -- the greatest height of a chunk that passes
 pub data Top : Type 0 where
@@ -111,7 +113,7 @@ also Top.fails place ns = Verdict.fails place
 abbrev pub judged_const : List ℕ → Image → List Const → Const → List ℕ → Verdict
 judged_const hs m cs (Const.integer b) ns = Verdict.tops ns
 judged_const hs m cs (Const.string b) ns = Verdict.tops ns
-judged_const hs m cs (Const.function l p c) ns = also (top_of hs Kind.function (counted m cs) c) (suc (length cs)) ns
+judged_const hs m cs (Const.function l p c) ns = also (top_of hs Function (counted m cs) c) (suc (length cs)) ns
 
 abbrev pub further : Verdict → (List ℕ → Verdict) → Verdict
 further (Verdict.tops ns) k = k ns
@@ -119,7 +121,7 @@ further (Verdict.fails place) k = Verdict.fails place
 
 -- main and the constants of a pool, its last first
 unfoldable pub judged : List ℕ → Image → List Const → Verdict
-judged hs m [] = also (top_of hs Kind.main 0 m.code) 0 []
+judged hs m [] = also (top_of hs Main 0 m.code) 0 []
 judged hs m (x ∷ cs) = further (judged hs m cs) (judged_const hs m cs x)
 
 -- the chunk fails, or the list that is answered

@@ -26,9 +26,8 @@ pub record Proposed (n end : ℕ) (o₀ : List ℕ) (r : ℕ) (o : List ℕ) : T
   pub rest : drop r o ≡ drop r o₀
 
 -- an instruction to go over
-pub record FlowSpot (l : List ℕ) (start end at next op : ℕ) : Type 0 where
+pub record FlowSpot (l : List ℕ) (start end at next : ℕ) : Type 0 where
   pub from : start ≤ at
-  pub known : op < 30
   pub behind : at < next
   pub within : next ≤ end
   pub room : end < length l

@@ -1,4 +1,5 @@
 // One forward pass over a chunk. A mark says what arrives at an offset of the image: 0 nothing, 1 no way from the chunk's start, h + 2 the height h.
+// Kept: marks are numbers: an enum of the three takes eight bytes for four, and calls 256 KB of stack more than include/monkey.h promises.
 ghost use Rattle.std.specs.Prelude.{true, ◌≡◌, ℕ, ◌+◌, ◌-◌, ◌<◌, ◌≤◌, leb, ltb, length, get_or};
 ghost use Rattle.definition.specs.Basic.{pick, both};
 ghost use Rattle.definition.specs.Effect.{takes as taken};
@@ -7,7 +8,7 @@ ghost use Rattle.heights.specs.Pass.{agree as agreeing, behind as after, free as
 ghost use Rattle.definition.specs.Bytecode.{Code};
 ghost use Rattle.listing.specs.Reads.{CodeIn};
 ghost use Rattle.heights.specs.Marks.{with_arrival, Spot, Stepped, PassReady, PassEnds, ChunkReady, ChunkEnds};
-ghost use Rattle.heights.specs.Judgement.{Kind};
+ghost use Rattle.heights.specs.Lent.{Keeps};
 
 use crate::effect::{falls, gives, leaps, takes};
 use bytecode::Span;
@@ -18,6 +19,25 @@ use opcode::Instruction;
 pub struct ChunkTop {
     pub top: u32,
     pub heights: usize,
+}
+
+// The kinds of chunks.
+#[derive(Clone, Copy)]
+pub enum Kind {
+    Main,
+    Function,
+}
+
+impl Kind {
+    // The most that may arrive at the end: height 0 at that of main, no way at a function's.
+    pub fn last(self) -> u32
+        ensures { result ≡ lastly self }
+    {
+        match self {
+            Kind::Main => 2,
+            Kind::Function => 1,
+        }
+    }
 }
 
 // Whether two arrivals do not bring two heights.
@@ -40,7 +60,6 @@ fn arrive(marks: &mut [u32], at: usize, level: u32) -> bool
 
 // Whether what arrives has the height offered, and the instruction takes no more.
 fn fits(i: Instruction, level: u32, offered: u32) -> bool
-    requires { i.op < 30 }
     ensures { result ≡ fitting (instr_of i) level offered }
 {
     level <= 1 || level - 2 == offered && takes(i) <= level - 2
@@ -56,7 +75,7 @@ fn free(marks: &[u32], at: usize, width: usize) -> bool
 
 // What arrives behind an instruction.
 fn behind(i: Instruction, level: u32) -> u32
-    requires { (i.op < 30) × (level ≤ 100000) × (1 < level → 2 + taken (instr_of i) ≤ level) }
+    requires { (level ≤ 100000) × (1 < level → 2 + taken (instr_of i) ≤ level) }
     ensures { result ≡ after (instr_of i) level }
 {
     if level <= 1 {
@@ -66,6 +85,7 @@ fn behind(i: Instruction, level: u32) -> u32
     }
 }
 
+// Kept: six parameters, since it is public, and the check and the proposal call it, each with the marks of a struct of its own.
 // Go on at the target of a jump, which must lie before the end and not before the next instruction.
 pub fn leap(marks: &mut [u32], jumps: bool, next: usize, end: usize, to: usize, level: u32) -> bool
     requires { end < length marks.old }
@@ -84,33 +104,6 @@ pub fn fall(marks: &mut [u32], goes: bool, next: usize, level: u32) -> bool
     !goes || arrive(marks, next, level)
 }
 
-// One instruction of a chunk; whether it passes.
-fn step(
-    marks: &mut [u32],
-    code: Span<'_>,
-    at: usize,
-    next: usize,
-    i: Instruction,
-    offered: u32,
-) -> bool
-    requires { Spot marks.old code.start code.end at next (instr_of i) }
-    ensures { Stepped marks.old code.entry.start code.entry.end at offered (instr_of i) result marks.new }
-{
-    let level = marks[at];
-    if !fits(i, level, offered) {
-        return false;
-    }
-    if !free(marks, at, next - at - 1) {
-        return false;
-    }
-    let after = behind(i, level);
-    let to = code.start + i.operand as usize;
-    if !leap(marks, leaps(i.op), next, code.end, to, after) {
-        return false;
-    }
-    fall(marks, falls(i.op), next, after)
-}
-
 // The height of a level.
 pub fn height(level: u32) -> u32
     ensures { result ≡ level - 2 }
@@ -118,25 +111,68 @@ pub fn height(level: u32) -> u32
     level.saturating_sub(2)
 }
 
+// What the check of a chunk is lent: the marks, and the code that it goes over.
+#[derive(Drop)]
+struct Checker<'a> {
+    marks: &'a mut [u32],
+    code: Span<'a>,
+}
+
+impl<'a> Checker<'a> {
+    // One instruction; whether it passes.
+    fn step(&mut self, at: usize, next: usize, i: Instruction, offered: u32) -> bool
+        requires { Spot self.old.marks.now self.old.code.start self.old.code.end at next (instr_of i) }
+        ensures steps { Stepped self.old.marks.now self.old.code.start self.old.code.end at offered (instr_of i) result self.new.marks.now }
+        ensures lent { Keeps self.old self.new }
+    {
+        let marks = &mut *self.marks;
+        let level = marks[at];
+        if !fits(i, level, offered) {
+            return false;
+        }
+        if !free(marks, at, next - at - 1) {
+            return false;
+        }
+        let after = behind(i, level);
+        let Span { start, end, .. } = self.code;
+        let to = start + i.operand as usize;
+        if !leap(marks, leaps(i.op), next, end, to, after) {
+            return false;
+        }
+        fall(marks, falls(i.op), next, after)
+    }
+
+    // The instructions, with the heights from `first` on.
+    fn go(&mut self, heights: &[u32], first: usize) -> Option<ChunkTop>
+        requires { PassReady self.old.marks.now self.old.code.bytes.now self.old.code.start self.old.code.end }
+        ensures passes { (c : Code) → CodeIn self.old.code c → PassEnds heights.now first (self.old.code.end - self.old.code.start) self.old.code.start c result self.new.marks.now }
+        ensures same { self.new.marks.ghost_name ≡ self.old.marks.ghost_name }
+    {
+        // Kept: a count beside the iterator, since the count is part of the answer, and `enumerate` keeps its own.
+        let mut k = first;
+        let mut top = 0u32;
+        for (at, i, next) in self.code.instructions() {
+            if heights.len() <= k {
+                return None;
+            }
+            let level = self.marks[at];
+            if !self.step(at, next, i, heights[k]) {
+                return None;
+            }
+            top = top.max(height(level));
+            k += 1;
+        }
+        Some(ChunkTop { top, heights: k })
+    }
+}
+
 // The instructions of a chunk, with the heights from `first` on.
 pub fn pass(marks: &mut [u32], code: Span<'_>, heights: &[u32], first: usize) -> Option<ChunkTop>
     requires { PassReady marks.old code.bytes.now code.start code.end }
     ensures { (c : Code) → CodeIn code.entry c → PassEnds heights.now first (code.entry.end - code.entry.start) code.entry.start c result marks.new }
 {
-    let mut k = first;
-    let mut top = 0u32;
-    for (at, i, next) in code.instructions() {
-        if heights.len() <= k {
-            return None;
-        }
-        let level = marks[at];
-        if !step(marks, code, at, next, i, heights[k]) {
-            return None;
-        }
-        top = top.max(height(level));
-        k += 1;
-    }
-    Some(ChunkTop { top, heights: k })
+    let mut checker = Checker { marks, code };
+    checker.go(heights, first)
 }
 
 // A chunk, at whose end no more than `last` may arrive.

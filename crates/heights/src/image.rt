@@ -1,13 +1,13 @@
 // The chunks of an image, main first, then each function of its pool.
-ghost use Rattle.std.specs.Prelude.{List, [], ◌≡◌, ℕ, ◌<◌, length};
+ghost use Rattle.std.specs.Prelude.{List, [], ◌≡◌, ℕ, ◌<◌, length, replicate};
 ghost use Rattle.definition.specs.Bytecode.{Code, Const, Image};
 ghost use Rattle.listing.specs.Reads.{CodeIn, PoolIn, ImageAt, HasImage};
-ghost use Rattle.heights.specs.Judgement.{Kind};
-ghost use Rattle.heights.specs.Pass.{lastly, top_of};
+ghost use Rattle.heights.specs.Pass.{top_of};
 ghost use Rattle.heights.specs.Marks.{ChunkReady};
 ghost use Rattle.heights.specs.Chunks.{top_answer, top_into, constant_answer, constant_into, Judges, Standing, ConstantReady, PoolReady, SoFar, PoolJudges};
+ghost use Rattle.heights.specs.Lent.{Lent};
 
-use crate::chunk::check_chunk;
+use crate::chunk::{Kind, check_chunk};
 use bytecode::Span;
 use definition::output::store;
 use definition::tag;
@@ -20,75 +20,87 @@ pub struct Progress {
     pub heights: usize,
 }
 
-// Judges a chunk behind others; none where it fails.
-fn judge_chunk(
-    output: &mut [u32],
-    marks: &mut [u32],
-    code: Span<'_>,
-    heights: &[u32],
-    before: Progress,
-    last: u32,
-) -> Option<Progress>
-    requires { ChunkReady marks.old code.bytes.now code.start code.end × (before.chunks < 131072) }
-    ensures { (c : Code) → CodeIn code.entry c → (kind : Kind) → last ≡ lastly kind → Judges code.entry.end (top_answer (top_of heights.now kind before.heights c) before (length c)) (top_into (top_of heights.now kind before.heights c) before.chunks output.old) result output.new marks.new }
-{
-    let chunk = check_chunk(marks, code, heights, before.heights, last)?;
-    store(output, before.chunks, chunk.top);
-    Some(Progress {
-        chunks: before.chunks + 1,
-        heights: chunk.heights,
-    })
+// What judging is lent: the output, the marks and the heights.
+#[derive(Drop)]
+struct Judging<'a> {
+    output: &'a mut [u32],
+    marks: &'a mut [u32],
+    heights: &'a [u32],
 }
 
-// Judges a constant; none where its chunk fails.
-fn judge_constant(
-    output: &mut [u32],
-    marks: &mut [u32],
-    constant: Span<'_>,
-    heights: &[u32],
-    before: Progress,
-) -> Option<Progress>
-    requires { ConstantReady marks.old constant.bytes.now constant.start constant.end before }
-    ensures { (x : Const) → Standing constant.entry.bytes.now constant.entry.start constant.entry.end x → Judges constant.entry.end (constant_answer heights.now x before) (constant_into heights.now x before output.old) result output.new marks.new }
-{
-    let Span { bytes, start, end } = constant;
-    if bytes[start] != tag::FUNCTION_CONST {
-        return Some(before);
+impl<'a> Judging<'a> {
+    // Judges a chunk behind others; none where it fails.
+    fn judge_chunk(&mut self, code: Span<'_>, before: Progress, kind: Kind) -> Option<Progress>
+        requires { ChunkReady self.old.marks.now code.bytes.now code.start code.end × (before.chunks < 131072) }
+        ensures judges { (c : Code) → CodeIn code.entry c → Judges code.entry.end (top_answer (top_of self.old.heights.now kind before.heights c) before (length c)) (top_into (top_of self.old.heights.now kind before.heights c) before.chunks self.old.output.now) result self.new.output.now self.new.marks.now }
+        ensures lent { Lent self.old self.new }
+    {
+        let chunk = check_chunk(self.marks, code, self.heights, before.heights, kind.last())?;
+        store(self.output, before.chunks, chunk.top);
+        Some(Progress {
+            chunks: before.chunks + 1,
+            heights: chunk.heights,
+        })
     }
-    let start = start + 3 + 3;
-    judge_chunk(
-        output,
-        marks,
-        Span { bytes, start, end },
-        heights,
-        before,
-        1,
-    )
-}
 
-// Judges the constants of a pool: how many chunks there are, or the place of the first that fails.
-fn judge_pool(
-    output: &mut [u32],
-    marks: &mut [u32],
-    pool: Span<'_>,
-    heights: &[u32],
-    before: Progress,
-) -> Result<usize, usize>
-    requires { PoolReady marks.old pool.bytes.now pool.start pool.end before }
-    ensures { (cs : List Const) → PoolIn pool.entry cs → (m : Image) → (o : List ℕ) → SoFar heights.now m [] o output.old before → PoolJudges heights.now m cs o result output.new }
-{
-    let mut index = 0;
-    let mut progress = before;
-    for (start, end) in pool.constants() {
-        let constant = Span { start, end, ..pool };
-        let judged = judge_constant(output, marks, constant, heights, progress);
-        let Some(p) = judged else {
-            return Err(index + 1);
+    // Judges a constant; none where its chunk fails.
+    fn judge_constant(&mut self, constant: Span<'_>, before: Progress) -> Option<Progress>
+        requires { ConstantReady self.old.marks.now constant.bytes.now constant.start constant.end before }
+        ensures judges { (x : Const) → Standing constant.entry.bytes.now constant.entry.start constant.entry.end x → Judges constant.entry.end (constant_answer self.old.heights.now x before) (constant_into self.old.heights.now x before self.old.output.now) result self.new.output.now self.new.marks.now }
+        ensures lent { Lent self.old self.new }
+    {
+        let Span { bytes, start, end } = constant;
+        if bytes[start] != tag::FUNCTION_CONST {
+            return Some(before);
+        }
+        let start = start + 3 + 3;
+        self.judge_chunk(Span { bytes, start, end }, before, Kind::Function)
+    }
+
+    // Judges the constants of a pool: how many chunks there are, or the place of the first that fails.
+    fn judge_pool(&mut self, pool: Span<'_>, before: Progress) -> Result<usize, usize>
+        requires { PoolReady self.old.marks.now pool.bytes.now pool.start pool.end before }
+        ensures judges { (cs : List Const) → PoolIn pool.entry cs → (m : Image) → (o : List ℕ) → SoFar self.old.heights.now m [] o self.old.output.now before → PoolJudges self.old.heights.now m cs o result self.new.output.now }
+        ensures lent { Lent self.old self.new }
+    {
+        let mut progress = before;
+        for (index, (start, end)) in pool.constants().enumerate() {
+            let constant = Span { start, end, ..pool };
+            let Some(p) = self.judge_constant(constant, progress) else {
+                return Err(index + 1);
+            };
+            progress = p;
+        }
+        Ok(progress.chunks)
+    }
+
+    // Judges main and the pool of a sound image.
+    fn judge_image(&mut self, image: &[u8]) -> Result<usize, usize>
+        requires stands { HasImage image.now }
+        requires blank { self.old.marks.now ≡ replicate 65536 0 }
+        ensures judges { (m : Image) → ImageAt image.now m → PoolJudges self.old.heights.now m m.pool self.old.output.now result self.new.output.now }
+        ensures lent { Lent self.old self.new }
+    {
+        let end = 3 + length_at(image, 0);
+        let none = Progress {
+            chunks: 0,
+            heights: 0,
         };
-        progress = p;
-        index += 1;
+        let code = Span {
+            bytes: image,
+            start: 3,
+            end,
+        };
+        let Some(main) = self.judge_chunk(code, none, Kind::Main) else {
+            return Err(0);
+        };
+        let pool = Span {
+            bytes: image,
+            start: end + 3,
+            end: image.len(),
+        };
+        self.judge_pool(pool, main)
     }
-    Ok(progress.chunks)
 }
 
 // Judges main and the pool of a sound image, and stores the greatest heights as far as there is room: how many chunks there are, or the place of the
@@ -97,25 +109,11 @@ pub fn judge(output: &mut [u32], image: &[u8], heights: &[u32]) -> Result<usize,
     requires { HasImage image.now }
     ensures { (m : Image) → ImageAt image.now m → PoolJudges heights.now m m.pool output.old result output.new }
 {
-    let mut marks = [0u32; 65536];
-    let end = 3 + length_at(image, 0);
-    let none = Progress {
-        chunks: 0,
-        heights: 0,
+    let marks = &mut [0u32; 65536];
+    let mut judge = Judging {
+        output,
+        marks,
+        heights,
     };
-    let code = Span {
-        bytes: image,
-        start: 3,
-        end,
-    };
-    let judged = judge_chunk(output, &mut marks, code, heights, none, 2);
-    let Some(main) = judged else {
-        return Err(0);
-    };
-    let pool = Span {
-        bytes: image,
-        start: end + 3,
-        end: image.len(),
-    };
-    judge_pool(output, &mut marks, pool, heights, main)
+    judge.judge_image(image)
 }

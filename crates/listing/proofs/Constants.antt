@@ -4,15 +4,16 @@ use mathlib.Core.Path.{◌≡◌, ◌∙◌, ap, sym, subst}
 use mathlib.Core.List.{[], ◌++◌}
 use native.Mathlib.Omega.{arith}
 use lib.Dec.{eqb}
-use lib.ListN.{length}
+use lib.ListN.{length, take, drop}
 use borrow.Author.Tests.{eq-eqb, ne_eqb, eqb-true, leb-true}
 use Rattle.definition.specs.Basic.{Bytes, byte_at}
+use Rattle.definition.proofs.Bytes.{bytes_slice}
 use Rattle.definition.specs.Tag.{tag_integer_const, tag_string_const, tag_function_const}
 use Rattle.definition.specs.Field.{head, bytes}
 use Rattle.definition.specs.Bytecode.{Code, Const, size_of}
 use Rattle.definition.specs.Decode.{decoded, const_head, read_instr, read_function, read_content}
 use Rattle.definition.specs.Listing.{constant_fields, code_lines}
-use Rattle.bytecode.proofs.Heads.{both_true}
+use Rattle.definition.proofs.Basic.{both_true}
 use Rattle.bytecode.proofs.Items.{ended}
 use Rattle.bytecode.proofs.Fields.{Good, head_read, then_read}
 use Rattle.listing.specs.Reads.{CodeAt, ConstantAt, function_of, function_head}
@@ -32,26 +33,33 @@ module _ (b : Bytes) (at end : ℕ) {x : Const} (h : ConstantAt b at end x) wher
   pub constant_within : at + 3 + (head (byte_at b) at).len ≤ end
   constant_within = good.within
 
+  -- as a part of the bytes
+  slice : {k : ℕ} → k ≡ (head (byte_at b) at).len → end ≤ length b → take (at + 3 + k - (at + 3)) (drop (at + 3) b) ≡ bytes (byte_at b) (at + 3) len
+  slice {k} f w =
+      let n : at + 3 + k - (at + 3) ≡ len = omega (arith, f) in
+      ap (λ n. take n (drop (at + 3) b)) n ∙ sym (bytes_slice b (at + 3) len (omega (arith, good.within, w)))
+
   -- an integer
   module _ (e : byte_at b at ≡ tag_integer_const) where
     pub integer-length : (head (byte_at b) at).len ≡ 8
     integer-length = eqb-true len 8 (rw (eq-eqb (byte_at b at) tag_integer_const e) at good.is)
 
-    pub integer_is : constant_fields (Const.integer (bytes (byte_at b) (at + 3) 8)) ≡ constant_fields x
-    integer_is =
+    pub integer_is : {k : ℕ} → k ≡ (head (byte_at b) at).len → end ≤ length b → constant_fields (Const.integer (take (at + 3 + k - (at + 3)) (drop (at + 3) b))) ≡ constant_fields x
+    integer_is f w =
         let r : decoded (Const.integer (bytes (byte_at b) (at + 3) len)) (at + 3 + len) ≡ decoded x (at + 3 + len) = rw (eq-eqb (byte_at b at) tag_integer_const e) at content in
         let i : Const.integer (bytes (byte_at b) (at + 3) len) ≡ x = cc in
-        ap (λ n. constant_fields (Const.integer (bytes (byte_at b) (at + 3) n))) (sym integer-length) ∙ ap constant_fields i
+        ap (λ c. constant_fields (Const.integer c)) (slice f w) ∙ ap constant_fields i
 
   module _ (n : byte_at b at ≡ tag_integer_const → ⊥) where
     -- a string
-    pub string_is : {k : ℕ} → k ≡ (head (byte_at b) at).len → byte_at b at ≡ tag_string_const → constant_fields (Const.string (bytes (byte_at b) (at + 3) k)) ≡ constant_fields x
-    string_is f e =
+    pub string_is : {k : ℕ} → k ≡ (head (byte_at b) at).len → end ≤ length b → byte_at b at ≡ tag_string_const
+        → constant_fields (Const.string (take (at + 3 + k - (at + 3)) (drop (at + 3) b))) ≡ constant_fields x
+    string_is f w e =
         let r : decoded (Const.string (bytes (byte_at b) (at + 3) len)) (at + 3 + len) ≡ decoded x (at + 3 + len) =
         rw (ne_eqb (byte_at b at) tag_integer_const n, eq-eqb (byte_at b at) tag_string_const e) at content
         in
         let i : Const.string (bytes (byte_at b) (at + 3) len) ≡ x = cc in
-        ap (λ n. constant_fields (Const.string (bytes (byte_at b) (at + 3) n))) f ∙ ap constant_fields i
+        ap (λ c. constant_fields (Const.string c)) (slice f w) ∙ ap constant_fields i
 
     -- a function
     pub record Function (k : ℕ) : Type 0 where

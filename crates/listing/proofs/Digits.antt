@@ -1,12 +1,14 @@
 -- Decimal digits: their last one, and how many there are.
-use Prim.Native.Nat.{ℕ, zero, suc, ◌+◌, ◌-◌, ◌/◌, ◌%◌, ◌≤◌, ◌<◌}
+use Prim.Native.Nat.{ℕ, zero, suc, ◌+◌, ◌-◌, ◌*◌, ◌/◌, ◌%◌, ◌^◌, ◌≤◌, ◌<◌}
+use native.Mathlib.Nat.{pow-zero, pow-suc, one-le-pow}
 use mathlib.Core.Bool.{Bool, true, false}
 use native.Mathlib.Omega.{arith}
-use mathlib.Core.Path.{◌≡◌, refl, ap, ◌∙◌}
+use mathlib.Core.Path.{◌≡◌, refl, sym, ap, ◌∙◌}
 use mathlib.Core.List.{[], ◌∷◌, ◌++◌}
 use lib.Dec.{ltb}
 use lib.ListN.{length, replicate, length-append, length-replicate}
 use borrow.Author.Tests.{lt-ltb, le-ltb}
+use Rattle.std.specs.Prelude.{Option, Some, None, MatchOption, IfSome, IfNone}
 use Rattle.definition.specs.Basic.{pick}
 use Rattle.definition.specs.Text.{digit, digits, decimal, padded}
 
@@ -80,28 +82,22 @@ no_zero n l =
     let e : 0 ≡ 4 - length (decimal n) = omega (arith, longer 19 n (omega arith), longer 18 (n / 10) (omega arith), longer 17 (n / 10 / 10) (omega arith), some 16 (n / 10 / 10 / 10)) in
     ap (λ j. replicate j (digit 0)) e
 
--- digits counted one a turn: so many of them, and those of the rest
-pub record Counting (n rest count : ℕ) : Type 0 where
-  pub low : 1 ≤ count
-  pub high : count ≤ 20
-  pub same : length (decimal n) + 1 ≡ count + length (digits (21 - count) rest)
+-- one digit for nothing, and one more than the power of ten that a number has
+sized_none : (n : ℕ) → n ≡ 0 → 1 ≡ length (decimal n)
+sized_none n e = sym (ap length (few 19 n (omega arith)))
 
-pub counting_begins : (n : ℕ) → Counting n n 1
-counting_begins n = record { low = omega arith; high = omega arith; same = omega arith }
+sized : (k m n : ℕ) → k ≤ m → 10 ^ k ≤ n → n < 10 * 10 ^ k → length (digits (suc m) n) ≡ k + 1
+sized zero m n l h g = ap length (few m n (omega (arith, pow-zero 10)))
+sized (suc k) zero n l h g = absurd (omega arith)
+sized (suc k) (suc m) n l h g =
+    let p = one-le-pow k 10 (omega arith) in
+    let q = pow-suc 10 k in
+    omega (arith, longer (suc m) n (omega arith), sized k m (n / 10) (omega arith) (omega arith) (omega arith))
 
-module _ {n rest count : ℕ} (h : Counting n rest count) where
-  pub counting_again : count < 20 → 10 ≤ rest → Counting n (rest / 10) (count + 1)
-  counting_again l t =
-      let e : 21 - count ≡ suc (21 - (count + 1)) = omega arith in
-      record { low = omega arith; high = omega arith; same = omega (arith, h.same, ap (λ m. length (digits m rest)) e, longer (21 - (count + 1)) rest t) }
-
-  pub counting_few : rest < 10 → count ≡ length (decimal n)
-  counting_few t =
-      let e : 21 - count ≡ suc (20 - count) = omega (arith, h.high) in
-      omega (arith, h.same, ap (λ m. length (digits m rest)) e, ap length (few (20 - count) rest t))
-
-  pub counting_full : 20 ≤ count → count ≡ length (decimal n)
-  counting_full t = let e : 21 - count ≡ 1 = omega (arith, h.high) in omega (arith, h.same, ap (λ m. length (digits m rest)) e, last rest)
+pub sized_by : (n : ℕ) {r : ℕ} {one : ℕ → Type 0} (log : Option ℕ) → IfNone log (n ≡ 0) → IfSome log (λ k. 10 ^ k ≤ n) → IfSome log (λ k. n < 10 * 10 ^ k) → IfSome log (λ k. k < 20)
+    → MatchOption log (r ≡ 1) one → ((k : ℕ) → one k → r ≡ k + 1) → r ≡ length (decimal n)
+sized_by n None z h g l e next = e ∙ sized_none n z
+sized_by n (Some k) z h g l e next = next k e ∙ sym (sized k 19 n (omega arith) h g)
 
 -- the length of a number of at least four digits, by its size
 pub padded_few : (n : ℕ) → n < 10000 → 4 ≡ length (padded n)

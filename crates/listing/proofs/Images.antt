@@ -20,7 +20,7 @@ use Rattle.definition.specs.declared.reason.Refusal.{Refusal}
 use Rattle.std.specs.Prelude.{Ok, Err, Result}
 use Rattle.session.proofs.Stores.{sets_over}
 use Rattle.bytecode.specs.Checked.{constants}
-use Rattle.bytecode.proofs.Heads.{both_true}
+use Rattle.definition.proofs.Basic.{both_true}
 use Rattle.bytecode.proofs.Items.{ended, unlike}
 use Rattle.bytecode.proofs.Fields.{main_content, pool_content, head_read, then_read}
 use Rattle.listing.specs.declared.measure.MeasuredImage.{MeasuredImage}

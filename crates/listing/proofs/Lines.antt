@@ -16,7 +16,8 @@ use Rattle.opcode.specs.Decoding.{instr_of, read_before, decode_answer}
 use Rattle.std.specs.Prelude.{Result, Ok, Err}
 use Rattle.opcode.specs.declared.Decoded.{Decoded as Found}
 use Rattle.definition.specs.declared.reason.Refusal.{Refusal}
-use Rattle.opcode.proofs.Decoding.{both_left, both_right, before_within, answered, unanswered}
+use Rattle.opcode.proofs.Decoding.{before_within, answered, unanswered}
+use Rattle.definition.proofs.Basic.{both_left, both_right}
 use Rattle.bytecode.proofs.Items.{unlike}
 use Rattle.listing.specs.Put.{Puts, per_byte}
 use Rattle.listing.specs.Reads.{CodeAt, HasCode}
@@ -25,15 +26,6 @@ use Rattle.listing.proofs.Items.{Reading, begins, ends, Next, next, all_read, en
 
 -- the operands, by their number of bytes
 module _ (a b : ℕ) where
-  pub no_operand : {w : ℕ} → w ≡ 0 → [] ≡ operand_fields w a b
-  no_operand e = sym (ap (λ w. operand_fields w a b) e)
-
-  pub one_operand : (w : ℕ) → (w ≡ 0 → ⊥) → w < 3 → also (decimal a) ≡ operand_fields w a b
-  one_operand zero n h = absurd (n refl)
-  one_operand (suc zero) n h = refl
-  one_operand (suc (suc zero)) n h = refl
-  one_operand (suc (suc (suc w))) n h = absurd (omega arith)
-
   pub two_operands : (w : ℕ) → 3 ≤ w → also (decimal a) ++ also (decimal b) ≡ operand_fields w a b
   two_operands zero h = absurd (omega arith)
   two_operands (suc zero) h = absurd (omega arith)

@@ -5,9 +5,10 @@ use mathlib.Core.Bool.{true}
 use mathlib.Core.List.{List, [], ◌∷◌, ◌++◌}
 use native.Mathlib.Omega.{arith}
 use lib.Dec.{leb, eqb}
-use lib.ListN.{length, length-append}
+use lib.ListN.{length, take, drop, length-append}
 use borrow.Author.Tests.{eq-eqb, ne_eqb, eqb-true, leb-true}
 use Rattle.definition.specs.Basic.{Bytes, byte_at}
+use Rattle.definition.proofs.Bytes.{bytes_slice}
 use Rattle.definition.specs.Limit.{code_size, pool_limit, constants_limit}
 use Rattle.definition.specs.Tag.{tag_main, tag_pool, tag_integer_const, tag_string_const, tag_function_const}
 use Rattle.definition.specs.Field.{head, bytes}
@@ -17,10 +18,10 @@ use Rattle.definition.specs.Bytecode.{Code, Const, size_of}
 use Rattle.definition.specs.Decode.{Decoded, decoded, malformed, main_head, read_instr, read_code, read_const, read_function, read_content, read_pool, read_image}
 use Rattle.definition.specs.Listing.{code_line, code_lines, constant_fields, constant_lines, listing}
 use Rattle.opcode.specs.Decoding.{size_at}
-use Rattle.opcode.proofs.Decoding.{stands, both_left}
+use Rattle.opcode.proofs.Decoding.{stands}
+use Rattle.definition.proofs.Basic.{both_left, both_true}
 use Rattle.bytecode.specs.Checked.{head_of, is_constant, is_pool, is_main, constants, main_code}
 use Rattle.bytecode.specs.declared.Form.TheVariants.{Plain}
-use Rattle.bytecode.proofs.Heads.{both_true}
 use Rattle.bytecode.proofs.Items.{ended}
 use Rattle.bytecode.proofs.Fields.{main_content, head_read, const_end, const_ends}
 use Rattle.bytecode.proofs.Instructions.{CodeRead, reads_begin, reads_end, reads_wrong, reads_again}
@@ -82,9 +83,6 @@ module _ (b : Bytes) (start end : ℕ) where
       code_wrong e len k = sym (ap code_measured (reads_wrong (byte_at b) start end l.read before e len k))
 
       module _ {size : ℕ} (e : Some size ≡ size_at (byte_at b) at end) where
-        pub code_within : (0 < size) × (at + size ≤ end)
-        code_within = let k = stands (byte_at b) at end e in (omega (arith, k.is), k.within)
-
         pub code-instr : end ≤ length b → InstrAt b at size
         code-instr w =
             let k = stands (byte_at b) at end e in
@@ -107,9 +105,6 @@ module _ (b : Bytes) (start end : ℕ) where
 
 -- a function's code decides
 module _ (b : Bytes) (from len : ℕ) {r : Result Measured Malformed} (e : r ≡ code_measured (read_code (byte_at b) len (from + 3) (from + len))) where
-  pub function_wrong : {x : Malformed} → r ≡ Err x → Err x ≡ constant_measured (read_function (byte_at b) from len)
-  function_wrong w = rw (measured_wrong code_lines (read_code (byte_at b) len (from + 3) (from + len)) e w)
-
   pub function_good : {v : Measured} {h : ℕ} {l p : ℕ} → r ≡ Ok v → 3 ≤ len → l ≡ byte_at b from * 256 + byte_at b (from + 1) → p ≡ byte_at b (from + 2)
       → h ≡ length (function_head l p (len - 3)) → good (h + v.text) v.end ≡ constant_measured (read_function (byte_at b) from len)
   function_good {v} {h} {l} {p} w long i j k =
@@ -130,11 +125,12 @@ module _ (b : Bytes) (from : ℕ) (h : Head) (sound : is_constant Plain (head_of
   pub integer_long : h.tag ≡ tag_integer_const → h.len ≡ 8
   integer_long e = eqb-true h.len 8 (rw (eq-eqb h.tag tag_integer_const e) at sound)
 
-  pub integer_good : {t : ℕ} → h.tag ≡ tag_integer_const → t ≡ length (constant_fields (Const.integer (bytes (byte_at b) from 8)))
+  pub integer_good : {t : ℕ} → h.tag ≡ tag_integer_const → from + h.len ≤ length b → t ≡ length (constant_fields (Const.integer (take (from + h.len - from) (drop from b))))
       → good t (from + h.len) ≡ constant_measured (read_content (byte_at b) (head_of h) from)
-  integer_good e k =
-      rw (eq-eqb h.tag tag_integer_const e)
-      (ap (λ (x : ℕ). good x (from + h.len)) (k ∙ ap (λ n. length (constant_fields (Const.integer (bytes (byte_at b) from n)))) (sym (integer_long e))))
+  integer_good e w k =
+      let n : from + h.len - from ≡ h.len = omega arith in
+      let i = ap (λ n. take n (drop from b)) n ∙ sym (bytes_slice b from h.len w) in
+      rw (eq-eqb h.tag tag_integer_const e) (ap (λ (x : ℕ). good x (from + h.len)) (k ∙ ap (λ c. length (constant_fields (Const.integer c))) i))
 
   module _ (n : h.tag ≡ tag_integer_const → ⊥) where
     pub string_good : {t : ℕ} → h.tag ≡ tag_string_const → t ≡ length (constant_fields (Const.string (bytes (byte_at b) from h.len)))

@@ -1,67 +1,70 @@
 -- Big-endian numbers, signs, and bytes in hexadecimal.
-use Prim.Native.Nat.{ℕ, zero, suc, ◌+◌, ◌-◌, ◌*◌, ◌/◌, ◌%◌, ◌≤◌, ◌<◌}
+use Prim.Native.Nat.{ℕ, suc, ◌+◌, ◌-◌, ◌*◌, ◌^◌, ◌≤◌, ◌<◌}
+use mathlib.Core.Bool.{Bool, true, false}
 use native.Mathlib.Omega.{arith}
-use mathlib.Core.Path.{◌≡◌, refl, sym, ap, ◌∙◌}
+use mathlib.Core.Path.{◌≡◌, refl, sym, ap, subst, ◌∙◌}
 use mathlib.Core.List.{[], ◌∷◌, ◌++◌}
 use lib.ListN.{length, drop, get_or}
-use lib.Seq.{drop-cons}
+use lib.Dec.{ltb}
+use lib.Seq.{drop-cons, take-length}
 use native.Mathlib.Numerals.{add-one}
-use borrow.Author.Tests.{lt-ltb, le-ltb}
-use Rattle.definition.specs.Basic.{Bytes}
+use borrow.Author.Tests.{lt-ltb, le-ltb, ltb-true, ltb-false}
+use Rattle.std.specs.Prelude.{ℤ, unsigned_abs}
+use Rattle.std.specs.Int.{cast_signed, cast_unsigned, is_negative, w64}
+use Rattle.std.proofs.lemmas.Int.{to_z_pos, of_z-to_z}
+use Rattle.std.proofs.Math.Facts.{to_z-neg}
+use Rattle.definition.specs.Basic.{Bytes, byte_at}
+use Rattle.definition.proofs.Bytes.{bytes_slice}
 use Rattle.definition.specs.Field.{bytes}
-use Rattle.definition.specs.Text.{ascii, decimal, number, signed, hex_digit, hex}
+use Rattle.definition.specs.Text.{ascii, decimal, number, signed, hex}
 use Rattle.definition.specs.Listing.{hex_field}
 
-module _ (byte : ℕ → ℕ) (at : ℕ) where
-  -- a number of four bytes, from two numbers of two
-  -- its sign is that of its first byte
-  module _ {n : ℕ} (e : n ≡ number 0 (bytes byte at 8)) where
-    pub positive : byte at < 128 → decimal n ≡ signed (bytes byte at 8)
-    positive h = rw (lt-ltb (byte at) 128 h, ← e)
+-- eight bytes in two's complement: the sign is that of the first byte
+module _ (b : Bytes) (long : length b ≡ 8) (below : (i : ℕ) → byte_at b i < 256) where
+  eight : number 0 b ≡ number 0 (bytes (byte_at b) 0 8)
+  eight = sym (ap (number 0) (ap (bytes (byte_at b) 0) (sym long) ∙ bytes_slice b 0 (length b) (omega arith) ∙ take-length b))
 
-    pub above_zero : 128 ≤ byte at → 1 ≤ n
-    above_zero h = omega arith
+  -- the text of a number, by its sign
+  pub record Shown (z : ℤ) : Type 0 where
+    pub negative : is_negative z ≡ true → ascii "-" ++ decimal (unsigned_abs z) ≡ signed b
+    pub positive : is_negative z ≡ false → decimal (unsigned_abs z) ≡ signed b
 
-    pub negative : 128 ≤ byte at → n < 18446744073709551616 → ascii "-" ++ decimal (18446744073709551615 - n + 1) ≡ signed (bytes byte at 8)
-    negative h l =
-        let s : 18446744073709551615 - n + 1 ≡ 18446744073709551616 - n = omega arith in
-        rw (le-ltb (byte at) 128 h, ← e, s)
+  small : number 0 b < 2 ^ 64
+  small = omega (arith, eight, below 0, below 1, below 2, below 3, below 4, below 5, below 6, below 7)
+
+  pub shown : {z : ℤ} → z ≡ cast_signed w64 (number 0 b) → Shown (cast_signed w64 (cast_unsigned w64 z))
+  shown e = subst Shown (sym (ap (cast_signed w64) (ap (cast_unsigned w64) e ∙ of_z-to_z w64 (number 0 b) small))) (go (ltb (number 0 b) (2 ^ 63)) refl)
+    where
+      go : (t : Bool) → ltb (number 0 b) (2 ^ 63) ≡ t → Shown (cast_signed w64 (number 0 b))
+      go true t =
+          let h = ltb-true (number 0 b) (2 ^ 63) t in
+          let l : byte_at b 0 < 128 = omega (arith, eight, h) in
+          subst Shown (sym (to_z_pos w64 (number 0 b) h)) (record { negative = λ x. absurd (omega (arith, ltb-true (number 0 b) 0 x)); positive = λ x. rw (lt-ltb (byte_at b 0) 128 l) })
+      go false t =
+          let h = ltb-false (number 0 b) (2 ^ 63) t in
+          let l : 128 ≤ byte_at b 0 = omega (arith, eight, h, below 1, below 2, below 3, below 4, below 5, below 6, below 7) in
+          let k = 2 ^ 64 - 1 - number 0 b in
+          let f : 2 ^ 64 - suc k ≡ number 0 b = omega (arith, small) in
+          let g : suc k ≡ 2 ^ 64 - number 0 b = omega (arith, small) in
+          subst Shown (sym (to_z-neg w64 k (omega (arith, h))) ∙ ap (cast_signed w64) f) (record { negative = λ x. rw (le-ltb (byte_at b 0) 128 l) (ap (λ n. ascii "-" ++ decimal n) g); positive = λ x. cc })
 
 -- a byte of a text, and what is behind it
 pub text_next : (t : Bytes) (k : ℕ) → k < length t → drop k t ≡ (get_or t k 0 ∷ []) ++ drop (k + 1) t
 text_next t k h = rw (add-one, drop-cons t k 0)
 
-module _ (byte : ℕ → ℕ) where
-  pub length-bytes : (at n : ℕ) → length (bytes byte at n) ≡ n
-  length-bytes at zero = refl
-  length-bytes at (suc n) = ap suc (length-bytes (at + 1) n)
-
-  -- a byte in hexadecimal, and those behind it
-  pub hex_next : (k end : ℕ) → k < end → hex (bytes byte k (end - k)) ≡ hex (byte k ∷ []) ++ hex (bytes byte (k + 1) (end - (k + 1)))
-  hex_next k end h = let e : end - k ≡ suc (end - (k + 1)) = omega arith in ap (λ n. hex (bytes byte k n)) e
-
-  pub hex_end : (end : ℕ) → hex (bytes byte end (end - end)) ≡ []
-  hex_end end = let e : end - end ≡ 0 = omega arith in ap (λ n. hex (bytes byte end n)) e
+-- a byte in hexadecimal, and those behind it
+pub hex_next : (t : Bytes) (k : ℕ) → k < length t → hex (drop k t) ≡ hex (get_or t k 0 ∷ []) ++ hex (drop (k + 1) t)
+hex_next t k h = ap hex (text_next t k h)
 
 -- no field for no bytes, and one for some
-module _ (byte : ℕ → ℕ) (from : ℕ) {len : ℕ} where
-  pub no_hex : len ≡ 0 → [] ≡ hex_field (bytes byte from len)
-  no_hex e = sym (ap (λ n. hex_field (bytes byte from n)) e)
+pub no_hex : (b : Bytes) → length b ≡ 0 → [] ≡ hex_field b
+no_hex [] e = refl
+no_hex (x ∷ b) e = absurd (omega arith)
 
-  pub some_hex : (len ≡ 0 → ⊥) → (0x20 ∷ []) ++ hex (bytes byte from (from + len - from)) ≡ hex_field (bytes byte from len)
-  some_hex h = filled {n = from + len - from} {m = len} (len - 1) (omega arith) (omega arith)
-    where
-      filled : {n m : ℕ} (k : ℕ) → n ≡ suc k → m ≡ suc k → (0x20 ∷ []) ++ hex (bytes byte from n) ≡ hex_field (bytes byte from m)
-      filled k d e = ap (λ n. (0x20 ∷ []) ++ hex (bytes byte from n)) d ∙ sym (ap (λ n. hex_field (bytes byte from n)) e)
+pub some_hex : (b : Bytes) → (length b ≡ 0 → ⊥) → (0x20 ∷ []) ++ hex b ≡ hex_field b
+some_hex [] n = absurd (n refl)
+some_hex (x ∷ b) n = refl
 
 pub length-hex : (b : Bytes) → length (hex b) ≡ 2 * length b
 length-hex [] = refl
 length-hex (b ∷ bs) = let e = length-hex bs in omega arith
-
--- as many digits as twice the bytes
-pub length_hexed : (byte : ℕ → ℕ) (at n : ℕ) → length (hex (bytes byte at n)) ≡ 2 * n
-length_hexed byte at n = length-hex (bytes byte at n) ∙ ap (λ k. 2 * k) (length-bytes byte at n)
-
--- two digits, from what each is
-pub hex_byte : (b : ℕ) {h l : ℕ} → h ≡ hex_digit (b / 16) → l ≡ hex_digit (b % 16) → (h ∷ []) ++ (l ∷ []) ≡ hex (b ∷ [])
-hex_byte b p q = λ i. p i ∷ q i ∷ []

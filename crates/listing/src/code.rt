@@ -30,14 +30,14 @@ fn put_operands(output: &mut [u8], at: usize, width: usize, a: usize, b: usize) 
     requires { Room 42 at }
     ensures { Puts 42 output.old output.new at result (operand_fields width a b) }
 {
-    if width == 0 {
-        return at;
+    match width {
+        0 => at,
+        1 | 2 => put_field(output, at, a),
+        _ => {
+            let next = put_field(output, at, a);
+            put_field(output, next, b)
+        }
     }
-    let next = put_field(output, at, a);
-    if width < 3 {
-        return next;
-    }
-    put_field(output, next, b)
 }
 
 // Puts the line of an instruction at a position.

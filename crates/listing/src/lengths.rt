@@ -10,7 +10,7 @@ ghost use Rattle.listing.specs.Put.{per_byte};
 ghost use Rattle.listing.specs.Reads.{function_head};
 ghost use Rattle.listing.specs.Measured.{AreLengths, InstrAt, operands_of};
 
-use crate::text::eight_bytes;
+use crate::text::integer;
 use field::{wide, word};
 
 // The length of the word of each instruction byte.
@@ -23,14 +23,7 @@ pub fn decimal_length(n: usize) -> usize
     ensures is { result ≡ length (decimal n) }
     ensures small { result ≤ 20 }
 {
-    let mut rest = n;
-    for count in 1..20 {
-        if rest < 10 {
-            return count;
-        }
-        rest = rest / 10;
-    }
-    20
+    n.checked_ilog10().map_or(1, |d| d as usize + 1)
 }
 
 // The length of a number in decimal with at least four digits.
@@ -45,16 +38,14 @@ fn padded_length(n: usize) -> usize
 }
 
 // The length of eight bytes in two's complement as a number in decimal.
-fn signed_length(image: &[u8], from: usize) -> usize
-    requires { from + 8 ≤ length image.now }
-    ensures is { result ≡ length (signed (bytes (byte_at image.now) from 8)) }
+fn signed_length(bytes: &[u8]) -> usize
+    requires { length bytes.now ≡ 8 }
+    ensures is { result ≡ length (signed bytes.now) }
     ensures small { result ≤ 21 }
 {
-    let n = eight_bytes(image, from);
-    if image[from] < 128 {
-        return decimal_length(n);
-    }
-    1 + decimal_length(18446744073709551615 - n + 1)
+    let n = integer(bytes);
+    let size = decimal_length(n.unsigned_abs() as usize);
+    if n.is_negative() { 1 + size } else { size }
 }
 
 // The length of the operands of an instruction of `size` bytes at `at`.
@@ -63,17 +54,15 @@ fn operands_length(image: &[u8], at: usize, size: usize) -> usize
     ensures is { result ≡ length (operands_of (instr_at (byte_at image.now) at)) }
     ensures small { result ≤ 42 }
 {
-    if size == 1 {
-        return 0;
+    match size {
+        1 => 0,
+        2 => 1 + decimal_length(wide(image[at + 1])),
+        3 => 1 + decimal_length(word(image[at + 1], image[at + 2])),
+        _ => {
+            let first = decimal_length(word(image[at + 1], image[at + 2]));
+            1 + first + 1 + decimal_length(wide(image[at + 3]))
+        }
     }
-    if size == 2 {
-        return 1 + decimal_length(wide(image[at + 1]));
-    }
-    let first = 1 + decimal_length(word(image[at + 1], image[at + 2]));
-    if size == 3 {
-        return first;
-    }
-    first + 1 + decimal_length(wide(image[at + 3]))
 }
 
 // The length of the word of an instruction byte, by a table that is lent.
@@ -102,12 +91,12 @@ pub fn line_length(
 }
 
 // The length of an integer constant's line behind its index.
-pub fn integer_length(image: &[u8], from: usize) -> usize
-    requires { from + 8 ≤ length image.now }
-    ensures is { result ≡ length (constant_fields (Const.integer (bytes (byte_at image.now) from 8))) }
+pub fn integer_length(content: &[u8]) -> usize
+    requires { length content.now ≡ 8 }
+    ensures is { result ≡ length (constant_fields (Const.integer content.now)) }
     ensures small { result ≤ 31 }
 {
-    9 + signed_length(image, from) + 1
+    9 + signed_length(content) + 1
 }
 
 // The length of the line of a string constant of `len` bytes behind its index.

@@ -44,7 +44,7 @@ fn measure_code(image: &[u8], start: usize, end: usize) -> Result<Measured, Malf
     ensures small { text_of result ≤ per_byte * (end - start) }
 {
     let lengths = WORD_LENGTHS;
-    // Kept: a `while`, since over `Instructions` the check of an image takes 4 to 6 % more instructions.
+    // Kept: a `while`, since over `Instructions` the check of an image takes 4 to 6 % more instructions, and the bar is 3 %.
     let mut at = start;
     let mut text = 0;
     while at < end {
@@ -84,19 +84,12 @@ fn measure_content(image: &[u8], from: usize, head: Head) -> Result<Measured, Ma
     ensures small { text_of result + 20 ≤ per_byte * (1 + head.len) }
 {
     let end = from + head.len;
-    if head.tag == tag::INTEGER_CONST {
-        return Ok(Measured {
-            text: integer_length(image, from),
-            end: end,
-        });
-    }
-    if head.tag == tag::STRING_CONST {
-        return Ok(Measured {
-            text: string_length(head.len),
-            end: end,
-        });
-    }
-    measure_function(image, from, head.len)
+    let text = match head.tag {
+        tag::INTEGER_CONST => integer_length(&image[from..end]),
+        tag::STRING_CONST => string_length(head.len),
+        _ => return measure_function(image, from, head.len),
+    };
+    Ok(Measured { text, end })
 }
 
 // Reads the constant at `at`.
@@ -105,13 +98,13 @@ fn measure_constant(image: &[u8], at: usize, end: usize) -> Result<Measured, Mal
     ensures is { result ≡ constant_measured (read_const (byte_at image.now) at end) }
     ensures small { text_of result + 20 ≤ per_byte * (1 + (head (byte_at image.now) at).len) }
 {
-    let form = Form::Plain;
-    let head = head_where(image, at, end, |head| head.is_constant(form))?;
+    let head = head_where(image, at, end, |head| head.is_constant(Form::Plain))?;
     measure_content(image, at + 3, head)
 }
 
 // Reads constants, at most 4,096, from `start` up to `end`.
-// Kept: a loop beside `bytecode`'s `check_items`, since the sum of the lengths needs a bound that a closure is not told of.
+// Kept: a loop beside `bytecode`'s `check_items`, which counts and does not sum. To sum in a pass behind it would read an image three times,
+// which took up to 75 % more instructions than twice (docs/PERFORMANCE.md, "Check and list"), and the bar is 3 %.
 fn measure_constants(image: &[u8], start: usize, end: usize) -> Result<MeasuredPool, Malformed>
     requires { Piece image.now start end }
     ensures is { result ≡ pool_measured (constants (byte_at image.now) start end) }
@@ -151,8 +144,7 @@ fn measure_main(image: &[u8]) -> Result<Measured, Malformed>
     ensures is { result ≡ code_measured (main_code (byte_at image.now) Form.Plain (length image.now)) }
     ensures small { text_of result ≤ per_byte * 65536 }
 {
-    let form = Form::Plain;
-    let head = head_where(image, 0, image.len(), |head| head.is_main(form))?;
+    let head = head_where(image, 0, image.len(), |head| head.is_main(Form::Plain))?;
     measure_code(image, 3, 3 + head.len)
 }
 

@@ -14,23 +14,23 @@ use definition::tag;
 use field::{length_at, wide, word};
 
 // Puts an integer constant behind its index.
-fn list_integer(output: &mut [u8], at: usize, image: &[u8], from: usize) -> usize
-    requires { Room 31 at × (from + 8 ≤ length image.now) }
-    ensures { Puts 31 output.old output.new at result (constant_fields (Const.integer (bytes (byte_at image.now) from 8))) }
+fn list_integer(output: &mut [u8], at: usize, content: &[u8]) -> usize
+    requires { Room 31 at × (length content.now ≡ 8) }
+    ensures { Puts 31 output.old output.new at result (constant_fields (Const.integer content.now)) }
 {
     let after_kind = put_bytes(output, at, b" integer ");
-    let next = put_signed(output, after_kind, image, from);
+    let next = put_signed(output, after_kind, content);
     put_newline(output, next)
 }
 
 // Puts a string constant behind its index.
-fn list_string(output: &mut [u8], at: usize, image: &[u8], from: usize, len: usize) -> usize
-    requires { Room (30 + 2 * len) at × (from + len ≤ length image.now) }
-    ensures { Puts (30 + 2 * len) output.old output.new at result (constant_fields (Const.string (bytes (byte_at image.now) from len))) }
+fn list_string(output: &mut [u8], at: usize, content: &[u8]) -> usize
+    requires { Room (30 + 2 * length content.now) at }
+    ensures { Puts (30 + 2 * length content.now) output.old output.new at result (constant_fields (Const.string content.now)) }
 {
     let after_kind = put_bytes(output, at, b" string");
-    let after_length = put_field(output, after_kind, len);
-    let next = put_hex_field(output, after_length, image, from, len);
+    let after_length = put_field(output, after_kind, content.len());
+    let next = put_hex_field(output, after_length, content);
     put_newline(output, next)
 }
 
@@ -78,16 +78,13 @@ fn list_content(output: &mut [u8], at: usize, part: Span<'_>) -> usize
     ensures { (x : Const) → ConstantAt part.entry.bytes.now part.entry.start part.entry.end x → Puts (per_byte * (1 + (head (byte_at part.entry.bytes.now) part.entry.start).len)) output.old output.new at result (constant_fields x) }
 {
     let image = part.bytes;
-    let from = part.start;
-    let tag = image[from];
-    let len = length_at(image, from);
-    if tag == tag::INTEGER_CONST {
-        return list_integer(output, at, image, from + 3);
+    let from = part.start + 3;
+    let len = length_at(image, part.start);
+    match image[part.start] {
+        tag::INTEGER_CONST => list_integer(output, at, &image[from..from + len]),
+        tag::STRING_CONST => list_string(output, at, &image[from..from + len]),
+        _ => list_function(output, at, image, from, len),
     }
-    if tag == tag::STRING_CONST {
-        return list_string(output, at, image, from + 3, len);
-    }
-    list_function(output, at, image, from + 3, len)
 }
 
 // Puts the lines of the constants of a pool.
@@ -96,11 +93,9 @@ fn list_constants(output: &mut [u8], at: usize, pool: Span<'_>) -> usize
     ensures { (cs : List Const) → PoolIn pool.entry cs → Puts (per_byte * (pool.entry.end - pool.entry.start)) output.old output.new at result (constant_lines cs) }
 {
     let mut next = at;
-    let mut index = 0;
-    for (start, _) in pool.constants() {
+    for (index, (start, _)) in pool.constants().enumerate() {
         let after_index = put_decimal(output, next, index);
         next = list_content(output, after_index, Span { start, ..pool });
-        index += 1;
     }
     next
 }

@@ -1,7 +1,8 @@
 // Text put into an output at an offset: stored where there is room, counted always. Each function answers the offset after its text.
 ghost use Rattle.std.specs.Prelude.{◌≡◌, [], ◌∷◌, ◌+◌, ◌-◌, ◌*◌, ◌≤◌, ◌<◌, length, replicate};
+ghost use Rattle.std.specs.Int.{w64, cast_signed};
 ghost use Rattle.definition.specs.Basic.{byte_at};
-ghost use Rattle.definition.specs.Field.{bytes};
+ghost use Rattle.definition.specs.Field.{bytes as bytes_at};
 ghost use Rattle.definition.specs.Text.{digit as digitOf, digits, decimal, padded, number, signed, hex_digit, hex};
 ghost use Rattle.definition.specs.Listing.{newline, also, hex_field};
 ghost use Rattle.listing.specs.Put.{Room, Puts};
@@ -106,34 +107,33 @@ pub fn put_field(output: &mut [u8], at: usize, n: usize) -> usize
 }
 
 // A number of eight bytes, high byte first.
-// Kept: eight indices, since `first_chunk` answers an option, whose none, which cannot be here, would want a number too.
 pub fn eight_bytes(image: &[u8], at: usize) -> usize
     requires { at + 8 ≤ length image.now }
-    ensures { result ≡ number 0 (bytes (byte_at image.now) at 8) }
+    ensures { result ≡ number 0 (bytes_at (byte_at image.now) at 8) }
 {
-    usize::from_be_bytes([
-        image[at],
-        image[at + 1],
-        image[at + 2],
-        image[at + 3],
-        image[at + 4],
-        image[at + 5],
-        image[at + 6],
-        image[at + 7],
-    ])
+    usize::from_be_bytes(*image[at..].first_chunk::<8>().unwrap())
+}
+
+// The number of eight bytes in two's complement, high byte first.
+pub fn integer(bytes: &[u8]) -> i64
+    requires { length bytes.now ≡ 8 }
+    ensures { result ≡ cast_signed w64 (number 0 bytes.now) }
+{
+    i64::from_be_bytes(*bytes.first_chunk::<8>().unwrap())
 }
 
 // Puts eight bytes in two's complement as a number in decimal.
-pub fn put_signed(output: &mut [u8], at: usize, image: &[u8], from: usize) -> usize
-    requires { Room 21 at × (from + 8 ≤ length image.now) }
-    ensures { Puts 21 output.old output.new at result (signed (bytes (byte_at image.now) from 8)) }
+pub fn put_signed(output: &mut [u8], at: usize, bytes: &[u8]) -> usize
+    requires { Room 21 at × (length bytes.now ≡ 8) }
+    ensures { Puts 21 output.old output.new at result (signed bytes.now) }
 {
-    let n = eight_bytes(image, from);
-    if image[from] < 128 {
-        return put_decimal(output, at, n);
+    let n = integer(bytes);
+    let size = n.unsigned_abs() as usize;
+    if n.is_negative() {
+        let next = put(output, at, b'-');
+        return put_decimal(output, next, size);
     }
-    let next = put(output, at, b'-');
-    put_decimal(output, next, 18446744073709551615 - n + 1)
+    put_decimal(output, at, size)
 }
 
 // A lower-case hexadecimal digit.
@@ -157,26 +157,26 @@ fn put_hex_byte(output: &mut [u8], at: usize, b: u8) -> usize
     put(output, next, hex_digit(b % 16))
 }
 
-// Puts the bytes from an offset up to another in hexadecimal.
-fn put_hex(output: &mut [u8], at: usize, image: &[u8], from: usize, end: usize) -> usize
-    requires { Room (2 * (end - from)) at × (from ≤ end) × (end ≤ length image.now) }
-    ensures { Puts (2 * (end - from)) output.old output.new at result (hex (bytes (byte_at image.now) from (end - from))) }
+// Puts bytes in hexadecimal.
+fn put_hex(output: &mut [u8], at: usize, bytes: &[u8]) -> usize
+    requires { Room (2 * length bytes.now) at }
+    ensures { Puts (2 * length bytes.now) output.old output.new at result (hex bytes.now) }
 {
     let mut next = at;
-    for k in from..end {
-        next = put_hex_byte(output, next, image[k]);
+    for b in bytes {
+        next = put_hex_byte(output, next, *b);
     }
     next
 }
 
-// Puts a further field of a line, `len` bytes in hexadecimal; no field for none.
-pub fn put_hex_field(output: &mut [u8], at: usize, image: &[u8], from: usize, len: usize) -> usize
-    requires { Room (1 + 2 * len) at × (from + len ≤ length image.now) }
-    ensures { Puts (1 + 2 * len) output.old output.new at result (hex_field (bytes (byte_at image.now) from len)) }
+// Puts a further field of a line, bytes in hexadecimal; no field for none.
+pub fn put_hex_field(output: &mut [u8], at: usize, bytes: &[u8]) -> usize
+    requires { Room (1 + 2 * length bytes.now) at }
+    ensures { Puts (1 + 2 * length bytes.now) output.old output.new at result (hex_field bytes.now) }
 {
-    if len == 0 {
+    if bytes.is_empty() {
         return at;
     }
     let next = put(output, at, b' ');
-    put_hex(output, next, image, from, from + len)
+    put_hex(output, next, bytes)
 }

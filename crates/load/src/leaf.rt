@@ -7,14 +7,23 @@ ghost use Rattle.load.specs.Writing.{Wrote};
 
 use super::draw::Draws;
 use super::row::Leaf;
-use definition::tag;
+use definition::{operator, tag};
 use session::write::{put_field, put_head};
 
 // a
 pub const LETTER: u8 = 0x61;
 
 // The operators from Plus to Gt, without Bang.
-pub const INFIXES: [u8; 8] = [1, 2, 4, 5, 6, 7, 8, 9];
+pub const INFIXES: [u8; 8] = [
+    operator::PLUS,
+    operator::MINUS,
+    operator::STAR,
+    operator::SLASH,
+    operator::EQUAL,
+    operator::NOT_EQUAL,
+    operator::LESS_THAN,
+    operator::GREATER_THAN,
+];
 
 // A field of a content, whatever the state is; its length.
 pub fn put(out: &mut [u8], field_tag: usize, content: &[u8]) -> usize

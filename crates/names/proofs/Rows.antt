@@ -18,15 +18,8 @@ use Rattle.records.specs.Records.{index_of}
 use Rattle.records.specs.Call.{over_records}
 use Rattle.records.specs.declared.Record.{Record}
 use Rattle.trace.specs.Log.{record_at, log_of}
-use Rattle.names.specs.Rows.{row_of, rows_of, filled, filled_records, Small}
-
--- four stores in a row
-pub row-stored : (l : List ℕ) (i a b c d : ℕ) → set (set (set (set l i a) (i + 1) b) (i + 2) c) (i + 3) d ≡ sets l i (a ∷ b ∷ c ∷ d ∷ [])
-row-stored l i a b c d =
-    let one : i + 1 ≡ suc i = omega arith in
-    let two : i + 2 ≡ suc (suc i) = omega arith in
-    let three : i + 3 ≡ suc (suc (suc i)) = omega arith in
-    λ j. set (set (set (set l i a) (one j) b) (two j) c) (three j) d
+use Rattle.trace.proofs.Ahead.{log_length}
+use Rattle.names.specs.Rows.{row_of, rows_of, alone, filled_over, filled, filled_records, Small}
 
 -- an index is within its symbol's code
 picked_within : (c : ℕ) (t : Bool) (x y : Symbol) → index_of x ≤ c → index_of y ≤ c → index_of (pick t x y) ≤ c
@@ -53,13 +46,8 @@ record_small l k bytes =
     record { offset = omega arith; index = omega (arith, index_within (byte_at l (4 * k + 2) % 8 * 256 + byte_at l (4 * k + 3))); crossed = omega arith }
 
 -- lengths
-pub length_log : (l : Bytes) (n : ℕ) → length (log_of l n) ≡ n
-unfolding log_of
-length_log l zero = refl
-length_log l (suc n) = ap suc (length_log l n)
-
 pub length-filled : (l : Bytes) (n : ℕ) (xs : List ℕ) → length (filled l n xs) ≡ length xs
-unfolding filled
+unfolding filled_over
 length-filled l zero xs = refl
 length-filled l (suc n) xs = length-sets (filled l n xs) (4 * n) (row_of (record_at l n)) ∙ length-filled l n xs
 
@@ -80,12 +68,12 @@ one_more r rs = ap rows_of (reverse-cons r rs) ∙ rows_append (reverse rs) (r �
 
 -- what is filled: the log's records in walk order, and the rest
 pub filled-rows : (l : Bytes) (n : ℕ) (xs : List ℕ) → 4 * n ≤ length xs → filled l n xs ≡ rows_of (reverse (log_of l n)) ++ drop (4 * n) xs
-unfolding filled log_of rows_of
+unfolding filled_over log_of rows_of
 filled-rows l zero xs h = refl
 filled-rows l (suc n) xs h =
     let r : Record = record_at l n in
     let front : List ℕ = rows_of (reverse (log_of l n)) in
-    let size : length (rows_of (reverse (log_of l n))) ≡ 4 * n = length-rows (reverse (log_of l n)) ∙ ap (λ k. 4 * k) (length-reverse (log_of l n) ∙ length_log l n) in
+    let size : length (rows_of (reverse (log_of l n))) ≡ 4 * n = length-rows (reverse (log_of l n)) ∙ ap (λ k. 4 * k) (length-reverse (log_of l n) ∙ log_length l n) in
     let some : 4 ≤ length (drop (4 * n) xs) = omega (arith, length-drop (4 * n) xs) in
     let next : 4 * n + 4 ≡ 4 * suc n = omega arith in
     ap (λ ys. sets ys (4 * n) (row_of r)) (filled-rows l n xs (omega arith))
@@ -95,41 +83,31 @@ filled-rows l (suc n) xs h =
     ∙ ap (λ ys. ys ++ drop (4 * suc n) xs) (sym (one_more r (log_of l n)))
 
 -- a turn of the loop that fills: k records are done
-pub record Turn (xs₀ : List ℕ) (l : Bytes) (n : ℕ) (xs : List ℕ) (k : ℕ) : Type 0 where
+pub record Turn {A : Type 0} (w : ℕ) (f : Record → List A) (xs₀ : List A) (l : Bytes) (n : ℕ) (xs : List A) (k : ℕ) : Type 0 where
   pub bytes : AreBytes l
-  pub room : 4 * n ≤ length xs₀
+  pub room : w * n ≤ length xs₀
   pub log : 4 * n ≤ length l
   pub most : k ≤ n
-  pub done : xs ≡ filled l k xs₀
+  pub done : xs ≡ filled_over w f l k xs₀
   pub long : length xs ≡ length xs₀
 
-pub turn_holds : {xs : List ℕ} {l : Bytes} {n : ℕ} → AreBytes l → 4 * n ≤ length xs → 4 * n ≤ length l → Turn xs l n xs 0
-unfolding filled
-turn_holds b r g = record { bytes = b; room = r; log = g; most = omega arith; done = refl; long = refl }
+module _ {A : Type 0} (w : ℕ) (f : Record → List A) where
+  pub turn_holds : {xs : List A} {l : Bytes} {n : ℕ} → AreBytes l → w * n ≤ length xs → 4 * n ≤ length l → Turn w f xs l n xs 0
+  unfolding filled_over
+  turn_holds b r g = record { bytes = b; room = r; log = g; most = omega arith; done = refl; long = refl }
 
--- one more record
-pub turn_again : {xs₀ : List ℕ} {l : Bytes} {n : ℕ} {xs : List ℕ} {k : ℕ} {r : Record} {ys : List ℕ} → Turn xs₀ l n xs k → k < n → r ≡ record_at l k → ys ≡ sets xs (4 * k) (row_of r) → Turn xs₀ l n ys (k + 1)
-unfolding filled
-turn_again {xs₀} {l} {n} {xs} {k} {r} {ys} t h e s =
-    let same : ys ≡ sets (filled l k xs₀) (4 * k) (row_of (record_at l k)) = s ∙ (λ j. sets (t.done j) (4 * k) (row_of (e j))) in
-    let next : suc k ≡ k + 1 = omega arith in
-    record { bytes = t.bytes; room = t.room; log = t.log; most = omega arith; done = same ∙ ap (λ m. filled l m xs₀) next; long = ap length s ∙ length-sets xs (4 * k) (row_of r) ∙ t.long }
+  module _ {xs₀ : List A} {l : Bytes} {n : ℕ} {xs : List A} {k : ℕ} (t : Turn w f xs₀ l n xs k) where
+    -- one more record
+    pub turn_again : {r : Record} {ys : List A} {v : ℕ} → k < n → v ≡ w → r ≡ record_at l k → ys ≡ sets xs (v * k) (f r) → Turn w f xs₀ l n ys (k + 1)
+    unfolding filled_over
+    turn_again {r} {ys} {v} h q e s =
+        let same : ys ≡ sets (filled_over w f l k xs₀) (w * k) (f (record_at l k)) = s ∙ (λ j. sets (t.done j) (q j * k) (f (e j))) in
+        let next : suc k ≡ k + 1 = omega arith in
+        record { bytes = t.bytes; room = t.room; log = t.log; most = omega arith; done = same ∙ ap (λ m. filled_over w f l m xs₀) next; long = ap length s ∙ length-sets xs (v * k) (f r) ∙ t.long }
 
-pub turn_ends : {xs₀ : List ℕ} {l : Bytes} {n : ℕ} {xs : List ℕ} {k : ℕ} → Turn xs₀ l n xs k → n ≤ k → xs ≡ filled l n xs₀
-turn_ends {xs₀} {l} {n} {xs} {k} t h = let e : k ≡ n = omega (arith, t.most) in t.done ∙ ap (λ m. filled l m xs₀) e
-
--- what a turn may read and write
-pub turn_log : {xs₀ : List ℕ} {l : Bytes} {n : ℕ} {xs : List ℕ} {k : ℕ} → Turn xs₀ l n xs k → k < n → 4 * k + 4 ≤ length l
-turn_log t h = omega (arith, t.log)
-
-pub turn-row : {xs₀ : List ℕ} {l : Bytes} {n : ℕ} {xs : List ℕ} {k : ℕ} → Turn xs₀ l n xs k → k < n → 4 * k + 4 ≤ length xs
-turn-row t h = omega (arith, t.room, t.long)
-
-pub turn_small : {xs₀ : List ℕ} {l : Bytes} {n : ℕ} {xs : List ℕ} {k : ℕ} {r : Record} → Turn xs₀ l n xs k → r ≡ record_at l k → Small r
-turn_small {l = l} {k = k} t e = subst Small (sym e) (record_small l k t.bytes)
-
-pub turn_long : {xs₀ : List ℕ} {l : Bytes} {n : ℕ} {xs : List ℕ} {k : ℕ} → Turn xs₀ l n xs k → length xs ≡ length xs₀
-turn_long t = t.long
+    -- what a turn may write
+    pub turn_small : {r : Record} → r ≡ record_at l k → Small r
+    turn_small e = subst Small (sym e) (record_small l k t.bytes)
 
 -- one more record to fill: the last one may be written last
 filled_set : (l : Bytes) (k : ℕ) (rs : List Record) (j : ℕ) (r : Record) → k ≤ j → filled_records l k (set rs j r) ≡ set (filled_records l k rs) j r
@@ -147,8 +125,14 @@ pub filled_none : (l : Bytes) (rs : List Record) → rs ≡ filled_records l 0 r
 unfolding filled_records
 filled_none l rs = refl
 
-pub filled_all : (l : Bytes) (rs : List Record) {k n : ℕ} {us : List Record} → us ≡ filled_records l k rs → k ≡ n → us ≡ filled_records l n rs
-filled_all l rs f e = f ∙ ap (λ m. filled_records l m rs) e
+-- over slots that are records, one record each
+pub over_alone : (l : Bytes) (n : ℕ) (rs : List Record) → filled_over 1 alone l n rs ≡ filled_records l n rs
+unfolding filled_over
+over_alone l zero rs = filled_none l rs
+over_alone l (suc k) rs =
+    let one : 1 * k ≡ k = omega arith in
+    let next : k + 1 ≡ suc k = omega arith in
+    ap (λ i. set (filled_over 1 alone l k rs) i (record_at l k)) one ∙ filled_more l k (record_at l k) rs _ (over_alone l k rs) refl ∙ ap (λ m. filled_records l m rs) next
 
 -- what is behind a place that was set
 drop-set_here : (n : ℕ) (rs : List Record) (r : Record) → n < length rs → drop n (set rs n r) ≡ r ∷ drop (suc n) rs
@@ -163,7 +147,7 @@ filled-records l zero rs h = refl
 filled-records l (suc n) rs h =
     let r : Record = record_at l n in
     let front : List Record = reverse (log_of l n) in
-    let size : length (reverse (log_of l n)) ≡ n = length-reverse (log_of l n) ∙ length_log l n in
+    let size : length (reverse (log_of l n)) ≡ n = length-reverse (log_of l n) ∙ log_length l n in
     let one : length (reverse (log_of l n) ++ (r ∷ [])) ≡ suc n = length-append front (r ∷ []) ∙ omega arith in
     let all : length (reverse (r ∷ log_of l n)) ≡ suc n = ap length (reverse-cons r (log_of l n)) ∙ one in
     filled-records l n (set rs n r) (omega (arith, length-set rs n r))

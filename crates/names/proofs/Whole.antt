@@ -19,9 +19,10 @@ use Rattle.definition.specs.declared.reason.Refusal.{Refusal}
 use Rattle.definition.proofs.Basic.{passed_on}
 use Rattle.trace.specs.Promise.{answer_of, count_of, Traces, without_log}
 use Rattle.trace.specs.declared.CallTrace.{CallTrace}
-use Rattle.names.specs.Rows.{rows_of, filled, filled_records}
-use Rattle.names.specs.Promise.{blanks, call_names, Names, Records}
-use Rattle.names.proofs.Rows.{length_log, filled-rows, filled-records}
+use Rattle.trace.proofs.Ahead.{log_length}
+use Rattle.names.specs.Rows.{row_of, rows_of, alone, filled_over, filled, filled_records}
+use Rattle.names.specs.Promise.{blanks, call_names, Written, Names, Records}
+use Rattle.names.proofs.Rows.{filled-rows, filled-records, over_alone}
 
 -- the numbers and the log have room for the records
 rows_room : {tree : Bytes} {l : Lent} (xs : List ℕ) {t : Result CallTrace Refusal} {l' : Lent} → Traces tree l (length xs / 4) t l' → 4 * (count_of t) ≤ length xs
@@ -29,7 +30,7 @@ rows_room xs h = omega (arith, h.within)
 
 -- the written records are the log's
 written : (l : Bytes) (n : ℕ) (rs : List Record) → take n (over_records (reverse (log_of l n)) rs) ≡ reverse (log_of l n)
-written l n rs = take_at (reverse (log_of l n)) _ n (length-reverse (log_of l n) ∙ length_log l n)
+written l n rs = take_at (reverse (log_of l n)) _ n (length-reverse (log_of l n) ∙ log_length l n)
 
 -- the call, the filled rows and the cleared log are the definition's call
 pub named-call : {tree : Bytes} {l : Lent} {xs xs' : List ℕ} {t : Result CallTrace Refusal} {e o c t' : List ℕ} {c' : Bytes} → Traces tree l (length xs / 4) t (lent_of e o c t') → xs' ≡ filled c (count_of t) xs → c' ≡ without_log (answer_of t) c
@@ -59,18 +60,19 @@ recorded-call {rs = rs} {t = t} {c = c} h f g =
     }
 
 -- As the code takes them: the call was accepted, and its records were written, or refused
-module _ {tree : Bytes} {l : Lent} {xs : List ℕ} {t : Result CallTrace Refusal} {e o c t' : List ℕ} (h : Traces tree l (length xs / 4) t (lent_of e o c t')) where
-  pub named_on : {k : CallTrace} {xs' : List ℕ} {c' : Bytes} → t ≡ Ok k → xs' ≡ filled c k.count xs → c' ≡ cleared code_size c → Names tree l xs (Ok k) (lent_of e o c' t') xs'
-  named_on q f g = named-call (rw q at h) f g
+module _ {A : Type 0} (w : ℕ) (f : Record → List A) {tree : Bytes} {l : Lent} {xs : List A} {t : Result CallTrace Refusal} {e o c t' : List ℕ} {v : ℕ} (s : v ≡ w) (h : Traces tree l (length xs / v) t (lent_of e o c t')) where
+  pub written_on : {k : CallTrace} {xs' : List A} {c' : Bytes} → t ≡ Ok k → xs' ≡ filled_over w f c k.count xs → c' ≡ cleared code_size c → Written w f tree l xs (Ok k) (lent_of e o c' t') xs'
+  written_on q g u = record { log = c; traces = rw s at (rw q at h); slots = g; cleared = u }
 
-  pub named_stop : {r : Result CallTrace Refusal} {z : Refusal} → t ≡ Err z → IsErrAnd r (λ y. y ≡ z) → Names tree l xs r (lent_of e o c t') xs
-  unfolding filled
-  named_stop q u = rw (passed_on u) (named-call (rw q at h) refl refl)
+  pub written_stop : {r : Result CallTrace Refusal} {z : Refusal} → t ≡ Err z → IsErrAnd r (λ y. y ≡ z) → Written w f tree l xs r (lent_of e o c t') xs
+  unfolding filled_over
+  written_stop q u = rw (passed_on u) (record { log = c; traces = rw s at (rw q at h); slots = refl; cleared = refl })
 
-module _ {tree : Bytes} {l : Lent} {rs : List Record} {t : Result CallTrace Refusal} {e o c t' : List ℕ} (h : Traces tree l (length rs) t (lent_of e o c t')) where
-  pub recorded_on : {k : CallTrace} {rs' : List Record} {c' : Bytes} → t ≡ Ok k → rs' ≡ filled_records c k.count rs → c' ≡ cleared code_size c → Records tree l rs (Ok k) (lent_of e o c' t') rs'
-  recorded_on q f g = recorded-call (rw q at h) f g
+-- over numbers, and over records
+pub written_names : {tree : Bytes} {l : Lent} {xs : List ℕ} {r : Result CallTrace Refusal} {e o c t' : List ℕ} {xs' : List ℕ} → Written 4 row_of tree l xs r (lent_of e o c t') xs' → Names tree l xs r (lent_of e o c t') xs'
+written_names w = named-call w.traces w.slots w.cleared
 
-  pub recorded_stop : {r : Result CallTrace Refusal} {z : Refusal} → t ≡ Err z → IsErrAnd r (λ y. y ≡ z) → Records tree l rs r (lent_of e o c t') rs
-  unfolding filled_records
-  recorded_stop q u = rw (passed_on u) (recorded-call (rw q at h) refl refl)
+pub written_records : {tree : Bytes} {l : Lent} {rs : List Record} {r : Result CallTrace Refusal} {e o c t' : List ℕ} {rs' : List Record} → Written 1 alone tree l rs r (lent_of e o c t') rs' → Records tree l rs r (lent_of e o c t') rs'
+written_records {rs = rs} {r = r} w =
+    let one : length rs / 1 ≡ length rs = omega arith in
+    recorded-call (rw one at w.traces) (w.slots ∙ over_alone w.log (count_of r) rs) w.cleared

@@ -15,10 +15,18 @@ unfoldable pub rows_of : List Record → List ℕ
 rows_of [] = []
 rows_of (r ∷ rs) = row_of r ++ rows_of rs
 
+-- a record where the caller lends records
+abbrev pub alone : Record → List Record
+alone r = r ∷ []
+
+-- the first so many records of a log, each over as many slots as make up one
+unfoldable pub filled_over : {A : Type 0} → ℕ → (Record → List A) → Bytes → ℕ → List A → List A
+filled_over w f l zero xs = xs
+filled_over w f l (suc n) xs = sets (filled_over w f l n xs) (w * n) (f (record_at l n))
+
 -- the first so many records of a log, each over its numbers
-unfoldable pub filled : Bytes → ℕ → List ℕ → List ℕ
-filled l zero xs = xs
-filled l (suc n) xs = sets (filled l n xs) (4 * n) (row_of (record_at l n))
+abbrev pub filled : Bytes → ℕ → List ℕ → List ℕ
+filled = filled_over 4 row_of
 
 -- the first so many records of a log, each over its place, the last first
 unfoldable pub filled_records : Bytes → ℕ → List Record → List Record

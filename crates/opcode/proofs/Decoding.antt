@@ -7,21 +7,14 @@ use lib.ListN.{length}
 use lib.Dec.{leb}
 use borrow.Author.Tests.{leb-true, le-ltb}
 use Rattle.std.specs.Prelude.{Some, None, Result, Ok, Err}
-use Rattle.definition.specs.Basic.{Bytes, byte_at, both}
+use Rattle.definition.specs.Basic.{Bytes, byte_at}
 use Rattle.definition.specs.Opcode.{Instr, instr_at, width, whole, op_last}
 use Rattle.definition.specs.Decode.{decoded, malformed, read_instr}
 use Rattle.definition.specs.Decode as Decode
 use Rattle.definition.specs.declared.reason.Refusal.{Refusal}
+use Rattle.definition.proofs.Basic.{both_right}
 use Rattle.opcode.specs.declared.Decoded.{Decoded}
 use Rattle.opcode.specs.Decoding.{size_at, instruction, instr_of, read_before, decode_answer}
-
-pub both_left : (a b : Bool) → both a b ≡ true → a ≡ true
-both_left true b e = refl
-both_left false b e = e
-
-pub both_right : (a b : Bool) → both a b ≡ true → b ≡ true
-both_right true b e = e
-both_right false b e = let z : ◌≡◌ {A = ℕ} 0 1 = cc in absurd (omega arith)
 
 module _ (byte : ℕ → ℕ) (at : ℕ) where
   module _ (end : ℕ) where

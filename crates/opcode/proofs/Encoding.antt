@@ -1,25 +1,22 @@
 -- The bytes of an instruction, stored one after the other, and what is answered of it.
 use Prim.Native.Nat.{ℕ, zero, suc, ◌+◌, ◌≤◌, ◌<◌}
-use mathlib.Core.Path.{◌≡◌, ◌∙◌, ap, sym, refl}
+use mathlib.Core.Path.{◌≡◌, ◌∙◌, sym, refl}
 use mathlib.Core.Bool.{true, false}
-use mathlib.Core.List.{◌∷◌, ◌++◌}
 use native.Mathlib.Omega.{arith}
-use native.Mathlib.Nat.{zero-add}
 use native.Mathlib.Numerals.{one-add}
 use lib.Dec.{leb}
-use lib.ListN.{length, drop}
-use lib.Seq.{sets, sets-eq}
+use lib.ListN.{length}
 use borrow.Author.Tests.{le-leb, lt-leb}
 use Rattle.definition.specs.Basic.{Bytes}
 use Rattle.definition.specs.Opcode.{Instr, operands, bytes_of, width, op_last}
-use Rattle.definition.specs.Number.{refusal, output_short, bad_instruction}
+use Rattle.definition.specs.Number.{refusal, output_short}
 use Rattle.definition.specs.Answer.{Answer}
 use Rattle.std.specs.Prelude.{Ok, Err}
-use Rattle.opcode.specs.Table.{entry, no_instruction}
+use Rattle.opcode.specs.Table.{entry}
 use Rattle.definition.specs.Output.{over, output_answer, output_after}
 use Rattle.opcode.specs.Encoding.{Ready, valid, encode_answer, encode_into}
-use Rattle.opcode.proofs.Widths.{width_small, unknown}
-use Rattle.opcode.proofs.Decoding.{both_left}
+use Rattle.definition.proofs.Instructions.{width_most}
+use Rattle.definition.proofs.Basic.{both_left}
 
 -- as many operand bytes as the width says
 length-operands : (w a b : ℕ) → w ≤ 3 → length (operands w a b) ≡ w
@@ -29,24 +26,10 @@ length-operands (suc (suc zero)) a b h = refl
 length-operands (suc (suc (suc zero))) a b h = refl
 length-operands (suc (suc (suc (suc n)))) a b h = absurd (omega arith)
 
--- bytes stored from the start on
-stored : (b out : Bytes) → length b ≤ length out → sets out 0 b ≡ over b out
-stored b out h = sets-eq b out 0 (omega arith) ∙ ap (λ (n : ℕ). b ++ drop n out) (zero-add (length b))
-
 -- an instruction's bytes, by its width
 module _ (i : Instr) (w : ℕ) (e : width i.op ≡ w) (s : w ≤ 3) where
   length-bytes : length (bytes_of i) ≡ 1 + w
   length-bytes = rw (e, length-operands w i.a i.b s) (sym (one-add w))
-
-  put_done : (out : Bytes) → 1 + w ≤ length out → sets out 0 (i.op ∷ operands w i.a i.b) ≡ over (bytes_of i) out
-  put_done out h =
-      stored (i.op ∷ operands w i.a i.b) out (omega (arith, length-operands w i.a i.b s))
-      ∙ ap (λ (v : ℕ). over (i.op ∷ operands v i.a i.b) out) (sym e)
-
--- the stores of each width
-pub puts : {i : Instr} {w : ℕ} {out : Bytes} → Ready i w out → (v : ℕ) → w ≡ v
-    → sets out 0 (i.op ∷ operands v i.a i.b) ≡ over (bytes_of i) out
-puts {i} {w} {out} r v e = rw (← e) (put_done i w r.is r.small out r.room)
 
 -- bytes of a known length: what is answered and what is written where there is room, and where there is not
 module _ (b out : Bytes) (n : ℕ) (e : length b ≡ n) where
@@ -65,16 +48,12 @@ through : (i : Instr) (out r : Bytes) (x : Answer) → valid i ≡ true → (x �
     → (x ≡ encode_answer i (length out)) × (r ≡ encode_into i out)
 through i out r x v p = (p.0 ∙ rw v, p.1 ∙ rw v)
 
-pub encodes_not : (i : Instr) (out : Bytes) → valid i ≡ false
-    → (Err (refusal bad_instruction 0) ≡ encode_answer i (length out)) × (out ≡ encode_into i out)
-encodes_not i out v = (rw v, rw v)
-
 module _ (i : Instr) (w : ℕ) (out : Bytes) (v : valid i ≡ true) (e : w ≡ entry i.op) where
   width_is : width i.op ≡ w
   width_is = let k : leb i.op op_last ≡ true = both_left (leb i.op op_last) _ v in sym (rw k at e)
 
   small : w ≤ 3
-  small = rw (← width_is) (width_small i.op)
+  small = rw (← width_is) (width_most i.op)
 
   pub ready : w < length out → Ready i w out
   ready h = record { is = width_is; small = small; room = omega arith }
@@ -84,8 +63,3 @@ module _ (i : Instr) (w : ℕ) (out : Bytes) (v : valid i ≡ true) (e : w ≡ e
 
   pub encodes_short : length out ≤ w → (Err (refusal output_short 0) ≡ encode_answer i (length out)) × (out ≡ encode_into i out)
   encodes_short h = through i out _ _ v (refusing (bytes_of i) out (1 + w) (length-bytes i w width_is small) (omega arith))
-
--- whether an instruction is valid, by the table's entry
-module _ (i : Instr) (w : ℕ) (e : w ≡ entry i.op) where
-  pub not_known : w ≡ no_instruction → false ≡ valid i
-  not_known n = rw (unknown i.op e n)

@@ -6,7 +6,7 @@ use borrow.Author.Tests.{leb-true, ltb-true, le-leb, lt-ltb}
 use Rattle.definition.specs.Opcode.{Instr, width, op_last}
 use Rattle.definition.specs.Valid.{operand_bound, captures_bound, ValidInstr}
 use Rattle.opcode.specs.Encoding.{valid}
-use Rattle.opcode.proofs.Decoding.{both_left, both_right}
+use Rattle.definition.proofs.Basic.{both_left, both_right}
 
 -- what passes the test is valid
 pub passes : (i : Instr) → valid i ≡ true → ValidInstr i

@@ -5,15 +5,19 @@ use mathlib.Core.List.{List}
 use mathlib.Core.Bool.{Bool, true, false}
 use native.Mathlib.Omega.{arith}
 use lib.Bits.{bit_or}
-use lib.Dec.{leb, leb→le}
+use lib.Dec.{leb}
 use lib.ListN.{length, get_or, get_or-eq_default}
-use borrow.Author.Tests.{lt-leb, leb-false}
-use Rattle.std.specs.Prelude.{None}
+use borrow.Author.Tests.{lt-leb, le-leb, leb-false}
+use Rattle.std.specs.Prelude.{Option, Some, None}
+use Rattle.std.specs.Option.{option_copied}
+use Rattle.std.specs.Slice.{IsItemAt}
+use Rattle.std.proofs.Common.{Bor}
 use Rattle.definition.specs.Basic.{pick, both}
 use Rattle.definition.specs.Opcode.{op_last, widths, width}
-use Rattle.opcode.specs.Table.{entry, no_instruction}
+use Rattle.definition.proofs.Instructions.{width_most}
+use Rattle.opcode.specs.Table.{entry, no_instruction, width_of}
 use Rattle.opcode.specs.Decoding.{size_at}
-use Rattle.opcode.proofs.Tables.{tabulate, tabulated, every_at}
+use Rattle.opcode.proofs.Tables.{tabulate, tabulated}
 
 -- what `opcode::width` computes from two numbers: two bits of the first, and all eight of a byte that the second takes past 255
 module _ (p k : ℕ) where
@@ -24,17 +28,18 @@ module _ (p k : ℕ) where
   pub packed-entry : tabulate packed 0 256 ≡ tabulate entry 0 256 → (o : ℕ) {n : ℕ} → o < 256 → n ≡ o → packed n ≡ entry o
   packed-entry t o h e = ap packed e ∙ sym (tabulated packed 256 o h) ∙ ap (λ (l : List ℕ). get_or l o 0) t ∙ tabulated entry 256 o h
 
--- at most three operand bytes
-pub width_small : (o : ℕ) → width o ≤ 3
-width_small o = leb→le (width o) 3 (every_at (λ w. leb w 3) widths tt tt o)
-
 -- an entry is a byte
 pub entry_small : (o : ℕ) → entry o < 256
 entry_small o = go (leb o op_last)
   where
     go : (b : Bool) → pick b (width o) no_instruction < 256
-    go true = omega (arith, width_small o)
+    go true = omega (arith, width_most o)
     go false = omega arith
+
+-- what the table of widths gives of a byte
+pub looked_up : (o : ℕ) (r : Option (Bor ℕ)) → IsItemAt (tabulate width 0 30) o r → option_copied r ≡ width_of o
+looked_up o None h = rw (lt-leb o op_last (omega (arith, h.3)))
+looked_up o (Some x) h = rw (le-leb o op_last (omega (arith, h.3.0))) (ap Some (h.4 (omega arith) 0 ∙ tabulated width 30 o h.3.0))
 
 -- a known byte's entry is its width, and no other byte's entry is a width
 pub record Known (o w : ℕ) : Type 0 where
@@ -46,14 +51,14 @@ pub known : (o : ℕ) {w : ℕ} → w ≡ entry o → (w ≡ no_instruction → 
 known o {w} e n = go (leb o op_last) refl
   where
     go : (b : Bool) → leb o op_last ≡ b → Known o w
-    go true k = let i : width o ≡ w = sym (rw k at e) in record { known = k; is = i; small = rw (← i) (width_small o) }
+    go true k = let i : width o ≡ w = sym (rw k at e) in record { known = k; is = i; small = rw (← i) (width_most o) }
     go false k = absurd (n (rw k at e))
 
 pub unknown : (o : ℕ) {w : ℕ} → w ≡ entry o → w ≡ no_instruction → leb o op_last ≡ false
 unknown o {w} e n = go (leb o op_last) refl
   where
     go : (b : Bool) → leb o op_last ≡ b → leb o op_last ≡ false
-    go true k = let i : w ≡ width o = rw k at e in absurd (omega (arith, width_small o))
+    go true k = let i : w ≡ width o = rw k at e in absurd (omega (arith, width_most o))
     go false k = k
 
 -- a byte past the last instruction's has no operands

@@ -1,5 +1,5 @@
 -- What going over the instructions of code gives.
-use Rattle.std.specs.Prelude.{ℕ, ◌≡◌, ◌<◌, Option, MatchOption, Ok, Err}
+use Rattle.std.specs.Prelude.{ℕ, ◌≡◌, ◌<◌, Option, MatchOption, Err}
 use Rattle.definition.specs.declared.reason.Refusal.{Refusal}
 use Rattle.opcode.specs.Decoding.{found, read_before, decode_answer}
 use Rattle.opcode.specs.declared.Instruction.{Instruction}

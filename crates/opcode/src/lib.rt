@@ -12,7 +12,7 @@ ghost use Rattle.definition.specs.Decode.{read_instr};
 ghost use Rattle.definition.specs.Output.{over};
 ghost use Rattle.definition.specs.Listing.{words};
 ghost use Rattle.definition.specs.Valid.{operand_bound, captures_bound};
-ghost use Rattle.opcode.specs.Table.{entry};
+ghost use Rattle.opcode.specs.Table.{entry, width_of};
 ghost use Rattle.opcode.specs.Decoding.{size_at, instruction, instr_of, read_before, decode_answer};
 ghost use Rattle.opcode.specs.Words.{joined, start_of, word_answer, word_into};
 ghost use Rattle.opcode.specs.Encoding.{valid, encode_answer, encode_into, Ready};
@@ -36,11 +36,12 @@ pub struct Decoded {
     pub after: usize,
 }
 
-// The entry of a first byte in the table. A constant array is copied to the stack where it is read, so `width` stands in where speed matters.
-fn table_entry(op: u8) -> u8
-    ensures { result ≡ entry op }
+// The operand length of an instruction with this first byte, if it begins one. A constant array is copied to the stack where it is read, so
+// `width` stands in where speed matters.
+fn table_entry(op: u8) -> Option<u8>
+    ensures { result ≡ width_of op }
 {
-    WIDTHS[wide(op)]
+    WIDTHS.get(usize::from(op)).copied()
 }
 
 // The operand length of an instruction with this first byte, or `NO_INSTRUCTION`: the table's entry, computed without memory or a branch.
@@ -90,33 +91,19 @@ fn instruction_at(code: &[u8], at: usize, size: usize) -> Instruction
     requires { (at + size ≤ length code.now) × (size ≡ 1 + operandLength (byte_at code.now at)) }
     ensures { result ≡ instruction (instr_at (byte_at code.now) at) }
 {
-    let op = code[at];
-    if size == 1 {
-        return Instruction {
-            op: op,
-            operand: 0,
-            captures: 0,
-        };
-    }
-    if size == 2 {
-        return Instruction {
-            op: op,
-            operand: u16::from(code[at + 1]),
-            captures: 0,
-        };
-    }
-    let a = u16::from_be_bytes([code[at + 1], code[at + 2]]);
-    if size == 3 {
-        return Instruction {
-            op: op,
-            operand: a,
-            captures: 0,
-        };
-    }
+    let (operand, captures) = match size {
+        1 => (0, 0),
+        2 => (u16::from(code[at + 1]), 0),
+        3 => (u16::from_be_bytes([code[at + 1], code[at + 2]]), 0),
+        _ => (
+            u16::from_be_bytes([code[at + 1], code[at + 2]]),
+            code[at + 3],
+        ),
+    };
     Instruction {
-        op: op,
-        operand: a,
-        captures: code[at + 3],
+        op: code[at],
+        operand,
+        captures,
     }
 }
 
@@ -179,10 +166,9 @@ fn captures_bound(w: u8) -> usize
 pub fn is_valid(i: Instruction) -> bool
     ensures { result ≡ valid (instr_of i) }
 {
-    let w = table_entry(i.op);
-    if w == NO_INSTRUCTION {
+    let Some(w) = table_entry(i.op) else {
         return false;
-    }
+    };
     if operand_bound(w) <= i.operand as usize {
         return false;
     }
@@ -195,20 +181,12 @@ fn put(out: &mut [u8], i: Instruction, w: usize)
     ensures { out.new ≡ over (bytes_of (instr_of i)) out.old }
 {
     let [high, low] = i.operand.to_be_bytes();
-    out[0] = i.op;
-    if w == 0 {
-        return;
+    match w {
+        0 => out[..1].copy_from_slice(&[i.op]),
+        1 => out[..2].copy_from_slice(&[i.op, low]),
+        2 => out[..3].copy_from_slice(&[i.op, high, low]),
+        _ => out[..4].copy_from_slice(&[i.op, high, low, i.captures]),
     }
-    if w == 1 {
-        out[1] = low;
-        return;
-    }
-    out[1] = high;
-    out[2] = low;
-    if w == 2 {
-        return;
-    }
-    out[3] = i.captures;
 }
 
 // Encode an instruction at the start of `out`: its length, or 16 at 0 if it is not valid, or 15 at 0 if it is longer than `out`.

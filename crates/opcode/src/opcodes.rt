@@ -1,5 +1,5 @@
 // The instruction bytes, as the definition's Opcode has them.
-// Kept: numbers and no enum, since they are bytes of images, and the functions that take one take any byte.
+// Kept: numbers and no enum, since they are bytes of code, which callers lend and which may hold any byte.
 
 // The instructions, by the names of `Opcode`.
 pub const CONSTANT: u8 = 0x00;

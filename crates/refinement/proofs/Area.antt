@@ -15,6 +15,7 @@ use Rattle.definition.specs.Bytecode.{Code, encode, size_of}
 use Rattle.definition.specs.Compiler as Structured
 use Rattle.definition.specs.Compiler.{without_last}
 use Rattle.definition.proofs.Instructions.{size-bytes, code-length}
+use Rattle.definition.proofs.Limits.{without_size}
 use Rattle.scope.specs.Machine.{chunk, last_is}
 use Rattle.scope.specs.declared.Chunk.{Chunk}
 use Rattle.refinement.specs.Relation.{Coded}
@@ -41,11 +42,6 @@ encode_last : (c : Code) → encode c ≡ encode (without_last c) ++ last_bytes 
 unfolding last_bytes
 encode_last [] = refl
 encode_last (i ∷ is) = refl
-
--- without it code is no longer
-without_size : (c : Code) → size_of (without_last c) ≤ size_of c
-without_size [] = omega arith
-without_size (i ∷ is) = omega arith
 
 -- a Pop that is last is one byte
 record PopLast (c : Code) : Type 0 where

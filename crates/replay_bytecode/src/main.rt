@@ -8,20 +8,13 @@
 
 use definition::{Reason, Refusal};
 use opcode::Instruction;
-use report::print_failure;
+use report::{print_failure, print_refusal};
 use std::alloc::{AllocError, Global};
 use std::{fs, io};
 
 // Write a number with a space before it.
 fn write_number(rt: &impl Print, n: usize) -> io::Result<()> {
     print!(rt; " {n}")
-}
-
-// Write a refusal's line.
-fn write_refusal(rt: &impl Print, refusal: Refusal) -> io::Result<()> {
-    let number = refusal.reason.number();
-    let place = refusal.place;
-    println!(rt; "refused {number} {place}")
 }
 
 // Write a decoded instruction's line: its byte, its operands and its length.
@@ -42,7 +35,7 @@ fn write_instruction(rt: &impl Print, i: Instruction, size: usize) -> io::Result
 fn write_check(rt: &impl Print, refusal: Refusal) -> io::Result<()> {
     match refusal.reason {
         Reason::OutputShort => rt.println("ok"),
-        _ => write_refusal(rt, refusal),
+        _ => print_refusal(rt, refusal),
     }
 }
 
@@ -77,7 +70,7 @@ fn answer_turned<
     };
     match turn(image, part) {
         Ok(n) => write(rt, part.get(..n).unwrap_or(part)),
-        Err(r) => write_refusal(rt, r),
+        Err(r) => print_refusal(rt, r),
     }
 }
 
@@ -91,7 +84,7 @@ fn write_listing<R: Print>(rt: &R, listing: &[u8]) -> io::Result<()> {
 fn answer_decode(rt: &impl Print, code: &[u8]) -> io::Result<()> {
     match opcode::decode(code) {
         Ok(found) => write_instruction(rt, found.instruction, found.after),
-        Err(r) => write_refusal(rt, r),
+        Err(r) => print_refusal(rt, r),
     }
 }
 
@@ -99,7 +92,7 @@ fn answer_decode(rt: &impl Print, code: &[u8]) -> io::Result<()> {
 fn answer_session(rt: &impl Print, session: &[u8]) -> io::Result<()> {
     match bytecode::read_layout(session) {
         Some(_) => rt.println("ok"),
-        None => write_refusal(
+        None => print_refusal(
             rt,
             Refusal {
                 reason: Reason::NoSession,
@@ -124,7 +117,7 @@ fn answer_count(rt: &impl Print, bytes: &[u8]) -> io::Result<()> {
     };
     match frames::count_frames(image, number_of(*size)) {
         Ok(count) => write_two(rt, count.whole, count.rest),
-        Err(r) => write_refusal(rt, r),
+        Err(r) => print_refusal(rt, r),
     }
 }
 
@@ -133,7 +126,7 @@ fn show_part(rt: &impl Print, image: &[u8], size: usize, index: usize) -> io::Re
     let part = frames::frame(image, size, index);
     let len = part.len();
     if let Some(refusal) = frames::frame_refusal(image, size, index) {
-        write_refusal(rt, refusal)?;
+        print_refusal(rt, refusal)?;
         if len != 0 {
             rt.println("a part was given")?;
         }

@@ -3,7 +3,7 @@ use Prim.Native.Nat.{ℕ, ◌+◌, ◌/◌, ◌%◌, ◌≤◌, ◌<◌}
 use native.Mathlib.Omega.{arith}
 use mathlib.Core.Bool.{Bool, true, false}
 use mathlib.Core.List.{[], ◌∷◌}
-use mathlib.Core.Path.{◌≡◌, refl, sym, ap, ◌∙◌}
+use mathlib.Core.Path.{◌≡◌, refl, sym, ◌∙◌}
 use lib.Dec.{ltb, eqb}
 use lib.ListN.{length, set, length-set}
 use lib.Seq.{sets, length-sets}
@@ -14,13 +14,11 @@ use Rattle.definition.specs.Number
 use Rattle.definition.specs.Opcode.{Instr, instr, plain, size, bytes_of, op_pop, op_jump, op_return_value, op_return}
 use Rattle.definition.specs.Walk.{on, refuse, bind, Go}
 use Rattle.definition.specs.Compiler.{unpatched}
-use Rattle.definition.specs.declared.reason.Refusal.{Refusal}
 use Rattle.definition.proofs.Basic.{both_left, passed_on}
 use Rattle.scope.specs.declared.Chunk.{Chunk}
 use Rattle.scope.specs.declared.State.{State}
 use Rattle.scope.specs.Walked.{Walked}
 use Rattle.std.specs.Prelude.{Ok, Err}
-use Rattle.scope.specs.Walked.{stopped}
 use Rattle.scope.specs.declared.Jumped.{Jumped}
 use Rattle.scope.specs.declared.emission.Emitted.{Emitted}
 use Rattle.scope.specs.View.{Symbols, View, view, ended, ended_at, then, Fits, Ready, Done, Jumps, Refuses}

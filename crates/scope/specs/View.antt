@@ -6,7 +6,6 @@ use Rattle.definition.specs.SymbolTable.{Table}
 use Rattle.definition.specs.Walk.{Res, on, stop, refuse, bind, Go}
 use Rattle.scope.specs.declared.State.{State}
 use Rattle.scope.specs.Walked.{Walked}
-use Rattle.scope.specs.Walked.{stopped}
 use Rattle.scope.specs.declared.Jumped.{Jumped}
 use Rattle.definition.specs.declared.reason.Reason.{Reason}
 

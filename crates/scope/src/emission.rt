@@ -8,6 +8,8 @@ use super::instruction::{Instruction, write_instruction, write_word};
 use definition::limit::CODE_SIZE;
 
 // What emission and patching answer: the chunk afterwards, and whether there was room.
+// Kept: the flag, since with an Option in its place the same two calls as at Jumped take 5.2 and 7.2 % more instructions, where the bar
+// is 3 %.
 #[derive(Clone, Copy)]
 pub struct Emitted {
     pub chunk: Chunk,

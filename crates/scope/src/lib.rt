@@ -52,8 +52,8 @@ pub struct Stopped {
 pub type Walked = Result<State, Stopped>;
 
 // A jump that was emitted, and its position in its chunk.
-// Kept: the walk beside it, as in `step`'s Defining and Added: with a Result of the two and `?` a compile call takes up
-// to 6 % more instructions.
+// Kept: the walk beside it, as in `step`'s Defining and Added: with a Result of the two and `?` a call on 30 KB of globals takes
+// 4.5 % more instructions and one on branches 5.6 %, where the bar is 3 %.
 #[derive(Clone, Copy)]
 pub struct Jumped {
     pub walked: Walked,

@@ -8,10 +8,10 @@ ghost use Rattle.scope.specs.Code.{opcode_of, Alone};
 
 use opcode::opcodes;
 
-// The instructions of the prefix operators, in the order of `Operator`.
+// The instructions of the prefix operators, by the bytes of `definition::operator` from 0 up to Bang.
 const PREFIXES: [Option<u8>; 4] = [None, None, Some(opcodes::MINUS), Some(opcodes::BANG)];
 
-// The instructions of the infix operators.
+// The instructions of the infix operators, by those from 0 up to GreaterThan.
 const INFIXES: [Option<u8>; 10] = [
     None,
     Some(opcodes::ADD),

@@ -1,15 +1,14 @@
 -- A row of trees: its calls are a series, and the loop over it.
-use Prim.Native.Nat.{ℕ, ◌+◌, ◌-◌, ◌≤◌, ◌<◌, min}
-use native.Mathlib.Omega.{arith}
-use native.Mathlib.Nat.{min-eq_left, min-eq_right}
+use Prim.Native.Nat.{ℕ, ◌+◌, ◌≤◌, ◌<◌, min}
+use Rattle.std.proofs.lemmas.List.{take_min, drop_min}
 use native.Mathlib.Numerals.{add-one}
-use mathlib.Core.Bool.{Bool, true, false}
+use mathlib.Core.Bool.{true}
 use mathlib.Core.List.{List, [], ◌∷◌, ◌++◌}
 use mathlib.Core.Path.{◌≡◌, refl, sym, ap, subst, ◌∙◌}
 use lib.Dec.{leb}
-use lib.ListN.{length, take, drop, get_or, take-append-drop, length-drop, drop_of_length-le}
-use lib.Seq.{take_all, length-take-le, drop-drop, drop-cons}
-use borrow.Author.Tests.{leb-true, leb-false}
+use lib.ListN.{length, take, drop, get_or, take-append-drop, drop_of_length-le}
+use lib.Seq.{length-take-le, drop-cons}
+use borrow.Author.Tests.{leb-true}
 use Rattle.definition.specs.Basic.{Bytes}
 use Rattle.definition.specs.Limit.{session_size}
 use Rattle.definition.specs.Call.{Lent, Called, call}
@@ -50,60 +49,31 @@ row-ran (t ∷ ts) s l h =
     same = λ i. record { session = carried s l.session h i; output = l.output; code = l.code; table = l.table }
 
 -- The loop over a row: what is left decides
-pub record RowLoop (trees : Bytes) (lengths : List ℕ) (x₀ x : Called) (at k : ℕ) : Type 0 where
-  pub within : at ≤ length trees
-  pub decides : last_of x (row_gives (trees_of (drop at trees) (drop k lengths)) x.lent) ≡ last_of x₀ (row_gives (trees_of trees lengths) x₀.lent)
+pub record RowLoop (trees : Bytes) (lengths : List ℕ) (x₀ x : Called) (rest : Bytes) (k : ℕ) : Type 0 where
+  pub decides : last_of x (row_gives (trees_of rest (drop k lengths)) x.lent) ≡ last_of x₀ (row_gives (trees_of trees lengths) x₀.lent)
   pub session : length x.lent.session ≡ length x₀.lent.session
   pub output : length x.lent.output ≡ length x₀.lent.output
   pub code : length x.lent.code ≡ length x₀.lent.code
   pub table : length x.lent.table ≡ length x₀.lent.table
 
-pub row-begins : (trees : Bytes) (lengths : List ℕ) (x : Called) → RowLoop trees lengths x x 0 0
-row-begins trees lengths x = record { within = omega arith; decides = refl; session = refl; output = refl; code = refl; table = refl }
+pub row-begins : (trees : Bytes) (lengths : List ℕ) (x : Called) → RowLoop trees lengths x x trees 0
+row-begins trees lengths x = record { decides = refl; session = refl; output = refl; code = refl; table = refl }
 
-module _ (trees : Bytes) (at n size : ℕ) (h : at ≤ length trees) (e : size ≡ min n (length trees - at)) where
-  -- the part that is lent is the tree, and what is behind it is left
-  pub record Cut : Type 0 where
-    pub tree : take size (drop at trees) ≡ take n (drop at trees)
-    pub left : drop (at + size) trees ≡ drop n (drop at trees)
-    pub fits : at + size ≤ length trees
-
-  pub cut : Cut
-  cut = go (leb n (length trees - at)) refl
-    where
-      go : (b : Bool) → leb n (length trees - at) ≡ b → Cut
-      go true t =
-          let r = leb-true n (length trees - at) t in
-          let s = e ∙ min-eq_left r in
-          record { tree = ap (λ k. take k (drop at trees)) s; left = ap (λ k. drop (at + k) trees) s ∙ sym (drop-drop n at trees); fits = omega arith }
-      go false t =
-          let r = leb-false n (length trees - at) t in
-          let s : size ≡ length trees - at = e ∙ min-eq_right (omega arith) in
-          let l = length-drop at trees in
-          let long : length (drop at trees) ≤ n = omega arith in
-          let all : length (drop at trees) ≤ size = omega arith in
-          record {
-            tree = take_all size (drop at trees) all ∙ sym (take_all n (drop at trees) long);
-            left = drop_of_length-le trees {i = at + size} (omega arith) ∙ sym (drop_of_length-le (drop at trees) {i = n} long);
-            fits = omega arith;
-          }
-
-module _ (trees : Bytes) (lengths : List ℕ) {x₀ x : Called} {at k : ℕ} (i : RowLoop trees lengths x₀ x at k) (more : k < length lengths) where
-  -- a turn
-  pub row-turns : {size : ℕ} {r : Answer} {l' : Lent} → size ≡ min (get_or lengths k 0) (length trees - at)
-      → Compiles (take (at + size - at) (drop at trees)) x.lent r l'
+module _ (trees : Bytes) (lengths : List ℕ) {x₀ x : Called} {rest : Bytes} {k : ℕ} (i : RowLoop trees lengths x₀ x rest k) (more : k < length lengths) where
+  -- a turn: the part that is lent is the tree, and what is behind it is left
+  pub row-turns : {size : ℕ} {tree behind : Bytes} {r : Answer} {l' : Lent} → size ≡ min (get_or lengths k 0) (length rest) → tree ≡ take size rest → behind ≡ drop size rest
+      → Compiles tree x.lent r l'
       → length l'.session ≡ length x.lent.session → length l'.output ≡ length x.lent.output → length l'.code ≡ length x.lent.code → length l'.table ≡ length x.lent.table
-      → RowLoop trees lengths x₀ (record { answer = r; lent = l' }) (at + size) (k + 1)
-  row-turns {size} {r} {l'} e p s o c t =
-      let f : at + size - at ≡ size = omega arith in
-      let q = cut trees at (get_or lengths k 0) size i.within e in
-      let tree = take (get_or lengths k 0) (drop at trees) in
-      let same : record { answer = r; lent = l' } ≡ call tree x.lent = (λ j. record { answer = p.answer j; lent = p.lent j }) ∙ ap (λ b. call b x.lent) (ap (λ n. take n (drop at trees)) f ∙ q.tree) in
-      let rest = drop (k + 1) lengths in
-      let here : drop k lengths ≡ get_or lengths k 0 ∷ rest = drop-cons lengths k 0 more ∙ ap (λ m. get_or lengths k 0 ∷ drop m lengths) (sym (add-one k)) in
+      → RowLoop trees lengths x₀ (record { answer = r; lent = l' }) behind (k + 1)
+  row-turns {tree = tree} {behind = behind} {r = r} {l' = l'} e u v p s o c t =
+      let n = get_or lengths k 0 in
+      let cut : tree ≡ take n rest = u ∙ ap (λ j. take j rest) e ∙ take_min n rest in
+      let left : behind ≡ drop n rest = v ∙ ap (λ j. drop j rest) e ∙ drop_min n rest in
+      let same : record { answer = r; lent = l' } ≡ call (take n rest) x.lent = (λ j. record { answer = p.answer j; lent = p.lent j }) ∙ ap (λ b. call b x.lent) cut in
+      let later = drop (k + 1) lengths in
+      let here : drop k lengths ≡ get_or lengths k 0 ∷ later = drop-cons lengths k 0 more ∙ ap (λ m. get_or lengths k 0 ∷ drop m lengths) (sym (add-one k)) in
       record {
-        within = q.fits;
-        decides = (λ j. last_of (same j) (row_gives (trees_of (q.left j) rest) (same j).lent)) ∙ ap (λ ns. last_of x (row_gives (trees_of (drop at trees) ns) x.lent)) (sym here) ∙ i.decides;
+        decides = (λ j. last_of (same j) (row_gives (trees_of (left j) later) (same j).lent)) ∙ ap (λ ns. last_of x (row_gives (trees_of rest ns) x.lent)) (sym here) ∙ i.decides;
         session = s ∙ i.session;
         output = o ∙ i.output;
         code = c ∙ i.code;
@@ -111,12 +81,12 @@ module _ (trees : Bytes) (lengths : List ℕ) {x₀ x : Called} {at k : ℕ} (i 
       }
 
 -- the end
-pub row_ends : (trees : Bytes) (lengths : List ℕ) (l : Lent) {r : Answer} {s : Bytes} → Makes l.session r s → {x : Called} {at k : ℕ}
-    → RowLoop trees lengths (record { answer = r; lent = lent_of s l.output l.code l.table }) x at k → length lengths ≤ k → RunsRow (trees_of trees lengths) l x.answer x.lent
-row_ends trees lengths l {r} {s} m {x} {at} i h =
+pub row_ends : (trees : Bytes) (lengths : List ℕ) (l : Lent) {r : Answer} {s : Bytes} → Makes l.session r s → {x : Called} {rest : Bytes} {k : ℕ}
+    → RowLoop trees lengths (record { answer = r; lent = lent_of s l.output l.code l.table }) x rest k → length lengths ≤ k → RunsRow (trees_of trees lengths) l x.answer x.lent
+row_ends trees lengths l {r} {s} m {x} {rest} i h =
     record {
       ran = row-ran (trees_of trees lengths) (session_made l.session) (started l).lent (record { front = λ _. refl });
-      last = ap (λ ns. last_of x (row_gives (trees_of (drop at trees) ns) x.lent)) (sym (drop_of_length-le lengths h)) ∙ i.decides
+      last = ap (λ ns. last_of x (row_gives (trees_of rest ns) x.lent)) (sym (drop_of_length-le lengths h)) ∙ i.decides
           ∙ (λ j. last_of (begun j) (row_gives (trees_of trees lengths) (begun j).lent));
     }
   where

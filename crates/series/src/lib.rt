@@ -9,6 +9,7 @@ use compiler::{compile, make_session};
 use definition::Refusal;
 
 // Makes a session, and compiles a row of trees in it, so many bytes each and one behind the other: the last call's answer and image.
+// Kept: the slices one by one, as `compile` takes them, since C lends them so.
 pub fn compile_row(
     session: &mut [u8],
     trees: &[u8],
@@ -20,11 +21,11 @@ pub fn compile_row(
     ensures { RunsRow (trees_of trees.now lengths.now) (lent_of session.old output.old code.old table.old) result (lent_of session.new output.new code.new table.new) }
 {
     let mut answer = make_session(session);
-    let mut at = 0;
+    let mut rest = trees;
     for length in lengths {
-        let end = at + (*length).min(trees.len() - at);
-        answer = compile(session, &trees[at..end], output, code, table);
-        at = end;
+        let (tree, behind) = rest.split_at((*length).min(rest.len()));
+        answer = compile(session, tree, output, code, table);
+        rest = behind;
     }
     answer
 }

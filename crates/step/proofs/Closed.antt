@@ -14,13 +14,11 @@ use Rattle.definition.specs.Number
 use Rattle.definition.specs.Tag.{tag_function_const}
 use Rattle.definition.specs.Opcode.{instr, op_closure}
 use Rattle.definition.specs.Walk.{Res, bind, refuse, Go}
-use Rattle.definition.specs.declared.reason.Refusal.{Refusal}
 use Rattle.symbol_table.specs.Layout.{part, originals_of, table_of, tables_of, GoodTable, Good, symbol_of, originals_at}
 use Rattle.symbol_table.proofs.Back.{length_back}
 use Rattle.scope.specs.declared.State.{State}
 use Rattle.scope.specs.Walked.{Walked}
 use Rattle.std.specs.Prelude.{Ok, Err}
-use Rattle.scope.specs.Walked.{stopped}
 use Rattle.scope.specs.View.{View, view, then, Fits, Sound, Ready, Done, Refuses}
 use Rattle.scope.specs.Machine.{here, emit, returned, add_constant, outside, function_content, loads_size, loads, close_over, leave}
 use Rattle.step.specs.declared.Added.{Added}

@@ -14,12 +14,10 @@ use Rattle.definition.specs.Number
 use Rattle.definition.specs.Field.{field}
 use Rattle.definition.specs.Opcode.{instr, op_constant}
 use Rattle.definition.specs.Walk.{Res, on, refuse}
-use Rattle.definition.specs.declared.reason.Refusal.{Refusal}
 use Rattle.field.specs.Layout.{content}
 use Rattle.scope.specs.declared.State.{State}
 use Rattle.scope.specs.Walked.{Walked}
 use Rattle.std.specs.Prelude.{Ok, Err}
-use Rattle.scope.specs.Walked.{stopped}
 use Rattle.scope.specs.View.{View, view, Refuses, Done}
 use Rattle.scope.specs.Machine.{with_constant, add_constant, emit, literal}
 use Rattle.session.proofs.Stores.{take_sets}

@@ -21,7 +21,6 @@ use Rattle.definition.proofs.Instructions.{size-bytes}
 use Rattle.scope.specs.declared.State.{State}
 use Rattle.scope.specs.Walked.{Walked}
 use Rattle.std.specs.Prelude.{Ok, Err}
-use Rattle.scope.specs.Walked.{stopped}
 use Rattle.scope.specs.View.{View, view, outline}
 use Rattle.scope.specs.Machine.{here, put, emit, last_is, returned, with_constant, add_constant, outside, chunk_bytes, function_content, loads_size, loads, close_over, leave}
 use Rattle.step.specs.Memory.{Rest, rest, state_of, symbols_of, no_symbols, settled, memory}

@@ -11,7 +11,6 @@ use Rattle.definition.specs.Limit.{nesting_limit, arguments_limit}
 use Rattle.definition.specs.Number
 use Rattle.definition.specs.SymbolTable.{named, with_params}
 use Rattle.definition.specs.Walk.{on, refuse}
-use Rattle.definition.specs.declared.reason.Refusal.{Refusal}
 use Rattle.field.specs.Layout.{content, after}
 use Rattle.tree.specs.At.{Row, NamedAt, ParamsAt}
 use Rattle.symbol_table.specs.Name as Name
@@ -20,7 +19,6 @@ use Rattle.symbol_table.specs.Contract as Symbol
 use Rattle.scope.specs.declared.State.{State}
 use Rattle.scope.specs.Walked.{Walked}
 use Rattle.std.specs.Prelude.{Ok, Err}
-use Rattle.scope.specs.Walked.{stopped}
 use Rattle.scope.specs.View.{view, Fits, Sound, Refuses}
 use Rattle.scope.specs.Machine.{inside, enter}
 use Rattle.step.specs.Memory.{rest, names_of, symbols_of, settled, FineState}

@@ -1,8 +1,8 @@
 -- The loads of captured originals.
-use Prim.Native.Nat.{ℕ, ◌+◌, ◌*◌, ◌≤◌, ◌<◌}
+use Prim.Native.Nat.{ℕ, zero, suc, ◌+◌, ◌*◌, ◌≤◌, ◌<◌}
 use native.Mathlib.Omega.{arith}
 use native.Mathlib.Numerals.{add-one}
-use mathlib.Core.List.{List, [], ◌∷◌}
+use mathlib.Core.List.{List, [], ◌∷◌, map}
 use mathlib.Core.Path.{◌≡◌, refl, sym, ap, subst, ◌∙◌}
 use lib.ListN.{length, get_or}
 use Rattle.definition.specs.Basic.{Bytes}
@@ -14,7 +14,8 @@ use Rattle.symbol_table.specs.Layout.{part, symbol_of, originals_at, originals_o
 use Rattle.symbol_table.proofs.Back.{back_none, back_next}
 use Rattle.scope.specs.Walked.{Walked}
 use Rattle.std.specs.Prelude.{Ok, Err}
-use Rattle.scope.specs.Walked.{stopped}
+use Rattle.std.specs.List.{sum, range_with_len}
+use Rattle.std.proofs.lemmas.List.FromFn.{sum_by-map-range_with_len_more}
 use Rattle.scope.specs.View.{Symbols, ended, then, Ready, Done}
 use Rattle.scope.specs.Machine.{emit, loads_size, loads}
 use Rattle.step.proofs.Memory.{done_done}
@@ -30,11 +31,30 @@ originals_more r i = rw (add-one i) (back_next symbol_of r originals_at i)
 originals_none : (r : List ℕ) → originals_of r 0 ≡ []
 originals_none r = back_none symbol_of r originals_at 0 (omega arith)
 
-pub size_none : (r : List ℕ) → 0 ≡ loads_size (originals_of r 0)
-size_none r = rw (originals_none r)
+-- the bytes of the load of the original at an index, and of the first so many
+abbrev pub size_at : List ℕ → ℕ → ℕ
+size_at r i = size (load_of (symbol_of (get_or r (originals_at + i) 0)))
 
-pub size_more : (r : List ℕ) (i : ℕ) {k z o a : ℕ} → k ≡ get_or r (originals_at + i) 0 → instr o a 0 ≡ load_of (symbol_of k) → z ≡ loads_size (originals_of r i) → z + size (instr o a 0) ≡ loads_size (originals_of r (i + 1))
-size_more r i q j h = (λ u. h u + size (j u)) ∙ ap (λ k. loads_size (originals_of r i) + size (load_of (symbol_of k))) q ∙ sym (ap loads_size (originals_more r i))
+abbrev pub sizes : List ℕ → ℕ → List ℕ
+sizes r n = map (size_at r) (range_with_len 0 n)
+
+pub same_size : (r : List ℕ) (i : ℕ) {k o a x : ℕ} → k ≡ get_or r (originals_at + i) 0 → instr o a 0 ≡ load_of (symbol_of k) → x ≡ width o → 1 + x ≡ size_at r i
+same_size r i q j e = ap (λ x. 1 + x) e ∙ ap size j ∙ ap (λ k. size (load_of (symbol_of k))) q
+
+-- their sum, one more at a time
+sizes_more : (r : List ℕ) (i : ℕ) → sum (sizes r (suc i)) ≡ sum (sizes r i) + size_at r i
+sizes_more r i = let next : suc i ≡ i + 1 = omega arith in ap (λ m. sum (sizes r m)) next ∙ sum_by-map-range_with_len_more (λ x. x) (size_at r) 0 i i (omega arith)
+
+pub sizes_sum : (r : List ℕ) (n : ℕ) → sum (sizes r n) ≡ loads_size (originals_of r n)
+sizes_sum r zero = sym (ap loads_size (originals_none r))
+sizes_sum r (suc i) =
+    let next : i + 1 ≡ suc i = omega arith in
+    sizes_more r i ∙ ap (λ z. z + size_at r i) (sizes_sum r i) ∙ sym (ap loads_size (originals_more r i)) ∙ ap (λ m. loads_size (originals_of r m)) next
+
+-- at most four bytes each
+pub sizes_small : (r : List ℕ) (n : ℕ) → sum (sizes r n) ≤ 4 * n
+sizes_small r zero = omega arith
+sizes_small r (suc i) = omega (arith, sizes_more r i, sizes_small r i, width_most (load_of (symbol_of (get_or r (originals_at + i) 0))).op)
 
 -- nothing to load
 pub loads_none : (p : ℕ) (r : List ℕ) {c : Bytes} {w : Walked} → Ready c w → Done c c w w (loads p (originals_of r 0))
@@ -50,22 +70,7 @@ pub loads_more : (p : ℕ) (r : List ℕ) (i : ℕ) {k o a : ℕ} {c c₁ c₂ :
 unfolding loads
 loads_more p r i {c₁ = c₁} {c₂ = c₂} {v = v} {u = u} d q j h = rw (originals_more r i) (done_done d (subst (λ x. Done c₁ c₂ v u (emit p x)) (j ∙ ap (λ k. load_of (symbol_of k)) q) h))
 
--- The loops: so many of the n originals are done
-
-pub record SizeTurn (r : List ℕ) (n z i : ℕ) : Type 0 where
-  pub within : i ≤ n
-  pub is : z ≡ loads_size (originals_of r i)
-  pub small : z ≤ 4 * i
-
-module _ (r : List ℕ) (n : ℕ) where
-  pub size_holds : SizeTurn r n 0 0
-  size_holds = record { within = omega arith; is = size_none r; small = omega arith }
-
-  pub size_again : {i k z o a x : ℕ} → SizeTurn r n z i → i < n → k ≡ get_or r (originals_at + i) 0 → instr o a 0 ≡ load_of (symbol_of k) → x ≡ width o → SizeTurn r n (z + (1 + x)) (i + 1)
-  size_again {i} {z = z} {o = o} h l q j e = record { within = omega arith; is = ap (λ x. z + (1 + x)) e ∙ size_more r i q j h.is; small = omega (arith, h.small, e, width_most o) }
-
-  pub size_ends : {i z : ℕ} → SizeTurn r n z i → n ≤ i → (z ≡ loads_size (originals_of r n)) × (z ≤ 4 * n)
-  size_ends {i} h l = let e : i ≡ n = omega (arith, h.within) in (rw (← e) h.is, omega (arith, h.small))
+-- The loop: so many of the n originals are loaded
 
 pub record LoadTurn (p : ℕ) (r : List ℕ) (n : ℕ) (c c' : Bytes) (w v : Walked) (i : ℕ) : Type 0 where
   pub within : i ≤ n

@@ -6,7 +6,6 @@ use Rattle.scope.specs.View.{View, view}
 use Rattle.scope.specs.Machine.{here, returned}
 use Rattle.scope.specs.declared.State.{State}
 use Rattle.scope.specs.Walked.{Walked}
-use Rattle.scope.specs.Walked.{stopped}
 use Rattle.step.specs.Memory.{state_of, no_symbols}
 
 -- the offsets from one up to another, which is not among them

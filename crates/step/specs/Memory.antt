@@ -8,7 +8,6 @@ use Rattle.symbol_table.specs.Contract.{HasWords}
 use Rattle.scope.specs.View.{Symbols, View, view, then, Ready}
 use Rattle.scope.specs.declared.State.{State}
 use Rattle.scope.specs.Walked.{Walked}
-use Rattle.scope.specs.Walked.{stopped}
 
 -- the slices beside the code area
 pub record Rest : Type 0 where

@@ -22,12 +22,9 @@ fn loads_size(table: &[u32], level: usize, n: usize) -> usize
     ensures is { result ≡ machine.loads_size (originals_of (part level table.now) n) }
     ensures small { result ≤ 4 * n }
 {
-    let mut size = 0;
-    for i in 0..n {
-        let l = load_of(original(table, level, i));
-        size += 1 + l.operands;
-    }
-    size
+    (0..n)
+        .map(|i| 1 + load_of(original(table, level, i)).operands)
+        .sum()
 }
 
 // Emits the loads of the first `n` captured originals, the first one first.

@@ -49,17 +49,12 @@ few_names g l h = omega (arith, ap length (row_same h.row g.row))
 abbrev pub six_row : HasRow (in_order builtins) 0 42
 six_row = record { names = builtins; row = RowTo.more refl (lit≤ tt) (RowTo.more refl (lit≤ tt) (RowTo.more refl (lit≤ tt) (RowTo.more refl (lit≤ tt) (RowTo.more refl (lit≤ tt) (RowTo.more refl (lit≤ tt) (RowTo.end refl)))))); within = lit≤ tt }
 
--- where there are no bytes, or another tag, they are the words
-pub none_are : (b : Bytes) → length b ≡ 0 → builtins ≡ words_in b
-unfolding words_in
-none_are [] e = refl
-none_are (x ∷ b) e = absurd (omega arith)
-
 module _ (b : Bytes) where
   -- the names of their field
   abbrev own : Decoded (List Bytes)
   own = read_name_fields (byte_at b) tag_words words_limit 0 (length b)
 
+  -- where there are no bytes, or another tag, they are the words
   pub six_are : (byte_at b 0 ≡ tag_words → ⊥) → builtins ≡ words_in b
   unfolding words_in
   six_are n = ap (λ t. list_in (pick t (then own as_words) (decoded six 0))) (sym (ne_eqb (byte_at b 0) tag_words n))

@@ -47,6 +47,11 @@ resolved_of (Ok f) ts = Resolved.found (symbol_of f.code) ts
 resolved_of (Err Undefined) ts = Resolved.undefined
 resolved_of (Err Full) ts = Resolved.full
 
+-- the code of a name that was looked for outside all functions: 1 is no code
+abbrev pub code_or : Option ℕ → ℕ
+code_or (Some c) = c
+code_or None = 1
+
 -- the reason that a refused lookup tells
 abbrev pub lookup_reason : LookupError → Reason
 lookup_reason Undefined = Number.undefined

@@ -1,12 +1,31 @@
 -- What a lookup of a name needs of the table area, and what it finds there.
-use Rattle.std.specs.Prelude.{ℕ, ◌+◌, ◌≤◌, ◌≡◌, List, [], length, take, Option, Bool}
+use Rattle.std.specs.Prelude.{ℕ, ◌+◌, ◌≤◌, ◌≡◌, List, [], length, take, Option, Some, None, Bool}
 use Rattle.definition.specs.Basic.{Bytes}
 use Rattle.definition.specs.SymbolTable.{find}
 use Rattle.definition.specs.Decode.{words_in}
 use Rattle.field.specs.Layout.{content}
 use Rattle.symbol_table.specs.Layout.{globals_size, part_size, base, part, table_of, globals_in, GoodGlobals, GoodPart, Good, entries}
-use Rattle.symbol_table.specs.Contract.{Lookup, hit_of, resolved_of, outermost_of, Crossed, HasWords, Inside, Remarked, Known, Outermost, Resolves, MarksAll, Absent}
+use Rattle.symbol_table.specs.Contract.{Lookup, hit_of, resolved_of, outermost_of, code_or, Crossed, HasWords, Inside, Remarked, Known, Outermost, Resolves, MarksAll}
+use Rattle.symbol_table.specs.Contract as contract
 use Rattle.symbol_table.specs.declared.query.Query.{Query}
+use Rattle.symbol_table.specs.declared.query.Known as known
+use Rattle.symbol_table.specs.declared.query.Known.TheVariants.{Unasked, Absent, Code}
+
+-- what is known, as a number: 0 is a name not yet looked for, 1 one that is not there
+abbrev pub number_of : known.Known → ℕ
+number_of Unasked = 0
+number_of Absent = 1
+number_of (Code c) = c
+
+-- a code that is known is that of a builtin or a global
+abbrev pub Far : known.Known → Type 0
+Far Unasked = Unit {0}
+Far Absent = Unit {0}
+Far (Code c) = 768 ≤ c
+
+abbrev pub FarCode : Option ℕ → Type 0
+FarCode (Some c) = 768 ≤ c
+FarCode None = Unit {0}
 
 module _ (q : Query) where
   -- the name that is sought
@@ -39,13 +58,15 @@ module _ (q : Query) where
     pub size : base level ≤ length a
     pub good : Good q.key.tree.now q.names.now level a
 
-  -- a number that, where it is a code of a builtin or a global, is that of the name
-  abbrev pub IsKnown : List ℕ → ℕ → Type 0
-  IsKnown a c = Known words_of (globals_of_area a) name_of c
+  -- what is known, where it is the code of a builtin or a global, is that of the name
+  pub record IsKnown (a : List ℕ) (k : known.Known) : Type 0 where
+    pub code : Known words_of (globals_of_area a) name_of (number_of k)
+    pub far : Far k
 
   -- the code of the builtin or the global of the name, if there is one
-  abbrev pub HasCode : List ℕ → ℕ → Type 0
-  HasCode a c = Outermost words_of (globals_of_area a) name_of c
+  pub record HasCode (a : List ℕ) (r : Option ℕ) : Type 0 where
+    pub outermost : Outermost words_of (globals_of_area a) name_of (code_or r)
+    pub far : FarCode r
 
   -- the name's symbol outside all functions
   pub record IsOutermost (a : List ℕ) (answer : Lookup) : Type 0 where
@@ -69,5 +90,5 @@ module _ (q : Query) where
   MarksEntries l a a' = MarksAll words_of (globals_of_area a) q.key.tree.now l a a'
 
   -- whether the function at a level has surely no entry of the name of a code
-  abbrev pub Lacks : ℕ → ℕ → Bool → List ℕ → List ℕ → Type 0
-  Lacks l code answer a a' = Absent words_of (globals_of_area a) q.key.tree.now l code answer a a'
+  abbrev pub Lacks : ℕ → known.Known → Bool → List ℕ → List ℕ → Type 0
+  Lacks l k answer a a' = contract.Absent words_of (globals_of_area a) q.key.tree.now l (number_of k) answer a a'

@@ -14,13 +14,14 @@ use super::layout::{
     BUILTIN, CAPTURES, CODE_UNIT, CODES, ENTRIES_AT, FREE, FUNCTION, GLOBALS_SIZE, LOCAL, LOCALS,
     MARKED_AT, ORIGINALS_AT, PART_SIZE, TAG_UNIT,
 };
-use super::name::Key;
+use super::name::{Key, Label, Name};
 use super::{DefineError, Found, LookupError, Slot};
 use field::names::same_name;
 use field::{after_at, content_at};
 
 // The part of the function at a level.
-// Kept: where a part is written, its range stands at the call; to lend it by a function takes a clause on what comes back.
+// Kept: where a part is written, its range stands at the call. Tried: `part_mut(table, level) -> &mut [u32]`, whose clause on what
+// comes back did not close: the check proves one of a field or of a call's result, and not of a part of a slice.
 pub fn part(table: &[u32], level: usize) -> &[u32]
     requires { base level + part_size ≤ length table.now }
     ensures { result.now ≡ part level table.now }
@@ -48,7 +49,7 @@ pub fn count(part: &[u32]) -> usize
 }
 
 // How many of the first so many entries are left once those behind the latest with a tag are passed over: 0 where none has it.
-// Kept: with `for k in (0..from).rev()` a lookup takes up to 7 % more instructions.
+// Kept: with `for k in (0..from).rev()` a call on chosen names takes up to 7 % more instructions, and the bar is 3 %.
 fn tagged_below(part: &[u32], from: usize, tag: usize) -> usize
     requires { entries_at + from ≤ length part.now }
     ensures { PassedOver part.now from tag result }
@@ -66,17 +67,18 @@ fn tagged_below(part: &[u32], from: usize, tag: usize) -> usize
 
 // The latest entry of a name, in a table of n entries. Those whose tag is another are passed over in a loop of their own, which looks at no name.
 // Kept: each turn goes on where a search ended; as an iterator the same search would stand in a struct with its invariant.
-pub fn find_in(key: &Key, part: &[u32], n: usize) -> Option<u32>
-    requires good_table { GoodTable key.now.tree.now part.now }
+#[inline(never)]
+pub fn find_in(name: &Name, tree: &[u8], part: &[u32], n: usize) -> Option<u32>
+    requires good_table { GoodTable tree.now part.now }
     requires n_value { n ≡ entries part.now }
-    ensures { hit_of result ≡ find key.now.name.now (table_of key.now.tree.now part.now).entries }
+    ensures { hit_of result ≡ find name.now.bytes.now (table_of tree.now part.now).entries }
 {
-    let tag = key.hash % 128;
+    let tag = name.hash % 128;
     let mut k = tagged_below(part, n, tag);
     while k > 0 {
         k -= 1;
         let v = part[ENTRIES_AT + k];
-        if same_name(key.name, content_at(key.tree, (v % CODE_UNIT) as usize)) {
+        if same_name(name.bytes, content_at(tree, (v % CODE_UNIT) as usize)) {
             return Some(v / CODE_UNIT % CODES);
         }
         k = tagged_below(part, k, tag);
@@ -87,10 +89,10 @@ pub fn find_in(key: &Key, part: &[u32], n: usize) -> Option<u32>
 // A table as its function is entered, with the function's name if that has bytes.
 fn enter_in(part: &mut [u32], key: &Key)
     requires { length part.old ≡ part_size }
-    ensures { part.new ≡ entered_in part.old key.now.at key.now.hash (len key.now.tree.now key.now.at) }
+    ensures { part.new ≡ entered_in part.old key.now.at key.now.name.hash (len key.now.tree.now key.now.at) }
 {
     let own = field::length_at(key.tree, key.at).min(1) as u32;
-    let v = key.entry(FUNCTION);
+    let v = key.label().entry(FUNCTION);
     part[MARKED_AT] = 0;
     part[0] = own;
     part[1] = 0;
@@ -99,31 +101,31 @@ fn enter_in(part: &mut [u32], key: &Key)
 }
 
 // A definition more: its index.
-fn define_in(part: &mut [u32], key: &Key) -> u32
+fn define_in(part: &mut [u32], label: Label) -> u32
     requires sized { Sized part.old }
     requires part_bound { get_or part.old 1 0 < locals_limit }
     ensures value { result ≡ get_or part.old 1 0 }
-    ensures part_after { part.new ≡ local_in part.old key.now.at key.now.hash }
+    ensures part_after { part.new ≡ local_in part.old label.at label.hash }
 {
     let n = count(part);
     let d = part[1];
-    let v = key.entry(LOCAL + d);
+    let v = label.entry(LOCAL + d);
     part[ENTRIES_AT + n] = v;
     part[1] = d + 1;
     d
 }
 
 // A free symbol more, for the code of its original: its own code.
-fn capture_in(part: &mut [u32], key: &Key, code: u32) -> u32
+fn capture_in(part: &mut [u32], label: Label, code: u32) -> u32
     requires sized { Sized part.old }
     requires part_bound { get_or part.old 2 0 < free_limit }
     ensures value { result ≡ 512 + get_or part.old 2 0 }
-    ensures part_after { part.new ≡ free_in part.old key.now.at key.now.hash code }
+    ensures part_after { part.new ≡ free_in part.old label.at label.hash code }
 {
     let n = count(part);
     let f = part[2];
     let k = f as usize;
-    let v = key.entry(FREE + f);
+    let v = label.entry(FREE + f);
     part[ENTRIES_AT + n] = v;
     part[ORIGINALS_AT + k] = code;
     part[2] = f + 1;
@@ -133,12 +135,12 @@ fn capture_in(part: &mut [u32], key: &Key, code: u32) -> u32
 // A lookup comes back through a function, one more crossed: its own name, a local or a free symbol becomes a free symbol there.
 pub fn cross_in(
     part: &mut [u32],
-    key: &Key,
+    label: Label,
     outer: Result<Found, LookupError>,
 ) -> Result<Found, LookupError>
     requires sized { Sized part.old }
     requires few { Few outer }
-    ensures { Crosses key.now.at key.now.hash outer result part.old part.new }
+    ensures { Crosses label.at label.hash outer result part.old part.new }
 {
     let found = outer?;
     let crossed = found.crossed + 1;
@@ -151,24 +153,25 @@ pub fn cross_in(
     if CAPTURES <= part[2] {
         return Err(LookupError::Full);
     }
-    let code = capture_in(part, key, found.code);
+    let code = capture_in(part, label, found.code);
     Ok(Found { code, crossed })
 }
 
 // A definition more, if there is room.
-pub fn place_in(part: &mut [u32], key: &Key) -> Result<Slot, DefineError>
+pub fn place_in(part: &mut [u32], label: Label) -> Result<Slot, DefineError>
     requires { Sized part.old }
-    ensures { DefinesLocal key.now.at key.now.hash result part.old part.new }
+    ensures { DefinesLocal label.at label.hash result part.old part.new }
 {
     let n = part[1];
     if LOCALS <= n {
         return Err(DefineError::LocalsFull);
     }
-    let d = define_in(part, key);
+    let d = define_in(part, label);
     Ok(Slot::Local(d))
 }
 
 // So many definitions more, of the fields from an offset on.
+// Kept: `Fields` goes over fields that fill a part up to its end; here the number of fields is known and no end, and other nodes follow.
 fn define_row(tree: &[u8], part: &mut [u32], row: usize, n: usize)
     requires tree_len_bound { length tree.now ≤ tree_limit }
     requires good_table { GoodTable tree.now part.old }
@@ -178,7 +181,7 @@ fn define_row(tree: &[u8], part: &mut [u32], row: usize, n: usize)
 {
     let mut at = row;
     for _ in 0..n {
-        define_in(part, &Key::new(tree, at));
+        define_in(part, Key::new(tree, at).label());
         at = after_at(tree, at);
     }
 }

@@ -12,10 +12,10 @@ ghost use Rattle.symbol_table.specs.Store.{global_in};
 ghost use Rattle.symbol_table.specs.Contract.{hit_of, as_symbol, Addable, Adds, DefinesGlobal, HasItems, StartsGlobals};
 
 use super::layout::{
-    BUCKET_BITS, BUCKETS, GLOBAL, GLOBALS, HEADS_AT, IN_TREE, LATEST_UNIT, NODES_AT, SIDE_BITS,
-    SIDE_UNIT,
+    BUCKET_BITS, BUCKETS, GLOBAL, GLOBALS, GLOBALS_SIZE, HEADS_AT, IN_TREE, LATEST_UNIT, NODES_AT,
+    SIDE_BITS, SIDE_UNIT,
 };
-use super::name::{Key, hash_at};
+use super::name::{Key, Name, hash_at};
 use super::{DefineError, Slot};
 use field::content_at;
 use field::fields::Fields;
@@ -112,19 +112,19 @@ fn same_global(tree: &[u8], names: &[u8], v: u32, name: &[u8]) -> bool
 // The latest global of a name among the session's or the tree's.
 // Kept: a way down a tree, whose node decides where it goes on: an iterator of the nodes would stand for this loop alone.
 #[inline(always)]
-fn find_side(key: &Key, names: &[u8], side: Side, globals: &[u32]) -> Option<u32>
-    requires good_globals { GoodGlobals key.now.tree.now names.now globals.now }
-    ensures { (x : Finds key.now.tree.now names.now globals.now key.now.name.now) → hit_of result ≡ as_symbol Symbol.global (found_on x (side_number side)) }
+fn find_side(name: &Name, tree: &[u8], names: &[u8], side: Side, globals: &[u32]) -> Option<u32>
+    requires good_globals { GoodGlobals tree.now names.now globals.now }
+    ensures { (x : Finds tree.now names.now globals.now name.now.bytes.now) → hit_of result ≡ as_symbol Symbol.global (found_on x (side_number side)) }
 {
-    let mut k = side.head(globals[HEADS_AT + key.hash % BUCKETS]);
+    let mut k = side.head(globals[HEADS_AT + name.hash % BUCKETS]);
     let mut depth = 0;
     while k > 0 {
         let i = k as usize;
         let node = globals[NODES_AT + i];
-        if same_global(key.tree, names, globals[i], key.name) {
+        if same_global(tree, names, globals[i], name.bytes) {
             return Some(GLOBAL + node / LATEST_UNIT);
         }
-        k = child(node, side_of(key.name, key.hash, depth));
+        k = child(node, side_of(name.bytes, name.hash, depth));
         depth += 1;
     }
     None
@@ -132,20 +132,25 @@ fn find_side(key: &Key, names: &[u8], side: Side, globals: &[u32]) -> Option<u32
 
 // The latest global of a name: those of the tree come after those of the session.
 #[inline(always)]
-pub fn find_global(key: &Key, names: &[u8], globals: &[u32]) -> Option<u32>
-    requires { GoodGlobals key.now.tree.now names.now globals.now }
-    ensures { hit_of result ≡ as_symbol Symbol.global (find_global key.now.name.now (globals_of key.now.tree.now names.now globals.now)) }
+pub fn find_global(name: &Name, tree: &[u8], names: &[u8], globals: &[u32]) -> Option<u32>
+    requires { GoodGlobals tree.now names.now globals.now }
+    ensures { hit_of result ≡ as_symbol Symbol.global (find_global name.now.bytes.now (globals_of tree.now names.now globals.now)) }
 {
-    if let Some(code) = find_side(key, names, Side::Tree, globals) {
+    if let Some(code) = find_side(name, tree, names, Side::Tree, globals) {
         return Some(code);
     }
-    find_side(key, names, Side::Session, globals)
+    find_side(name, tree, names, Side::Session, globals)
 }
 
 // Where a global more of a name goes: it becomes the latest of its name, or hangs where the search for its name ends.
 // Kept: a way down a tree, as in `find_side`, which also keeps the side on which it left the last node.
-fn find_place(bytes: &[u8], side: Side, globals: &[u32], name: &[u8], hash: usize) -> Place
-    requires globals_len { length globals.now ≡ globals_size }
+fn find_place(
+    bytes: &[u8],
+    side: Side,
+    globals: &[u32; GLOBALS_SIZE],
+    name: &[u8],
+    hash: usize,
+) -> Place
     requires globals_bound { get_or globals.now 0 0 < globals_limit }
     requires hash_value { hash ≡ hash_of name.now }
     requires by_index { (r : Option ℕ) × Way bytes.now (side_number side) globals.now name.now 0 (child_of (get_or globals.now (heads_at + hash % buckets) 0) (side_number side)) r }
@@ -176,8 +181,7 @@ fn find_place(bytes: &[u8], side: Side, globals: &[u32], name: &[u8], hash: usiz
 }
 
 // A global more, which has a node of its own, and the number at a place.
-fn push_global(globals: &mut [u32], v: u32, at: usize, number: u32)
-    requires globals_len { length globals.old ≡ globals_size }
+fn push_global(globals: &mut [u32; GLOBALS_SIZE], v: u32, at: usize, number: u32)
     requires globals_bound { get_or globals.old 0 0 < globals_limit }
     requires at_lt_globals_size { at < globals_size }
     ensures { globals.new ≡ global_in globals.old v at number }
@@ -192,8 +196,7 @@ fn push_global(globals: &mut [u32], v: u32, at: usize, number: u32)
 
 // A global more, the first of its side in its bucket.
 #[inline(always)]
-fn add_first(globals: &mut [u32], side: Side, v: u32, hash: usize)
-    requires globals_len { length globals.old ≡ globals_size }
+fn add_first(globals: &mut [u32; GLOBALS_SIZE], side: Side, v: u32, hash: usize)
     requires globals_bound { get_or globals.old 0 0 < globals_limit }
     requires side_value { child_of (get_or globals.old (heads_at + hash % buckets) 0) (side_number side) ≡ 0 }
     ensures { globals.new ≡ global_in globals.old v (heads_at + hash % buckets) (with_child (get_or globals.old (heads_at + hash % buckets) 0) (side_number side) (get_or globals.old 0 0 + 1)) }
@@ -204,7 +207,7 @@ fn add_first(globals: &mut [u32], side: Side, v: u32, hash: usize)
 }
 
 // A global more, where the search for its name ends.
-fn add_below(bytes: &[u8], side: Side, globals: &mut [u32], name: usize, hash: usize)
+fn add_below(bytes: &[u8], side: Side, globals: &mut [u32; GLOBALS_SIZE], name: usize, hash: usize)
     requires addable { Addable bytes.now (side_number side) globals.old name hash }
     ensures { Adds bytes.now (side_number side) name globals.old globals.new }
 {
@@ -214,7 +217,7 @@ fn add_below(bytes: &[u8], side: Side, globals: &mut [u32], name: usize, hash: u
 
 // A global more, of the session's or of the tree's: its name is at an offset.
 #[inline(always)]
-fn add_global(bytes: &[u8], side: Side, globals: &mut [u32], name: usize, hash: usize)
+fn add_global(bytes: &[u8], side: Side, globals: &mut [u32; GLOBALS_SIZE], name: usize, hash: usize)
     requires addable { Addable bytes.now (side_number side) globals.old name hash }
     ensures { Adds bytes.now (side_number side) name globals.old globals.new }
 {
@@ -226,7 +229,7 @@ fn add_global(bytes: &[u8], side: Side, globals: &mut [u32], name: usize, hash: 
 }
 
 // A global of the tree more, if there is room.
-pub fn place_global(key: &Key, globals: &mut [u32]) -> Result<Slot, DefineError>
+pub fn place_global(key: &Key, globals: &mut [u32; GLOBALS_SIZE]) -> Result<Slot, DefineError>
     requires { (names : Bytes) × GoodGlobals key.now.tree.now names globals.old }
     ensures { DefinesGlobal key.now.tree.now key.now.at result globals.old globals.new }
 {
@@ -234,26 +237,23 @@ pub fn place_global(key: &Key, globals: &mut [u32]) -> Result<Slot, DefineError>
     if GLOBALS <= k {
         return Err(DefineError::GlobalsFull);
     }
-    add_global(key.tree, Side::Tree, globals, key.at, key.hash);
+    add_global(key.tree, Side::Tree, globals, key.at, key.name.hash);
     Ok(Slot::Global(k))
 }
 
 // No global in any bucket.
 // Kept: the library's `fill`, with what a search reads of the heads.
-fn clear_heads(globals: &mut [u32])
-    requires { length globals.old ≡ globals_size }
-    ensures globals_len { length globals.new ≡ globals_size }
-    ensures by_index { (h : ℕ) → h < buckets → get_or globals.new (heads_at + h) 0 ≡ 0 }
+fn clear_heads(globals: &mut [u32; GLOBALS_SIZE])
+    ensures { (h : ℕ) → h < buckets → get_or globals.new (heads_at + h) 0 ≡ 0 }
 {
     globals[HEADS_AT..].fill(0);
 }
 
 // The names of a session become the globals: the fields from an offset up to an end.
 // Kept: the bytes with both offsets, since the session's bytes before the end stay what the globals' numbers are read in.
-pub fn start_in(session: &[u8], globals: &mut [u32], from: usize, end: usize)
+pub fn start_in(session: &[u8], globals: &mut [u32; GLOBALS_SIZE], from: usize, end: usize)
     requires session_len_bound { length session.now ≤ session_size }
     requires has_items { HasItems session.now from end }
-    requires globals_len { length globals.old ≡ globals_size }
     ensures { StartsGlobals session.now from end globals.new }
 {
     clear_heads(globals);

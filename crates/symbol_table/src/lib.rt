@@ -20,15 +20,16 @@ ghost use Rattle.definition.specs.Decode.{words_in};
 ghost use Rattle.field.specs.Layout.{after};
 ghost use Rattle.symbol_table.specs.Name.{Stands, Row};
 ghost use Rattle.symbol_table.specs.Layout.{globals_size, part_size, base, part, symbol_of, Sized, Good};
+ghost use Rattle.symbol_table.specs.Symbols.{meant_by};
 ghost use Rattle.symbol_table.specs.Contract.{lookup_reason, define_reason, Inside, Resolves, DefinesLocal, Defines, Enters, HasWords, HasNames, HasItems, StartsFrom, Starts};
 
 use definition::Reason;
 use enclosed::{open_in, place_in};
 use globals::{place_global, start_in};
 use layout::{BUILTIN, FREE, GLOBAL, GLOBALS_SIZE, LOCAL, PART_SIZE};
-use name::Key;
+use name::{Key, Label};
 use opcode::opcodes;
-use query::Query;
+use query::{Known, Query};
 
 // A symbol that a lookup found: its code, and the functions crossed.
 #[derive(Clone, Copy, PartialEq, Eq, Debug)]
@@ -82,6 +83,31 @@ impl From<DefineError> for Reason {
     }
 }
 
+// A symbol: the function itself, or the index of a local, a free symbol, a builtin or a global.
+#[derive(Clone, Copy, PartialEq, Eq, Debug)]
+pub enum Symbol {
+    Function,
+    Local(u32),
+    Free(u32),
+    Builtin(u32),
+    Global(u32),
+}
+
+// The symbol of a code.
+impl From<u32> for Symbol {
+    ghost from_gives = { λ code symbol. meant_by symbol ≡ symbol_of code };
+
+    fn from(code: u32) -> Symbol {
+        match code {
+            0..LOCAL => Symbol::Function,
+            LOCAL..FREE => Symbol::Local(code - LOCAL),
+            FREE..BUILTIN => Symbol::Free(code - FREE),
+            BUILTIN..GLOBAL => Symbol::Builtin(code - BUILTIN),
+            _ => Symbol::Global(code - GLOBAL),
+        }
+    }
+}
+
 // An instruction with at most one operand, and the number of its operand bytes.
 #[derive(Clone, Copy)]
 pub struct Load {
@@ -109,18 +135,18 @@ pub fn resolve_name(
     if level == 0 {
         return Query { key, names }.find_outermost(table);
     }
-    Query { key, names }.resolve(table, level, 0)
+    Query { key, names }.resolve(table, level, Known::Unasked)
 }
 
 // A definition in the table of the function at a level.
-fn place_at(table: &mut [u32], level: usize, key: &Key) -> Result<Slot, DefineError>
+fn place_at(table: &mut [u32], level: usize, label: Label) -> Result<Slot, DefineError>
     requires part_size_in_bounds { base level + part_size ≤ length table.old }
     requires sized { Sized (part level table.old) }
-    ensures { Inside (DefinesLocal key.now.at key.now.hash result) level table.old table.new }
+    ensures { Inside (DefinesLocal label.at label.hash result) level table.old table.new }
 {
     let start = GLOBALS_SIZE + PART_SIZE * level;
     let end = start + PART_SIZE;
-    place_in(&mut table[start..end], key)
+    place_in(&mut table[start..end], label)
 }
 
 // A definition more, in the innermost of so many open functions, or among the globals.
@@ -138,9 +164,12 @@ pub fn define(
 {
     let key = Key::new(tree, name);
     if level == 0 {
-        return place_global(&key, &mut table[..GLOBALS_SIZE]);
+        let Some(globals) = table.first_chunk_mut() else {
+            unreachable!()
+        };
+        return place_global(&key, globals);
     }
-    place_at(table, level - 1, &key)
+    place_at(table, level - 1, key.label())
 }
 
 // One function more is open, with its name and its parameters.
@@ -165,7 +194,10 @@ pub fn start_from(session: &[u8], table: &mut [u32], from: usize, end: usize)
     requires globals_size_in_bounds { globals_size ≤ length table.old }
     ensures { StartsFrom session.now from end table.old table.new }
 {
-    start_in(session, &mut table[..GLOBALS_SIZE], from, end);
+    let Some(globals) = table.first_chunk_mut() else {
+        unreachable!()
+    };
+    start_in(session, globals, from, end);
 }
 
 // The table area as a compile starts: the global names of the session, and no open function. `at` is where the names' field is; their end.
@@ -203,37 +235,16 @@ pub fn load_of(code: u32) -> Load
     ensures is { instr result.op result.operand 0 ≡ load_of (symbol_of code) }
     ensures sized { result.operands ≡ width result.op }
 {
-    if code < LOCAL {
-        return Load {
-            op: opcodes::CURRENT_CLOSURE,
-            operands: 0,
-            operand: 0,
-        };
-    }
-    if code < FREE {
-        return Load {
-            op: opcodes::GET_LOCAL,
-            operands: 1,
-            operand: code - LOCAL,
-        };
-    }
-    if code < BUILTIN {
-        return Load {
-            op: opcodes::GET_FREE,
-            operands: 1,
-            operand: code - FREE,
-        };
-    }
-    if code < GLOBAL {
-        return Load {
-            op: opcodes::GET_BUILTIN,
-            operands: 1,
-            operand: code - BUILTIN,
-        };
-    }
+    let (op, operands, operand) = match Symbol::from(code) {
+        Symbol::Function => (opcodes::CURRENT_CLOSURE, 0, 0),
+        Symbol::Local(k) => (opcodes::GET_LOCAL, 1, k),
+        Symbol::Free(k) => (opcodes::GET_FREE, 1, k),
+        Symbol::Builtin(k) => (opcodes::GET_BUILTIN, 1, k),
+        Symbol::Global(k) => (opcodes::GET_GLOBAL, 2, k),
+    };
     Load {
-        op: opcodes::GET_GLOBAL,
-        operands: 2,
-        operand: code - GLOBAL,
+        op,
+        operands,
+        operand,
     }
 }

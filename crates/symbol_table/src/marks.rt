@@ -3,15 +3,15 @@
 ghost use Rattle.std.specs.Prelude.{◌≡◌, false, ◌+◌, ◌<◌, ◌≤◌, length, get_or};
 ghost use Rattle.symbol_table.specs.Layout.{part_size, marked_at, marks_at, base, part, entries, IsMarked, Sized};
 ghost use Rattle.symbol_table.specs.Store.{mark_in};
-ghost use Rattle.symbol_table.specs.Lookups.{Opened, MarksEntries, Lacks};
-ghost use Rattle.symbol_table.specs.Contract.{Inside, SameBelow, BeginsMarks, MarksNext};
+ghost use Rattle.symbol_table.specs.Lookups.{Opened, IsKnown, MarksEntries, Lacks};
+ghost use Rattle.symbol_table.specs.Contract.{Inside, SameBelow, BeginsMarks, MarksNext, code_or};
 
 use super::enclosed::{count, number_at, part};
 use super::layout::{
-    BUILTIN, CODE_UNIT, ENTRIES_AT, GLOBALS_SIZE, MARKED_AT, MARKS, MARKS_AT, PART_SIZE, SHORT,
+    CODE_UNIT, ENTRIES_AT, GLOBALS_SIZE, MARKED_AT, MARKS, MARKS_AT, PART_SIZE, SHORT,
 };
 use super::name::Key;
-use super::query::Query;
+use super::query::{Known, Query};
 
 // No mark is set.
 // Kept: the library's `fill`, with what the other numbers of the part are then.
@@ -57,24 +57,24 @@ fn begin_marks(part: &mut [u32]) -> u32
     m
 }
 
-// One entry more is marked, with the code of the builtin or the global of its name.
-fn mark_next(part: &mut [u32], code: u32)
+// One entry more is marked, with the code of the builtin or the global of its name, if there is one.
+fn mark_next(part: &mut [u32], code: Option<u32>)
     requires part_len { length part.old ≡ part_size }
     requires marked_at_bound { get_or part.old marked_at 0 < 1024 }
-    ensures { MarksNext code part.old part.new }
+    ensures { MarksNext (code_or code) part.old part.new }
 {
     let m = begin_marks(part);
     part[MARKED_AT] = m + 1;
-    if BUILTIN <= code {
+    if let Some(code) = code {
         mark(part, code);
     }
 }
 
 // The same in the part of the function at a level.
-fn next_at(table: &mut [u32], level: usize, code: u32)
+fn next_at(table: &mut [u32], level: usize, code: Option<u32>)
     requires part_size_in_bounds { base level + part_size ≤ length table.old }
     requires marked_at_bound { get_or (part level table.old) marked_at 0 < 1024 }
-    ensures { Inside (MarksNext code) level table.old table.new }
+    ensures { Inside (MarksNext (code_or code)) level table.old table.new }
 {
     let start = GLOBALS_SIZE + PART_SIZE * level;
     let end = start + PART_SIZE;
@@ -116,13 +116,14 @@ fn mark_entries(query: &Query, table: &mut [u32], level: usize, n: usize)
 }
 
 // Whether the function at a level, with n entries, surely has none of the name of a builtin or a global.
-pub fn is_absent(query: &Query, table: &mut [u32], level: usize, n: usize, code: u32) -> bool
-    requires { Opened query.now level n table.old }
-    ensures { Lacks query.now level code result table.old table.new }
+pub fn is_absent(query: &Query, table: &mut [u32], level: usize, n: usize, known: Known) -> bool
+    requires opened { Opened query.now level n table.old }
+    requires known { IsKnown query.now table.old known }
+    ensures { Lacks query.now level known result table.old table.new }
 {
-    if code < BUILTIN {
+    let Known::Code(code) = known else {
         return false;
-    }
+    };
     if n <= SHORT {
         return false;
     }

@@ -29,18 +29,41 @@ pub fn hash_at(bytes: &[u8], at: usize) -> usize
     hash_name(content_at(bytes, at))
 }
 
-// A name of the tree: the offset of its field, its bytes, and its hash, which is computed once.
+// A name that is sought: its bytes, and its hash, which is computed once.
+#[derive(Clone, Copy)]
+pub struct Name<'a> {
+    pub bytes: &'a [u8],
+    pub hash: usize,
+    pub ghost is: { hash ≡ hash_of bytes.now },
+}
+
+// What an entry of a table tells of its name: the offset of the name's field, and a hash.
+#[derive(Clone, Copy)]
+pub struct Label {
+    pub at: usize,
+    pub hash: usize,
+    pub ghost within: { at < tree_limit },
+}
+
+impl Label {
+    // The entry, with its symbol's code, as a number.
+    pub fn entry(self, code: u32) -> u32
+        requires { code < 1024 }
+        ensures { result ≡ packed self.at code self.hash }
+    {
+        self.at as u32 + CODE_UNIT * code + TAG_UNIT * (self.hash % 128) as u32
+    }
+}
+
+// A name of the tree, and the offset of its field.
 #[derive(Clone, Copy)]
 pub struct Key<'a> {
     pub tree: &'a [u8],
     pub at: usize,
-    pub name: &'a [u8],
-    pub hash: usize,
+    pub name: Name<'a>,
     pub ghost stands: { Stands tree.now at },
     pub ghost within: { at < tree_limit },
-    pub ghost named: { name.now ≡ content tree.now at },
-    pub ghost is: { hash ≡ hash_of name.now },
-    pub ghost small: { hash < hash_bound },
+    pub ghost named: { name.bytes.now ≡ content tree.now at },
 }
 
 impl<'a> Key<'a> {
@@ -50,23 +73,23 @@ impl<'a> Key<'a> {
         requires within { at < tree_limit }
         ensures tree { result.tree.now ≡ tree.now }
         ensures at { result.at ≡ at }
-        ensures hash { result.hash ≡ hash_of (content tree.now at) }
+        ensures hash { result.name.hash ≡ hash_of (content tree.now at) }
     {
-        let name = content_at(tree, at);
-        let hash = hash_name(name);
-        Key {
-            tree,
-            at,
-            name,
-            hash,
-        }
+        let bytes = content_at(tree, at);
+        let hash = hash_name(bytes);
+        let name = Name { bytes, hash };
+        Key { tree, at, name }
     }
 
-    // The name's entry in a table, with its symbol's code, as a number.
-    pub fn entry(&self, code: u32) -> u32
-        requires { code < 1024 }
-        ensures { result ≡ packed self.now.at code self.now.hash }
+    // What its entry in a table tells of it.
+    #[inline(always)]
+    pub fn label(&self) -> Label
+        ensures at { result.at ≡ self.now.at }
+        ensures hash { result.hash ≡ self.now.name.hash }
     {
-        self.at as u32 + CODE_UNIT * code + TAG_UNIT * (self.hash % 128) as u32
+        Label {
+            at: self.at,
+            hash: self.name.hash,
+        }
     }
 }

@@ -6,9 +6,9 @@ ghost use Rattle.symbol_table.specs.Lookups.{Outside, Opened, Standing, IsKnown,
 
 use super::enclosed::{cross_in, find_in, part};
 use super::globals::find_global;
-use super::layout::{BUILTIN, GLOBALS_SIZE, PART_SIZE, SHORT};
+use super::layout::{GLOBALS_SIZE, PART_SIZE, SHORT};
 use super::marks::{count_at, is_absent};
-use super::name::Key;
+use super::name::{Key, Label};
 use super::words::find_builtin;
 use super::{Found, LookupError};
 
@@ -19,21 +19,29 @@ pub struct Query<'a> {
     pub names: &'a [u8],
 }
 
+// What is known of a name outside all functions: it was not looked for, it is not there, or the code of its builtin or global.
+#[derive(Clone, Copy)]
+pub enum Known {
+    Unasked,
+    Absent,
+    Code(u32),
+}
+
 // A lookup comes back through the function at a level.
 fn cross_at(
     table: &mut [u32],
     level: usize,
-    key: &Key,
+    label: Label,
     outer: Result<Found, LookupError>,
 ) -> Result<Found, LookupError>
     requires part_size_in_bounds { base level + part_size ≤ length table.old }
     requires sized { Sized (part level table.old) }
     requires few { Few outer }
-    ensures { Inside (Crosses key.now.at key.now.hash outer result) level table.old table.new }
+    ensures { Inside (Crosses label.at label.hash outer result) level table.old table.new }
 {
     let start = GLOBALS_SIZE + PART_SIZE * level;
     let end = start + PART_SIZE;
-    cross_in(&mut table[start..end], key, outer)
+    cross_in(&mut table[start..end], label, outer)
 }
 
 // What its methods need of the area is said once, in `Outside`, `Opened` and `Standing`.
@@ -44,7 +52,7 @@ impl<'a> Query<'a> {
         requires { Opened self.now level n table.now }
         ensures { IsEntry self.now level table.now result }
     {
-        find_in(&self.key, part(table, level), n)
+        find_in(&self.key.name, self.key.tree, part(table, level), n)
     }
 
     // The global or the builtin of the name: outside all functions, globals come before builtins.
@@ -53,71 +61,81 @@ impl<'a> Query<'a> {
         requires { Outside self.now table.now }
         ensures { IsOutermost self.now table.now result }
     {
-        if let Some(code) = find_global(&self.key, self.names, &table[..GLOBALS_SIZE]) {
+        if let Some(code) = find_global(
+            &self.key.name,
+            self.key.tree,
+            self.names,
+            &table[..GLOBALS_SIZE],
+        ) {
             return Ok(Found { code, crossed: 0 });
         }
-        if let Some(code) = find_builtin(self.names, self.key.name) {
+        if let Some(code) = find_builtin(self.names, self.key.name.bytes) {
             return Ok(Found { code, crossed: 0 });
         }
         Err(LookupError::Undefined)
     }
 
-    // The same, where the name's code may be known: 0 is a name not yet looked for, 1 one that is not there.
-    fn resolve_outermost(&self, table: &[u32], known: u32) -> Result<Found, LookupError>
+    // The same, where the name's code may be known.
+    fn resolve_outermost(&self, table: &[u32], known: Known) -> Result<Found, LookupError>
         requires outside { Outside self.now table.now }
         requires known { IsKnown self.now table.now known }
         ensures { IsOutermost self.now table.now result }
     {
-        if BUILTIN <= known {
-            return Ok(Found {
-                code: known,
-                crossed: 0,
-            });
+        if let Known::Code(code) = known {
+            return Ok(Found { code, crossed: 0 });
         }
         self.find_outermost(table)
     }
 
-    // The code of the name's builtin or global, or 1 where there is none.
-    pub fn code_outermost(&self, table: &[u32]) -> u32
+    // The code of the name's builtin or global, where there is one.
+    pub fn code_outermost(&self, table: &[u32]) -> Option<u32>
         requires { Outside self.now table.now }
         ensures { HasCode self.now table.now result }
     {
         match self.find_outermost(table) {
-            Ok(found) => found.code,
-            Err(_) => 1,
+            Ok(found) => Some(found.code),
+            Err(_) => None,
         }
     }
 
-    // The code of the name outside all functions, if it is known or is of use in a table of n entries.
-    fn code_for(&self, table: &[u32], n: usize, known: u32) -> u32
+    // What is known of the name outside all functions, which is asked where it is of use in a table of n entries.
+    fn known_for(&self, table: &[u32], n: usize, known: Known) -> Known
         requires outside { Outside self.now table.now }
         requires known { IsKnown self.now table.now known }
         ensures { IsKnown self.now table.now result }
     {
-        if known != 0 {
+        let Known::Unasked = known else {
             return known;
-        }
+        };
         if n <= SHORT {
             return known;
         }
-        self.code_outermost(table)
+        match self.code_outermost(table) {
+            Some(code) => Known::Code(code),
+            None => Known::Absent,
+        }
     }
 
     // The same as `find_at`, but the table is passed over where its marks show that the name is not there.
-    fn look_at(&self, table: &mut [u32], level: usize, n: usize, code: u32) -> Option<u32>
+    fn look_at(&self, table: &mut [u32], level: usize, n: usize, known: Known) -> Option<u32>
         requires opened { Opened self.now level n table.old }
-        requires known { IsKnown self.now table.old code }
+        requires known { IsKnown self.now table.old known }
         ensures entry { IsEntry self.now level table.old result }
         ensures inside { Remarks self.now level table.old table.new }
     {
-        if is_absent(self, table, level, n, code) {
+        if is_absent(self, table, level, n, known) {
             return None;
         }
         self.find_at(table, level, n)
     }
 
     // The name's symbol, seen from inside so many open functions: outward one function at a time, capturing on the way back.
-    pub fn resolve(&self, table: &mut [u32], level: usize, known: u32) -> Result<Found, LookupError>
+    pub fn resolve(
+        &self,
+        table: &mut [u32],
+        level: usize,
+        known: Known,
+    ) -> Result<Found, LookupError>
         requires standing { Standing self.now level table.old }
         requires known { IsKnown self.now table.old known }
         ensures { IsResolved self.now level result table.old table.new }
@@ -127,11 +145,11 @@ impl<'a> Query<'a> {
         }
         let l = level - 1;
         let n = count_at(table, l);
-        let outside = self.code_for(table, n, known);
+        let outside = self.known_for(table, n, known);
         if let Some(code) = self.look_at(table, l, n, outside) {
             return Ok(Found { code, crossed: 0 });
         }
         let outer = self.resolve(&mut table[..GLOBALS_SIZE + PART_SIZE * l], l, outside);
-        cross_at(table, l, &self.key, outer)
+        cross_at(table, l, self.key.label(), outer)
     }
 }

@@ -36,10 +36,7 @@ pub fn find_builtin(names: &[u8], name: &[u8]) -> Option<u32>
     requires { HasWords names.now }
     ensures { hit_of result ≡ as_symbol Symbol.builtin (find_builtin name.now (words_in names.now) 0) }
 {
-    if names.len() == 0 {
-        return find_six(name);
-    }
-    if names[0] != tag::WORDS {
+    if names.first() != Some(&tag::WORDS) {
         return find_six(name);
     }
     let end = after_at(names, 0);

@@ -4,13 +4,14 @@ use native.Mathlib.Omega.{arith}
 use mathlib.Core.Path.{◌≡◌, refl, ap, ◌∙◌}
 use lib.ListN.{length}
 use lib.Seq.{sets, length-sets}
+use Rattle.std.specs.Prelude.{None}
 use Rattle.definition.specs.Basic.{Bytes}
 use Rattle.text.specs.Parts.{end_of, head_of, Bounds, joined_of, moved_on, closed_of}
 use Rattle.text.specs.declared.part.Part.{Part}
 use Rattle.text.proofs.Larger.{larger_is}
 
 -- nothing
-pub bounds_none : {text : Bytes} (at to left : ℕ) {old : Bytes} {p : Part} → at ≤ end_of text → p ≡ record { at = at; to = to; levels = 0; tag = 0 } → Bounds text at to 0 left old old p
+pub bounds_none : {text : Bytes} (at to left : ℕ) {old : Bytes} {p : Part} → at ≤ end_of text → p ≡ record { at = at; to = to; levels = 0; tag = None } → Bounds text at to 0 left old old p
 bounds_none at to left h e = rw e (record { lengths = refl; onward = omega arith; within = h; room = omega arith; behind = omega arith; depth = omega arith })
 
 -- from further back, or with more to spare
@@ -50,5 +51,5 @@ bounds_field {to = to} {mid = mid} {p = p} tag w e =
     }
 
 -- too deep
-pub bounds_deep : {text : Bytes} (at to left : ℕ) {old : Bytes} {p : Part} → at ≤ end_of text → p ≡ record { at = end_of text; to = to; levels = left + 1; tag = 0 } → Bounds text at to 0 left old old p
+pub bounds_deep : {text : Bytes} (at to left : ℕ) {old : Bytes} {p : Part} → at ≤ end_of text → p ≡ record { at = end_of text; to = to; levels = left + 1; tag = None } → Bounds text at to 0 left old old p
 bounds_deep at to left h e = rw e (record { lengths = refl; onward = h; within = omega arith; room = omega arith; behind = omega arith; depth = omega arith })

@@ -8,6 +8,7 @@ use lib.ListN.{length, length-append}
 use lib.Seq.{sets, length-sets}
 use lib.Dec.{leb, ltb}
 use borrow.Author.Tests.{eqb-true, eqb-false, le-ltb, leb-true}
+use Rattle.std.specs.Prelude.{None, Some}
 use Rattle.definition.specs.Basic.{Bytes, byte_at}
 use Rattle.definition.specs.Field.{field, bytes}
 use Rattle.definition.specs.Tag.{tag_operator}
@@ -68,7 +69,7 @@ pub no_both_ways : {b : Bool} → b ≡ true → b ≡ false → ⊥
 no_both_ways e f = let z : ◌≡◌ {A = Bool} true false = sym e ∙ f in let y : ◌≡◌ {A = ℕ} 0 1 = cc in omega arith
 
 -- the text has ended
-pub operand-ended : {text : Bytes} {at to left : ℕ} {o : Bytes} {t : piece.Token} {p : Part} → Sees text at t → number_of t.kind ≡ ended → p ≡ record { at = t.end; to = to; levels = 0; tag = 0 } → WritesNode OperandRow text at to 0 left o o p × Spares text at to p
+pub operand-ended : {text : Bytes} {at to left : ℕ} {o : Bytes} {t : piece.Token} {p : Part} → Sees text at t → number_of t.kind ≡ ended → p ≡ record { at = t.end; to = to; levels = 0; tag = None } → WritesNode OperandRow text at to 0 left o o p × Spares text at to p
 operand-ended {text} {at} {to} {left} {o} {t} {p} a k e =
     let i = ap (λ p. p.at) e in
     let j = ap (λ p. p.to) e in (
@@ -94,7 +95,7 @@ operand_leaf {text} {at} {to} {left} {o} {o₁} {t} {p} a h k w =
         let c : content_of text t ≡ leaf_bytes (kind_of (row_at text at)) (bytes_of (row_at text at)) = content_leaf text t (is_leaf_kind (number_of t.kind) k) ∙ (λ i. leaf_bytes (a.kind i) (a.content i)) in
         record {
           put = put_same (λ i. field (operand_tag (a.kind i)) (c i)) refl (put_leaf_field (operand_tag (number_of t.kind)) (content_of text t) left a.rest w.part w.stored);
-          tag = λ _. ap (λ p. p.tag) w.part ∙ ap operand_tag a.kind;
+          tag = λ _. ap (λ p. p.tag) w.part ∙ ap (λ k. Some (operand_tag k)) a.kind;
         }
     go _ _ (OperandRow.deeper _ h _) = absurd (no_both_ways (ap is_leaf (sym a.kind) ∙ k) h)
 
@@ -117,7 +118,7 @@ operand_deeper {text} {at} {to} {l} {left} {o} {o₁} {o₂} {t} {p} {s} z a h k
         let i : InsideRow (number_of t.kind) 5 (row_at text t.end) us xs = rw (a.kind, a.rest) d in
         record {
           put = put_same (ap (λ k. field (operand_tag k) (written_all xs)) a.kind) refl (put-field (operand_tag (number_of t.kind)) (w.puts xs us i) m);
-          tag = λ _. ap operand_tag a.kind;
+          tag = λ _. ap (λ k. Some (operand_tag k)) a.kind;
         }
 
 -- inside: by the token
@@ -132,7 +133,7 @@ module _ {text : Bytes} {k least at to left : ℕ} {o o₁ : Bytes} {p : Part} w
       go _ rest (InsideRow.an_operator _ _ h _) = absurd (no_both_ways e h)
 
 -- an operator and its operand
-pub inside-operator : {text : Bytes} {k least at to left : ℕ} {o o₁ o₂ : Bytes} {p q s : Part} → (k ≡ if_word → ⊥) → (k ≡ fn_word → ⊥) → is_list k ≡ false → at ≤ end_of text → p ≡ record { at = at; to = to + 4; levels = 1; tag = tag_operator } → o₁ ≡ sets o to (field tag_operator (operator_of k ∷ [])) → WritesNode (ExpressionRow least 0) text p.at p.to 0 left o₁ o₂ q → s ≡ joined_of p q → Writes (InsideRow k least) text at to 9 left o o₂ s
+pub inside-operator : {text : Bytes} {k least at to left : ℕ} {o o₁ o₂ : Bytes} {p q s : Part} → (k ≡ if_word → ⊥) → (k ≡ fn_word → ⊥) → is_list k ≡ false → at ≤ end_of text → p ≡ record { at = at; to = to + 4; levels = 1; tag = Some tag_operator } → o₁ ≡ sets o to (field tag_operator (operator_of k ∷ [])) → WritesNode (ExpressionRow least 0) text p.at p.to 0 left o₁ o₂ q → s ≡ joined_of p q → Writes (InsideRow k least) text at to 9 left o o₂ s
 unfolding written written_all levels levels_all
 inside-operator {text} {k} {least} {at} {to} {left} {o} {o₁} {o₂} {p} {q} {s} a b e h n m w j =
     let v : Bounds text at to 4 left o o₁ p =
@@ -153,11 +154,11 @@ inside-operator {text} {k} {least} {at} {to} {left} {o} {o₁} {o₂} {p} {q} {s
     go v xs rest (InsideRow.a_list _ _ h d) = absurd (no_both_ways h e)
     go v _ rest (InsideRow.an_operator {x = x} _ _ _ d) =
         let z : to + 4 ≡ to + 3 + length (operator_of k ∷ []) = omega arith in
-        put-behind (put_leaf_field tag_operator (operator_of k ∷ []) {at = at} {to = to} left refl (n ∙ ap (λ i. record { at = at; to = i; levels = 1; tag = tag_operator }) z) m) v.lengths w.bounds.behind (λ h.
+        put-behind (put_leaf_field tag_operator (operator_of k ∷ []) {at = at} {to = to} left refl (n ∙ ap (λ i. record { at = at; to = i; levels = 1; tag = Some tag_operator }) z) m) v.lengths w.bounds.behind (λ h.
         put_one x (w.puts x rest (rw h d)).put)
 
 -- too deep to be continued
-pub continued_deep : {text : Bytes} {t : piece.Token} {to left : ℕ} {o : Bytes} {v p : Part} → v.at ≤ end_of text → left ≤ v.levels → p ≡ record { at = end_of text; to = v.to; levels = left + 1; tag = 0 } → Continues text t to v left o o p
+pub continued_deep : {text : Bytes} {t : piece.Token} {to left : ℕ} {o : Bytes} {v p : Part} → v.at ≤ end_of text → left ≤ v.levels → p ≡ record { at = end_of text; to = v.to; levels = left + 1; tag = None } → Continues text t to v left o o p
 unfolding levels levels_all
 continued_deep {text} {t} {to} {left} {o} {v} {p} h k e =
     record {

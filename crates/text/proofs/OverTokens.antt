@@ -18,11 +18,7 @@ use Rattle.text.specs.declared.kind.Kind.TheVariants as kinds
 use Rattle.text.specs.Parts.{end_of, Sees}
 use Rattle.text.specs.Tokens.{NextIs, Ended}
 use Rattle.text.proofs.RowAt.{sees_found, sees_ended}
-use Rattle.text.proofs.Enough.{Moves, moves_next}
-
--- two answers that cannot be one
-never : {A : Type 0} → ◌≡◌ {A = ℕ} 0 1 → A
-never e = let z : ⊥ = omega arith in absurd z
+use Rattle.text.proofs.Enough.{never, Moves, moves_next}
 
 -- where a token that is next ends
 pub record Ends (at n : ℕ) (t : piece.Token) : Type 0 where

@@ -1,5 +1,5 @@
 -- What the grammar derives is what passes 2 and 3 read: by tightness and with counted parentheses.
-use Prim.Native.Nat.{ℕ, suc, ◌+◌, ◌-◌, ◌≤◌, ◌<◌}
+use Prim.Native.Nat.{ℕ, suc, ◌+◌, ◌-◌, ◌≤◌}
 use native.Mathlib.Omega.{arith}
 use mathlib.Core.Bool.{true, false}
 use mathlib.Core.List.{[], ◌∷◌}
@@ -8,13 +8,13 @@ use lib.Dec.{eqb}
 use borrow.Author.Tests.{ne_eqb}
 use Rattle.definition.specs.Basic.{Bytes}
 use Rattle.definition.specs.Tag.{tag_expr_stmt, tag_infix}
-use Rattle.text.specs.Kind.{let_word, return_word, a_name, open_paren, plus, else_word, close_paren, comma, semicolon}
+use Rattle.text.specs.Kind.{let_word, return_word, a_name, open_paren, else_word, close_paren, comma, semicolon}
 use Rattle.text.specs.Token.{token, Row, kind_of, behind}
 use Rattle.text.specs.Node.{Node, node, Nodes, ◌then◌, one, operator}
 use Rattle.text.specs.Grammar.{Is, Prefixed, Names, Parameters, Statements, More, Statement, Block, Expression, Binary, Prefix, Postfix, Primary, Branches, Items, SomeItems, Pairs, SomePairs}
 use Rattle.text.specs.Shape.{tight_of, closes_group, closing, separating, ending, is_leaf, is_list, operator_of, continued_tag, operand_tag, statement_tag, leaf_bytes}
 use Rattle.text.specs.Parse.{item_row, past_semicolon, NamesRow, ParametersRow, LetRow, ExpressionRow, ClimbRow, OperandRow, InsideRow, ListRow, IfRow, ElseRow, FunctionRow, BlockRow, StatementsRow, StatementRow, ClauseRow}
-use Rattle.text.proofs.Follow.{Begins, first_expression}
+use Rattle.text.proofs.Follow.{Begins, first_expression, first_statement}
 use Rattle.text.proofs.KindTests.{not_closes, closes_one, loose_ends, tight_goes, early_loose, InfixKind, infix_kind, begins_open, begins_first, begins-statement, begins-expression}
 
 -- a kind behind which an expression has ended
@@ -64,12 +64,6 @@ climb_closes {least} {opened} {b} {us} {rest} {x} {y} c =
 climb_ends : {least : ℕ} {x : Node} (ts : Row) → tight_of (kind_of ts) ≤ least → ClimbRow least 0 x ts ts x
 unfolding closes_group
 climb_ends {least} ts h = ClimbRow.ends refl (loose_ends least (kind_of ts) h)
-
--- how a statement begins
-begins_one : {ts us : Row} {x : Node} → Statement ts us x → kind_of ts < plus
-begins_one (Statement.let_statement Is.is _ _ _ _) = omega arith
-begins_one (Statement.return_statement Is.is _) = omega arith
-begins_one (Statement.expression_statement d) = (first_expression d).most
 
 -- what stands behind a statement
 past_statement : {ts us : Row} {xs : Nodes} → More ts us xs → Final (kind_of us) → Past (kind_of ts)
@@ -186,13 +180,13 @@ mutual
   -- statements
   row_statements : {ts us : Row} {xs : Nodes} → Statements ts us xs → Final (kind_of us) → StatementsRow ts us xs
   row_statements Statements.no_statements f = StatementsRow.no_statement f.ends
-  row_statements {ts} (Statements.statements d m) f = StatementsRow.a_statement (begins-statement (kind_of ts) (begins_one d)) (row-statement d (past_statement m f)) (row_more m f)
+  row_statements {ts} (Statements.statements d m) f = StatementsRow.a_statement (begins-statement (kind_of ts) (first_statement d)) (row-statement d (past_statement m f)) (row_more m f)
 
   row_more : {ts us : Row} {xs : Nodes} → More ts us xs → Final (kind_of us) → StatementsRow (past_semicolon ts) us xs
   row_more {ts} More.no_more f = rw f.no_semicolon (StatementsRow.no_statement f.ends)
   row_more (More.after_semicolon Is.is d) f = row_statements d f
   row_more {ts} (More.at_once h d m) f =
-      rw (ne_eqb (kind_of ts) semicolon (λ e. omega arith)) (StatementsRow.a_statement (begins-statement (kind_of ts) (begins_one d)) (row-statement d (past_statement m f)) (row_more m f))
+      rw (ne_eqb (kind_of ts) semicolon (λ e. omega arith)) (StatementsRow.a_statement (begins-statement (kind_of ts) (first_statement d)) (row-statement d (past_statement m f)) (row_more m f))
 
   row-statement : {ts us : Row} {x : Node} → Statement ts us x → Past (kind_of us) → StatementRow ts (past_semicolon us) x
   row-statement {us = us} (Statement.let_statement {n = n} {e = e} Is.is Is.is Is.is d v) p = rw v (StatementRow.statement_row (ClauseRow.a_let refl (LetRow.let_row refl (row-expression d p))))

@@ -1,13 +1,15 @@
 -- The values of `let`, and what statements have inside.
 use Prim.Native.Nat.{ℕ, suc, ◌+◌, ◌-◌, ◌≤◌, ◌<◌}
 use native.Mathlib.Omega.{arith}
-use mathlib.Core.Bool.{Bool, true, false}
+use mathlib.Core.Bool.{Bool, true, false, not}
 use mathlib.Core.List.{[], ◌++◌}
 use mathlib.Core.Path.{◌≡◌, refl, sym, ap, subst, ◌∙◌}
 use lib.ListN.{length, length-append}
 use lib.Seq.{sets, length-sets}
 use lib.Dec.{eqb}
-use borrow.Author.Tests.{eqb-true, eqb-false, ne_eqb, le-ltb}
+use borrow.Author.Tests.{eq-eqb, eqb-true, eqb-false, ne_eqb, le-ltb}
+use Rattle.std.specs.Prelude.{Option, None, Some}
+use Rattle.std.specs.Option.{option_eq}
 use Rattle.definition.specs.Basic.{Bytes, byte_at}
 use Rattle.definition.specs.Field.{field, bytes}
 use Rattle.definition.specs.Tag.{tag_function, tag_name}
@@ -89,16 +91,32 @@ named_other : (n : Bytes) (x : Node) → (tag_of x ≡ tag_function → ⊥) →
 named_other n (leaf t c) h = refl
 named_other n (node t xs) h = rw (ne_eqb t tag_function h) refl
 
+-- a tag is the one that it was compared with, or is another
+pub tag_is : (t : Option ℕ) (n : ℕ) → not (option_eq eqb t (Some n)) ≡ false → t ≡ Some n
+tag_is None n e = cc
+tag_is (Some m) n e = ap Some (eqb-true m n (not_not (eqb m n) e))
+  where
+    not_not : (b : Bool) → not b ≡ false → b ≡ true
+    not_not true q = refl
+    not_not false q = cc
+
+pub tag_differs : (t : Option ℕ) (n : ℕ) → not (option_eq eqb t (Some n)) ≡ true → t ≡ Some n → ⊥
+tag_differs t n e h = let i : not (option_eq eqb (Some n) (Some n)) ≡ true = subst (λ t. not (option_eq eqb t (Some n)) ≡ true) h e in both_ways (eqb n n) (eq-eqb n n refl) i
+  where
+    both_ways : (b : Bool) → b ≡ true → not b ≡ true → ⊥
+    both_ways true p q = cc
+    both_ways false p q = cc
+
 -- no function: it stays
-pub named-plain : {text : Bytes} {name : piece.Token} {to : ℕ} {v p : Part} {o : Bytes} → (v.tag ≡ tag_function → ⊥) → p ≡ v → Named text name to v o o p
+pub named-plain : {text : Bytes} {name : piece.Token} {to : ℕ} {v p : Part} {o : Bytes} → (v.tag ≡ Some tag_function → ⊥) → p ≡ v → Named text name to v o o p
 named-plain {text} {name} {to} {v} {p} {o} h e =
     subst (λ p. Named text name to v o o p) (sym e)
     (record { at = refl; levels = refl; behind = omega arith; most = omega arith; lengths = refl; puts = λ x rest left base _ _ s w. go x rest left base s w.put w.tag })
   where
-    go : (x : Node) (rest : Row) (left : ℕ) (base : Bytes) → Shaped x → Put text rest (written x) (levels x) left to base o v → (levels x ≤ left → v.tag ≡ tag_of x) → Put text rest (written (named (content_of text name) x)) (levels (named (content_of text name) x)) left to base o v
+    go : (x : Node) (rest : Row) (left : ℕ) (base : Bytes) → Shaped x → Put text rest (written x) (levels x) left to base o v → (levels x ≤ left → v.tag ≡ Some (tag_of x)) → Put text rest (written (named (content_of text name) x)) (levels (named (content_of text name) x)) left to base o v
     go x rest left base s (Put.too_deep a b) t = Put.too_deep (omega (arith, named-levels (content_of text name) x s)) b
     go x rest left base s (Put.fits a b c d f) t =
-        let i = sym (named_other (content_of text name) x (λ k. h (t a ∙ k))) in
+        let i = sym (named_other (content_of text name) x (λ k. h (t a ∙ ap Some k))) in
         put_same (ap written i) (ap levels i) (Put.fits a b c d f)
 
 -- a function's bytes: two heads, and what is behind its name
@@ -111,15 +129,16 @@ unfolding written written_all
 named_function n x ys e = ap (λ x. written (named n x)) e
 
 -- too short for a function
-pub named_short : {text : Bytes} {name : piece.Token} {to : ℕ} {v p : Part} {o : Bytes} → v.tag ≡ tag_function → v.to < to + 6 → p ≡ v → Named text name to v o o p
+pub named_short : {text : Bytes} {name : piece.Token} {to : ℕ} {v p : Part} {o : Bytes} → v.tag ≡ Some tag_function → v.to < to + 6 → p ≡ v → Named text name to v o o p
 named_short {text} {name} {to} {v} {p} {o} k h e =
     subst (λ p. Named text name to v o o p) (sym e)
     (record { at = refl; levels = refl; behind = omega arith; most = omega arith; lengths = refl; puts = λ x rest left base _ _ s w. go x rest left base s w.put w.tag })
   where
-    go : (x : Node) (rest : Row) (left : ℕ) (base : Bytes) → Shaped x → Put text rest (written x) (levels x) left to base o v → (levels x ≤ left → v.tag ≡ tag_of x) → Put text rest (written (named (content_of text name) x)) (levels (named (content_of text name) x)) left to base o v
+    go : (x : Node) (rest : Row) (left : ℕ) (base : Bytes) → Shaped x → Put text rest (written x) (levels x) left to base o v → (levels x ≤ left → v.tag ≡ Some (tag_of x)) → Put text rest (written (named (content_of text name) x)) (levels (named (content_of text name) x)) left to base o v
     go x rest left base s (Put.too_deep a b) t = Put.too_deep (omega (arith, named-levels (content_of text name) x s)) b
     go x rest left base s (Put.fits a b c d f) t =
-        let i = sym (t a) ∙ k in
+        let g = sym (t a) ∙ k in
+        let i : tag_of x ≡ tag_function = cc in
         let n = ap length (written_function x (s.body i) (s.shape i)) in
         absurd (omega (arith, length-append (head_of tag_function (suc (suc (suc (length (written_all (s.body i)))))) ++ field tag_name []) (written_all (s.body i))))
 
@@ -136,7 +155,7 @@ function_in_place base o o₁ o₂ o₃ n ys to from by a f b c d e h =
     ∙ front_replaced base to front (head_of tag_function (length (field tag_name n ++ ys))) (field tag_name n) ys {j = to + 3} {k = to + 6 + by} (omega arith) refl (omega arith)
 
 -- a function takes the name
-pub named_writes : {text : Bytes} {name : piece.Token} {to : ℕ} {v p q : Part} {o o₁ o₂ o₃ : Bytes} → v.tag ≡ tag_function → o₁ ≡ moved_by o (to + 6) v.to (name.end - name.start) → PutToken tag_name text name (to + 3) o₁ o₂ q → o₃ ≡ sets o₂ to (head_of tag_function (v.to + (name.end - name.start) - to - 3)) → p ≡ record { at = v.at; to = v.to + (name.end - name.start); levels = v.levels; tag = v.tag } → Named text name to v o o₃ p
+pub named_writes : {text : Bytes} {name : piece.Token} {to : ℕ} {v p q : Part} {o o₁ o₂ o₃ : Bytes} → v.tag ≡ Some tag_function → o₁ ≡ moved_by o (to + 6) v.to (name.end - name.start) → PutToken tag_name text name (to + 3) o₁ o₂ q → o₃ ≡ sets o₂ to (head_of tag_function (v.to + (name.end - name.start) - to - 3)) → p ≡ record { at = v.at; to = v.to + (name.end - name.start); levels = v.levels; tag = v.tag } → Named text name to v o o₃ p
 unfolding content_of
 named_writes {text} {name} {to} {v} {p} {q} {o} {o₁} {o₂} {o₃} k c w d e =
     subst (λ p. Named text name to v o o₃ p) (sym e)
@@ -155,10 +174,11 @@ named_writes {text} {name} {to} {v} {p} {q} {o} {o₁} {o₂} {o₃} k c w d e =
     as_long : number_of name.kind ≡ a_name → by ≡ length (content_of text name)
     as_long g = rw g (sym (length-bytes (byte_at text) name.start by))
 
-    go : number_of name.kind ≡ a_name → (x : Node) (rest : Row) (left : ℕ) (base : Bytes) → Shaped x → Put text rest (written x) (levels x) left to base o v → (levels x ≤ left → v.tag ≡ tag_of x) → Put text rest (written (named (content_of text name) x)) (levels (named (content_of text name) x)) left to base o₃ (record { at = v.at; to = v.to + by; levels = v.levels; tag = v.tag })
+    go : number_of name.kind ≡ a_name → (x : Node) (rest : Row) (left : ℕ) (base : Bytes) → Shaped x → Put text rest (written x) (levels x) left to base o v → (levels x ≤ left → v.tag ≡ Some (tag_of x)) → Put text rest (written (named (content_of text name) x)) (levels (named (content_of text name) x)) left to base o₃ (record { at = v.at; to = v.to + by; levels = v.levels; tag = v.tag })
     go g x rest left base s (Put.too_deep a b) t = Put.too_deep (omega (arith, named-levels (content_of text name) x s)) b
     go g x rest left base s (Put.fits a b i j f) t =
-        let u = sym (t a) ∙ k in
+        let e = sym (t a) ∙ k in
+        let u : tag_of x ≡ tag_function = cc in
         let ys = written_all (s.body u) in
         let wf = written_function x (s.body u) (s.shape u) in
         let n = content_of text name in

@@ -6,6 +6,7 @@ use mathlib.Core.Path.{◌≡◌, refl, sym, ap, subst, ◌∙◌}
 use lib.ListN.{length}
 use lib.Seq.{sets, length-sets}
 use borrow.Author.Tests.{eqb-true, eqb-false}
+use Rattle.std.specs.Prelude.{None, Some}
 use Rattle.definition.specs.Basic.{Bytes}
 use Rattle.definition.specs.Field.{field}
 use Rattle.definition.specs.Tag.{tag_block, tag_name, tag_params}
@@ -22,7 +23,7 @@ use Rattle.text.proofs.Bounding.{bounds_none, bounds_from, bounds_behind, bounds
 use Rattle.text.proofs.Putting.{put_none, put_same, put_on, put-behind, put-field, put_one}
 
 -- too deep at once
-pub deep_node : {F : Row → Row → Node → Type 0} {text : Bytes} {slack : ℕ} (at to left : ℕ) {old : Bytes} {p : Part} → at ≤ end_of text → left ≡ 0 → p ≡ record { at = end_of text; to = to; levels = 0 + 1; tag = 0 } → WritesNode F text at to slack left old old p
+pub deep_node : {F : Row → Row → Node → Type 0} {text : Bytes} {slack : ℕ} (at to left : ℕ) {old : Bytes} {p : Part} → at ≤ end_of text → left ≡ 0 → p ≡ record { at = end_of text; to = to; levels = 0 + 1; tag = None } → WritesNode F text at to slack left old old p
 deep_node at to left h z e =
     rw z
     (record {
@@ -31,7 +32,7 @@ deep_node at to left h z e =
     })
 
 -- a field put in one go
-pub put_leaf_field : {text : Bytes} {rest : Row} (tag : ℕ) (content : Bytes) {at to : ℕ} (left : ℕ) {old out : Bytes} {p : Part} → row_at text at ≡ rest → p ≡ record { at = at; to = to + 3 + length content; levels = 1; tag = tag } → out ≡ sets old to (field tag content) → Put text rest (field tag content) 1 left to old out p
+pub put_leaf_field : {text : Bytes} {rest : Row} (tag : ℕ) (content : Bytes) {at to : ℕ} (left : ℕ) {old out : Bytes} {p : Part} → row_at text at ≡ rest → p ≡ record { at = at; to = to + 3 + length content; levels = 1; tag = Some tag } → out ≡ sets old to (field tag content) → Put text rest (field tag content) 1 left to old out p
 put_leaf_field tag content zero r e s = Put.too_deep (omega arith) (omega (arith, ap (λ p. p.levels) e))
 put_leaf_field {text} tag content (suc left) r e s =
     Put.fits (omega arith) (ap (λ p. row_at text p.at) e ∙ r) (ap (λ p. p.to) e ∙ omega arith) (ap (λ p. p.levels) e) (λ _. s)
@@ -53,7 +54,7 @@ if_writes {text} {at} {to} {left} {o} {o₁} {o₂} {o₃} {t} {t'} {p} {q} {r} 
         v.puts xs ws (rw h g)))
 
 -- no else
-pub else_none : {text : Bytes} {at to left : ℕ} {o : Bytes} {t : piece.Token} {p : Part} → Sees text at t → (number_of t.kind ≡ else_word → ⊥) → at ≤ end_of text → p ≡ record { at = at; to = to; levels = 0; tag = 0 } → Writes ElseRow text at to 3 left o o p
+pub else_none : {text : Bytes} {at to left : ℕ} {o : Bytes} {t : piece.Token} {p : Part} → Sees text at t → (number_of t.kind ≡ else_word → ⊥) → at ≤ end_of text → p ≡ record { at = at; to = to; levels = 0; tag = None } → Writes ElseRow text at to 3 left o o p
 unfolding written_all levels_all
 else_none {text} {at} {to} {left} {o} {t} {p} a n h e = record { bounds = bounds_from (bounds_none at to left h e) (omega arith) (omega arith); puts = λ xs rest f. go xs rest f }
   where
@@ -70,7 +71,7 @@ else_block {text} {at} {to} {left} {o} {o₁} {t} {p} a k h w = record { bounds 
     go _ _ (ElseRow.an_else {us = us} {b} _ d) = put_one b (w.puts b us (rw a.rest d)).put
 
 -- a function: its name, its parameters, its block
-pub function_writes : {text : Bytes} {at to left : ℕ} {o o₁ o₂ o₃ : Bytes} {p q r u s : Part} → at ≤ end_of text → p ≡ record { at = at; to = to + 3; levels = 1; tag = tag_name } → o₁ ≡ sets o to (field tag_name []) → ((left : ℕ) → WritesNode ParametersRow text p.at p.to 3 left o₁ o₂ q) → WritesNode BlockRow text q.at q.to 3 left o₂ o₃ r → u ≡ joined_of q r → s ≡ joined_of p u → Writes FunctionRow text at to 9 left o o₃ s
+pub function_writes : {text : Bytes} {at to left : ℕ} {o o₁ o₂ o₃ : Bytes} {p q r u s : Part} → at ≤ end_of text → p ≡ record { at = at; to = to + 3; levels = 1; tag = Some tag_name } → o₁ ≡ sets o to (field tag_name []) → ((left : ℕ) → WritesNode ParametersRow text p.at p.to 3 left o₁ o₂ q) → WritesNode BlockRow text q.at q.to 3 left o₂ o₃ r → u ≡ joined_of q r → s ≡ joined_of p u → Writes FunctionRow text at to 9 left o o₃ s
 unfolding written written_all levels levels_all
 function_writes {text} {at} {to} {left} {o} {o₁} {o₂} {o₃} {p} {q} {r} {u} {s} h n m ps w i j =
     let b : Bounds text at to 3 left o o₁ p =
@@ -91,7 +92,7 @@ function_writes {text} {at} {to} {left} {o} {o₁} {o₂} {o₃} {p} {q} {r} {u}
     go : Bounds text at to 3 left o o₁ p → (xs : Nodes) (rest : Row) → FunctionRow (row_at text at) rest xs → Put text rest (written_all xs) (levels_all xs) left to o o₃ (joined_of p (joined_of q r))
     go b _ _ (FunctionRow.function_row {us = us} {vs} {ns} {b = x} d f) =
         let z : to + 3 ≡ to + 3 + length {A = ℕ} [] = omega arith in
-        put-behind (put_leaf_field tag_name [] {at = at} {to = to} left refl (n ∙ ap (λ k. record { at = at; to = k; levels = 1; tag = tag_name }) z) m) b.lengths (omega (arith, (ps left).bounds.behind, w.bounds.behind)) (λ h.
+        put-behind (put_leaf_field tag_name [] {at = at} {to = to} left refl (n ∙ ap (λ k. record { at = at; to = k; levels = 1; tag = Some tag_name }) z) m) b.lengths (omega (arith, (ps left).bounds.behind, w.bounds.behind)) (λ h.
         put-behind ((ps left).puts ns us (rw h d)).put (ps left).bounds.lengths w.bounds.behind (λ h.
         put_one x (w.puts x vs (rw h f)).put))
 
@@ -144,5 +145,5 @@ one_writes {text} {at} {to} {l} {left} {o} {o₁} {o₂} {t} {p} {q} {s} z a k w
         let e : Put text (past_semicolon us) (field (statement_tag (number_of t.kind)) (written_all xs)) (suc (levels_all xs)) (suc l) to o o₂ s = subst (λ s. Put text (past_semicolon us) (field (statement_tag (number_of t.kind)) (written_all xs)) (suc (levels_all xs)) (suc l) to o o₂ s) (sym b.part) (put_on (λ h. b.row ∙ ap past_semicolon h) c) in
         record {
           put = put_same (ap (λ k. field (statement_tag k) (written_all xs)) a.kind) refl e;
-          tag = λ _. ap (λ p. p.tag) b.part ∙ ap (λ p. p.tag) i ∙ ap statement_tag a.kind;
+          tag = λ _. ap (λ p. p.tag) b.part ∙ ap (λ p. p.tag) i ∙ ap (λ k. Some (statement_tag k)) a.kind;
         }

@@ -1,5 +1,5 @@
 -- What passes 2 and 3 promise: the bytes of what is read at an offset, put into an output where there is room, and its levels.
-use Rattle.std.specs.Prelude.{ℕ, zero, suc, ◌+◌, ◌*◌, ◌-◌, ◌/◌, ◌%◌, ◌≤◌, ◌<◌, false, [], ◌∷◌, ◌≡◌, length, ltb, eqb}
+use Rattle.std.specs.Prelude.{None, Some, ℕ, zero, suc, ◌+◌, ◌*◌, ◌-◌, ◌/◌, ◌%◌, ◌≤◌, ◌<◌, false, [], ◌∷◌, ◌≡◌, length, ltb, eqb}
 use Rattle.std.proofs.lemmas.List.Edits.{sets}
 use Rattle.definition.specs.Basic.{Bytes, byte_at, pick}
 use Rattle.definition.specs.Field.{bytes, field}
@@ -77,7 +77,7 @@ pub record Holds (text : Bytes) (t : piece.Token) : Type 0 where
 
 -- a field of one token put
 pub record PutToken (tag : ℕ) (text : Bytes) (t : piece.Token) (to : ℕ) (old out : Bytes) (p : Part) : Type 0 where
-  pub part : p ≡ record { at = t.end; to = to + 3 + length (content_of text t); levels = 1; tag = tag }
+  pub part : p ≡ record { at = t.end; to = to + 3 + length (content_of text t); levels = 1; tag = Some tag }
   pub stored : out ≡ sets old to (field tag (content_of text t))
   pub most : length (content_of text t) ≤ 8 + (t.end - t.start)
 
@@ -99,7 +99,7 @@ pub data Put (text : Bytes) (rest : Row) (new : Bytes) (deep left to : ℕ) (old
 -- a field put, and its tag known
 pub record PutNode (text : Bytes) (rest : Row) (x : Node) (left to : ℕ) (old out : Bytes) (p : Part) : Type 0 where
   pub put : Put text rest (written x) (levels x) left to old out p
-  pub tag : levels x ≤ left → p.tag ≡ tag_of x
+  pub tag : levels x ≤ left → p.tag ≡ Some (tag_of x)
 
 -- from where a part may be put: no sum leaves the machine's numbers
 pub record Ready (most : ℕ) (text : Bytes) (at to left : ℕ) : Type 0 where
@@ -132,7 +132,7 @@ pub record Writes (F : Row → Row → Nodes → Type 0) (text : Bytes) (at to s
 
 -- a part and the one behind it
 abbrev pub joined_of : Part → Part → Part
-joined_of p q = record { at = q.at; to = q.to; levels = larger p.levels q.levels; tag = 0 }
+joined_of p q = record { at = q.at; to = q.to; levels = larger p.levels q.levels; tag = None }
 
 -- the same further on in the text
 abbrev pub moved_on : Part → ℕ → Part
@@ -140,7 +140,7 @@ moved_on p at = record { at = at; to = p.to; levels = p.levels; tag = p.tag }
 
 -- a field of what was put behind its head
 abbrev pub closed_of : ℕ → Part → Part
-closed_of tag p = record { at = p.at; to = p.to; levels = 1 + p.levels; tag = tag }
+closed_of tag p = record { at = p.at; to = p.to; levels = 1 + p.levels; tag = Some tag }
 
 -- parentheses passed
 pub record Skips (text : Bytes) (from : ℕ) (g : Groups) : Type 0 where

@@ -1,5 +1,5 @@
 // What was put of a tree, and the parts of it that hold no expression.
-ghost use Rattle.std.specs.Prelude.{◌≡◌, [], ◌∷◌, ℕ, ◌+◌, ◌-◌, ◌≤◌, ◌<◌, length};
+ghost use Rattle.std.specs.Prelude.{◌≡◌, None, Some, [], ◌∷◌, ℕ, ◌+◌, ◌-◌, ◌≤◌, ◌<◌, length};
 ghost use Rattle.std.proofs.lemmas.List.Edits.{sets};
 ghost use Rattle.definition.specs.Basic.{pick};
 ghost use Rattle.definition.specs.Field.{field};
@@ -23,7 +23,7 @@ pub struct Part {
     pub at: usize,
     pub to: usize,
     pub levels: usize,
-    pub tag: u8,
+    pub tag: Option<u8>,
 }
 
 // Where an operand stands, behind so many parentheses.
@@ -57,26 +57,27 @@ pub fn token_at(text: &[u8], at: usize) -> Token
 impl Part {
     // Nothing was put.
     pub fn empty(at: usize, to: usize) -> Part
-        ensures { result ≡ record { at = at; to = to; levels = 0; tag = 0 } }
+        ensures { result ≡ record { at = at; to = to; levels = 0; tag = None } }
     {
         Part {
             at,
             to,
             levels: 0,
-            tag: 0,
+            tag: None,
         }
     }
 
     // More levels than are left; no more is read.
+    // Kept: a part like any other, since levels add up over what is around it, and one comparison at the end refuses, as in the definition.
     pub fn deep(text: &[u8], to: usize, left: usize) -> Part
         requires { left ≤ 64 }
-        ensures { result ≡ record { at = end_of text.now; to = to; levels = left + 1; tag = 0 } }
+        ensures { result ≡ record { at = end_of text.now; to = to; levels = left + 1; tag = None } }
     {
         Part {
             at: text_end(text),
             to,
             levels: left + 1,
-            tag: 0,
+            tag: None,
         }
     }
 
@@ -88,7 +89,7 @@ impl Part {
             at: next.at,
             to: next.to,
             levels: self.levels.max(next.levels),
-            tag: 0,
+            tag: None,
         }
     }
 
@@ -123,7 +124,7 @@ pub fn close(output: &mut [u8], to: usize, tag: u8, inside: Part) -> Part
         at: inside.at,
         to: inside.to,
         levels: 1 + inside.levels,
-        tag,
+        tag: Some(tag),
     }
 }
 
@@ -163,6 +164,8 @@ pub fn item_start(token: Token, at: usize) -> usize
 }
 
 // The bytes that a token denotes, or a flag.
+// Kept: text and token apart, here and below, since a token is three numbers that the scan gives by value; one that held the text would
+// lend it twice.
 #[tactic(auto, using(crate::proofs::RowAt::end_within))]
 fn put_content(text: &[u8], output: &mut [u8], token: Token, to: usize) -> usize
     requires { Holds text.now token × (to < 1048576) }
@@ -172,7 +175,7 @@ fn put_content(text: &[u8], output: &mut [u8], token: Token, to: usize) -> usize
 {
     let Token { kind, start, end } = token;
     match kind {
-        Kind::Integer => put_bytes(output, to, &value(text, start, end).unwrap().to_be_bytes()),
+        Kind::Integer => put_bytes(output, to, &value(&text[start..end]).unwrap().to_be_bytes()),
         Kind::String => put_bytes(output, to, &text[start + 1..end - 1]),
         Kind::True => put_bytes(output, to, &[1]),
         Kind::False => put_bytes(output, to, &[0]),
@@ -208,7 +211,7 @@ pub fn put_name(text: &[u8], output: &mut [u8], token: Token, to: usize) -> Part
 // A name of no bytes.
 pub fn put_empty_name(output: &mut [u8], at: usize, to: usize) -> Part
     requires { to < 1000000 }
-    ensures part { result ≡ record { at = at; to = to + 3; levels = 1; tag = tag_name } }
+    ensures part { result ≡ record { at = at; to = to + 3; levels = 1; tag = Some tag_name } }
     ensures stored { output.new ≡ sets output.old to (field tag_name []) }
 {
     close(output, to, tag::NAME as u8, Part::empty(at, to + 3))
@@ -217,7 +220,7 @@ pub fn put_empty_name(output: &mut [u8], at: usize, to: usize) -> Part
 // An operator's field.
 pub fn put_operator(output: &mut [u8], at: usize, to: usize, b: u8) -> Part
     requires { to < 1000000 }
-    ensures part { result ≡ record { at = at; to = to + 4; levels = 1; tag = tag_operator } }
+    ensures part { result ≡ record { at = at; to = to + 4; levels = 1; tag = Some tag_operator } }
     ensures stored { output.new ≡ sets output.old to (field tag_operator (b ∷ [])) }
 {
     put(output, to + 3, b);
@@ -258,7 +261,7 @@ pub fn named(text: &[u8], output: &mut [u8], name: Token, to: usize, value: Part
     requires { Holds text.now name × (value.to < 1000000) × (to ≤ value.to) }
     ensures { Named text.now name to value output.old output.new result }
 {
-    if value.tag != tag::FUNCTION as u8 {
+    if value.tag != Some(tag::FUNCTION as u8) {
         return value;
     }
     if value.to < to + 6 {

@@ -4,7 +4,7 @@ ghost use Rattle.text.specs.Kind.{number_of};
 ghost use Rattle.text.specs.Shape as shape;
 
 use crate::kind::Kind;
-use definition::tag;
+use definition::{operator, tag};
 
 impl Kind {
     // How tight a token holds the operand before it: 0 if it does not continue an expression.
@@ -91,15 +91,15 @@ impl Kind {
         ensures { result ≡ shape.operator_of (number_of self) }
     {
         match self {
-            Kind::Plus => 1,
-            Kind::Minus => 2,
-            Kind::Bang => 3,
-            Kind::Star => 4,
-            Kind::Slash => 5,
-            Kind::Equal => 6,
-            Kind::Unequal => 7,
-            Kind::Less => 8,
-            _ => 9,
+            Kind::Plus => operator::PLUS,
+            Kind::Minus => operator::MINUS,
+            Kind::Bang => operator::BANG,
+            Kind::Star => operator::STAR,
+            Kind::Slash => operator::SLASH,
+            Kind::Equal => operator::EQUAL,
+            Kind::Unequal => operator::NOT_EQUAL,
+            Kind::Less => operator::LESS_THAN,
+            _ => operator::GREATER_THAN,
         }
     }
 

@@ -1,6 +1,6 @@
--- A lookup crosses no more functions than are open; and words that stand in front are read, whatever stands behind them.
-use Prim.Native.Nat.{ℕ, zero, suc, ◌+◌, ◌≤◌, ◌<◌}
-use mathlib.Core.List.{List, reverse, reverse_aux, reverse-reverse}
+-- Words that stand in front are read, whatever stands behind them.
+use Prim.Native.Nat.{ℕ, ◌+◌, ◌≤◌, ◌<◌}
+use mathlib.Core.List.{List, reverse}
 use mathlib.Core.Path.{◌≡◌, refl, ap, ◌∙◌}
 use lib.ListN.{length}
 use lib.Dec.{eqb}
@@ -8,38 +8,14 @@ use Rattle.definition.specs.Basic.{pick}
 use Rattle.definition.specs.Limit.{words_limit}
 use Rattle.definition.specs.Tag.{tag_words}
 use Rattle.definition.specs.Field.{field, tagged}
-use Rattle.definition.specs.SymbolTable.{distinct}
 use Rattle.definition.specs.Session.{six, listed, names_bytes, words_field}
-use Rattle.definition.specs.Decode.{decoded, malformed, then, as_words, read_name_fields, read_words}
+use Rattle.definition.specs.Decode.{decoded, then, as_words, read_name_fields, read_words}
 use Rattle.definition.specs.Valid.{All, ValidList}
 use Rattle.definition.proofs.Bytes.{Stands, stands_head}
 use Rattle.definition.proofs.Fields.{read-row}
-use Rattle.definition.proofs.Sessions.{length-reverse, words-length, reads_name}
-use mathlib.Core.Option.{Option, none, some}
+use Rattle.definition.proofs.Sessions.{all_reversed, length-reverse, words-length, as-words, reads_name}
 use native.Mathlib.Omega.{arith}
 use Rattle.definition.specs.Basic.{Bytes}
-use Rattle.definition.specs.SymbolTable.{Symbol, find, or_further, crossed}
-use Rattle.symbol_table.specs.Layout.{part, table_of, tables_of}
-
--- as many functions as there are tables, at most
-pub few_crossed : (tree : Bytes) (n : Bytes) (a : List ℕ) (l : ℕ) → crossed n (tables_of tree l a) ≤ l
-unfolding tables_of crossed
-few_crossed tree n a zero = omega arith
-few_crossed tree n a (suc l) = go (find n (table_of tree (part l a)).entries) (few_crossed tree n a l)
-  where
-    go : (x : Option Symbol) {k : ℕ} → k ≤ l → or_further x k ≤ suc l
-    go (some y) h = omega arith
-    go none h = omega arith
-
--- words in their other order
-all_reversed : {P : Bytes → Type 0} {ns ms : List Bytes} → All P ns → All P ms → All P (reverse_aux ns ms)
-all_reversed All.none ms = ms
-all_reversed (All.more p ps) ms = all_reversed ps (All.more p ms)
-
--- valid words, read the latest first
-as-words : {ws : List Bytes} → ValidList ws → (at : ℕ) → as_words (reverse ws) at ≡ decoded (listed ws) at
-as-words {ws} v at =
-    (λ i. let x = reverse-reverse ws i in pick (distinct x) (decoded (listed x) at) (malformed at)) ∙ (λ i. pick (v.unrepeated i) (decoded (listed ws) at) (malformed at))
 
 -- words that stand in front are read
 pub read-listed : {byte : ℕ → ℕ} (ws : List Bytes) → ValidList ws → (end : ℕ) → Stands byte 0 (words_field (listed ws)) → length (words_field (listed ws)) ≤ end → read_words byte 0 end ≡ decoded (listed ws) (length (words_field (listed ws)))

@@ -14,6 +14,7 @@ use Rattle.definition.specs.Limit.{arguments_limit}
 use Rattle.definition.specs.Tag.{tag_let, tag_identifier, tag_infix, tag_function, tag_macro, tag_name, tag_operator}
 use Rattle.definition.specs.Syntax.{Stmt, Stmts, Else, Expr, Exprs, count}
 use Rattle.definition.specs.Walk.{on, bind, Go, operate, prefixes, infixes, less_than, walk_stmt, walk_stmts, walk_else, walk_expr, walk_exprs}
+use Rattle.definition.proofs.Basic.{contrary}
 use Rattle.field.specs.Layout.{tag, after, Whole}
 use Rattle.tree.specs.At.{Row, stmt_list, expr_list, LetAt, PrefixAt, InfixAt, IfAt, CallAt, IndexAt, ElseAt}
 use Rattle.tree.specs.Reads.{Some, ReadsStmt, ReadsExpr, ReadsStmts, ReadsBlock}
@@ -22,9 +23,6 @@ use Rattle.tree.proofs.Table.{between}
 use Rattle.records.specs.Naming.{Names, naming}
 use Rattle.trace.specs.Pass.{is_parent, Node, walk_node, walk_nodes, ReadsNode, ReadsNodes}
 use Rattle.trace.proofs.Sequence.{Below, below_same, below-bind, below_end, below-pick}
-
-never : {A : Type 0} → false ≡ true → A
-never e = let z : ◌≡◌ {A = ℕ} 0 1 = cc in absurd (omega arith)
 
 -- children in a row, and that their walk is the parent's
 pub record Inner (tree : Bytes) (at : ℕ) (w : Go Names) : Type 0 where
@@ -116,7 +114,7 @@ module _ {tree : Bytes} {at : ℕ} where
         (
           λ h _. let i = stmt_is 18 h r in subst (λ y. Inner tree at (walk_stmt naming y)) (sym i.is) (block_inner i.body i.on_body),
           (
-            λ _ e. never e,
+            λ _ e. contrary e,
             (
               λ h _. let i = stmt_is 20 h r in value_inner i.value i.on_value i.ends (λ s. ap (λ y. walk_stmt naming y s) i.is),
               tt,
@@ -197,23 +195,23 @@ module _ {tree : Bytes} {at : ℕ} where
   unfolding walk_expr
   expr_inner x r =
       between (λ t. tag tree at ≡ t → is_parent t ≡ true → Inner tree at (walk_expr naming x)) 32 13 (tag tree at) (
-        λ _ e. never e,
+        λ _ e. contrary e,
         (
           λ h _. prefix_inner x (expr_is 33 h r),
           (
-            λ _ e. never e,
+            λ _ e. contrary e,
             (
               λ h _. if_inner x (expr_is 35 h r),
               (
-                λ _ e. never e,
+                λ _ e. contrary e,
                 (
                   λ h _. call_inner x (expr_is 37 h r),
                   (
-                    λ _ e. never e,
+                    λ _ e. contrary e,
                     (
-                      λ _ e. never e,
+                      λ _ e. contrary e,
                       (
-                        λ _ e. never e,
+                        λ _ e. contrary e,
                         (
                           λ h _. let i = expr_is 41 h r in list_inner i.items i.on-items (λ s. ap (λ y. walk_expr naming y s) i.is),
                           (
@@ -221,7 +219,7 @@ module _ {tree : Bytes} {at : ℕ} where
                             (
                               λ h _. let i = expr_is 43 h r in list_inner i.items i.on-items (λ s. ap (λ y. walk_expr naming y s) i.is),
                               (
-                                λ _ e. never e,
+                                λ _ e. contrary e,
                                 tt,
                               ),
                             ),
@@ -246,8 +244,8 @@ module _ {tree : Bytes} {at : ℕ} where
   children Node.quiet r h = absurd (go r.reads.tagged)
     where
       go : (tag tree at ≡ tag_name) ⊎ (tag tree at ≡ tag_operator) → ⊥
-      go (inl e) = never (rw e at h)
-      go (inr e) = never (rw e at h)
+      go (inl e) = contrary (rw e at h)
+      go (inr e) = contrary (rw e at h)
 
   -- The others
 
@@ -257,21 +255,21 @@ module _ {tree : Bytes} {at : ℕ} where
   unfolding walk_expr
   silent n₀ n₁ n₂ n₃ h (Node.stmt x) r s =
       between (λ t. tag tree at ≡ t → is_parent t ≡ false → Below (walk_stmt naming x s) (on tt s)) 17 4 (tag tree at)
-      (λ _ e. never (sym e), (λ _ e. never (sym e), (λ i _. absurd (n₁ i), (λ _ e. never (sym e), tt))))
+      (λ _ e. contrary (sym e), (λ _ e. contrary (sym e), (λ i _. absurd (n₁ i), (λ _ e. contrary (sym e), tt))))
       r.reads.field.from (omega (arith, r.reads.field.upto)) refl h
   silent n₀ n₁ n₂ n₃ h (Node.expr x) r s =
       between (λ t. tag tree at ≡ t → is_parent t ≡ false → Below (walk_expr naming x s) (on tt s)) 32 13 (tag tree at) (
         λ i _. absurd (n₀ i),
         (
-          λ _ e. never (sym e),
+          λ _ e. contrary (sym e),
           (
             λ i _. absurd (n₃ i),
             (
-              λ _ e. never (sym e),
+              λ _ e. contrary (sym e),
               (
                 λ i _. absurd (n₂ i),
                 (
-                  λ _ e. never (sym e),
+                  λ _ e. contrary (sym e),
                   (
                     λ i _. rw (expr_is 38 i r.reads).is Below.on,
                     (
@@ -279,11 +277,11 @@ module _ {tree : Bytes} {at : ℕ} where
                       (
                         λ i _. rw (expr_is 40 i r.reads) Below.on,
                         (
-                          λ _ e. never (sym e),
+                          λ _ e. contrary (sym e),
                           (
-                            λ _ e. never (sym e),
+                            λ _ e. contrary (sym e),
                             (
-                              λ _ e. never (sym e),
+                              λ _ e. contrary (sym e),
                               (
                                 λ i _. rw (expr_is 44 i r.reads) Below.stop,
                                 tt,
@@ -301,7 +299,7 @@ module _ {tree : Bytes} {at : ℕ} where
         ),
       )
       r.reads.field.from (omega (arith, r.reads.field.upto)) refl h
-  silent n₀ n₁ n₂ n₃ h (Node.block b) r s = never (sym (rw r.reads.tagged at h))
+  silent n₀ n₁ n₂ n₃ h (Node.block b) r s = contrary (sym (rw r.reads.tagged at h))
   silent n₀ n₁ n₂ n₃ h Node.quiet r s = Below.on
 
   -- a let

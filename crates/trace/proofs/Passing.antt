@@ -26,7 +26,7 @@ use Rattle.symbol_table.specs.declared.LookupError.TheVariants.{Undefined, Full}
 use Rattle.symbol_table.specs.declared.Slot.TheVariants.{Global, Local}
 use Rattle.symbol_table.specs.declared.DefineError.TheVariants.{GlobalsFull, LocalsFull}
 use Rattle.std.specs.Prelude.{Ok, Err}
-use Rattle.trace.proofs.Front.{few_crossed}
+use Rattle.symbol_table.proofs.Resolving.{few_crossed}
 use Rattle.records.specs.Records.{record_of}
 use Rattle.records.specs.Naming.{Names, names, looked_up, look_up, placed_name, define_name, naming}
 use Rattle.trace.specs.Log.{log_of}

@@ -53,10 +53,11 @@ module _ {tree : Bytes} (r : Read tree) where
     pub tree_standing : HasWords (take end session) → table_size ≤ length t → code_size ≤ length l → Standing tree (take end session) 0 t l 0 (length tree - 3)
     tree_standing w h k = record { words = w; symbols = x.good tree; depth = omega arith; area = h; short = short; room = omega (arith, short) }
 
-    pub tree_passes : {t' : List ℕ} {l' : Bytes} {n : ℕ} → Passes tree (take end session) 0 (ReadsNodes tree 3 (length tree)) walk_nodes (length tree - 3) t t' l l' 0 n → PassesTree tree session from end l' n
+    -- the log that was lent is the one that was written
+    pub tree_passes : {t' : List ℕ} {l₁ l' : Bytes} {n : ℕ} → Passes tree (take end session) 0 (ReadsNodes tree 3 (length tree)) walk_nodes (length tree - 3) t t' l l' 0 n → l₁ ≡ l' → PassesTree tree session from end l₁ n
     unfolding tables_of log_of
-    tree_passes {t'} {l'} {n} d =
-        record {
+    tree_passes {t'} {l₁} {l'} {n} d q =
+        rw q (record {
           logs = λ b m e h.
               let i = tree_nodes b (tree_stands tree b m e) in
               let before = take end session in
@@ -64,4 +65,4 @@ module _ {tree : Bytes} (r : Read tree) where
               let all : Follows u (walk_stmts naming b (names (words_in before) [] (globals_in tree before t) [])) = below_follows u (i.2 (names_at tree before 0 t l 0)) (d.step i.0 i.1) in
               logged (words_in before) [] (globals_in tree before t') l' n (walk_stmts naming b (names (words_in before) [] h.names [])) (rw (x.globals tree h) at all);
           fits = omega (arith, d.room);
-        }
+        })

@@ -1,3 +1,4 @@
 pub mod Log
 pub mod Pass
+pub mod Namer
 pub mod Promise

@@ -28,8 +28,8 @@ pub struct CallTrace {
 }
 
 // What is known before the tree is compiled: how many records there will be, and the length of the session's names.
-// Kept: zeros where session or tree don't read, since compiling refuses those itself; an Option would only be taken apart again.
-#[derive(Clone, Copy)]
+// Kept: the default where session or tree don't read, since compiling refuses those itself; an Option would only be taken apart again.
+#[derive(Clone, Copy, Default)]
 pub struct Outlook {
     pub count: usize,
     pub names: usize,
@@ -40,18 +40,19 @@ fn look_ahead(session: &[u8], tree: &[u8], code: &mut [u8], table: &mut [u32]) -
     requires { Lengths session.now code.old table.old }
     ensures { LooksAhead tree.now session.now result }
 {
-    if let Some(layout) = read_layout(session) {
-        if let Ok(()) = tree::check(tree) {
-            let from = layout.words_end + 3;
-            let end = layout.names_end;
-            let count = name_tree(session, tree, table, code, from, end);
-            return Outlook {
-                count,
-                names: end - from,
-            };
-        }
+    let Some(layout) = read_layout(session) else {
+        return Outlook::default();
+    };
+    let Ok(()) = tree::check(tree) else {
+        return Outlook::default();
+    };
+    let from = layout.words_end + 3;
+    let end = layout.names_end;
+    let count = name_tree(session, tree, table, code, from, end);
+    Outlook {
+        count,
+        names: end - from,
     }
-    Outlook { count: 0, names: 0 }
 }
 
 // The pass over the names of a tree that was accepted, from the first `names` bytes of the session's names.
@@ -172,6 +173,7 @@ fn trace_lent(
 
 // Compiles a tree in a session with so many records, and leaves all as such a call does but for two things: the records to be written are in a log at
 // the front of the code area, and the log is still to be cleared.
+// Kept: the slices one by one, here and above, as C lends them and `compile` takes them: a struct would be taken apart at each call.
 pub fn compile_log(
     session: &mut [u8],
     tree: &[u8],

@@ -7,7 +7,7 @@ ghost use Rattle.trace.specs.Log.{record_at, log_of};
 
 use field::{wide, word};
 use records::{Kind, Record};
-use symbol_table::layout::{BUILTIN, FREE, GLOBAL, LOCAL};
+use symbol_table::Symbol;
 
 // Writes record n behind those before it: an Identifier's offset, its symbol's code and the functions crossed.
 pub fn put_entry(log: &mut [u8], n: usize, at: usize, code: usize, crossed: usize)
@@ -23,47 +23,21 @@ pub fn put_entry(log: &mut [u8], n: usize, at: usize, code: usize, crossed: usiz
 }
 
 // The record of a symbol's code.
-// Kept: the bounds are the symbol table's, as numbers of 32 bits; a match would want guards, and be no plainer.
-fn record_of(offset: usize, code: usize, crossed: usize) -> Record
+fn record_of(offset: usize, code: u32, crossed: usize) -> Record
     ensures { result ≡ record_of offset crossed (symbol_of code) }
 {
-    if code < LOCAL as usize {
-        return Record {
-            offset: offset,
-            kind: Kind::Function,
-            index: 0,
-            crossed: crossed,
-        };
-    }
-    if code < FREE as usize {
-        return Record {
-            offset: offset,
-            kind: Kind::Local,
-            index: code - LOCAL as usize,
-            crossed: crossed,
-        };
-    }
-    if code < BUILTIN as usize {
-        return Record {
-            offset: offset,
-            kind: Kind::Free,
-            index: code - FREE as usize,
-            crossed: crossed,
-        };
-    }
-    if code < GLOBAL as usize {
-        return Record {
-            offset: offset,
-            kind: Kind::Builtin,
-            index: code - BUILTIN as usize,
-            crossed: crossed,
-        };
-    }
+    let (kind, index) = match Symbol::from(code) {
+        Symbol::Function => (Kind::Function, 0),
+        Symbol::Local(k) => (Kind::Local, k),
+        Symbol::Free(k) => (Kind::Free, k),
+        Symbol::Builtin(k) => (Kind::Builtin, k),
+        Symbol::Global(k) => (Kind::Global, k),
+    };
     Record {
-        offset: offset,
-        kind: Kind::Global,
-        index: code - GLOBAL as usize,
-        crossed: crossed,
+        offset,
+        kind,
+        index: index as usize,
+        crossed,
     }
 }
 
@@ -76,5 +50,5 @@ pub fn record_at(log: &[u8], k: usize) -> Record
     let offset = word(log[i], log[i + 1]);
     let packed = wide(log[i + 2]);
     let low = wide(log[i + 3]);
-    record_of(offset, packed % 8 * 256 + low, packed / 8)
+    record_of(offset, (packed % 8 * 256 + low) as u32, packed / 8)
 }

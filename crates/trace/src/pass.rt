@@ -9,18 +9,17 @@ ghost use Rattle.definition.specs.Tree.{read_tree};
 ghost use Rattle.tree.specs.Reads.{Some, ReadsExpr, ReadsBlock};
 ghost use Rattle.symbol_table.specs.Contract.{HasWords, HasItems};
 ghost use Rattle.records.specs.Naming.{naming, look_up};
-ghost use Rattle.trace.specs.Pass.{is_parent, walk_node, walk_nodes, ReadsNode, ReadsNodes, Standing, Passes, PassesTree, Anything};
+ghost use Rattle.trace.specs.Pass.{is_parent, walk_node, walk_nodes, ReadsNode, ReadsNodes, PassesTree, Anything};
+ghost use Rattle.trace.specs.Namer.{Stands, Names};
 
 use super::log::put_entry;
 use definition::limit::{ARGUMENTS_LIMIT, NESTING_LIMIT};
+use definition::operator::LESS_THAN;
 use definition::tag;
 use field::after_at;
 use field::fields::Fields;
 use symbol_table::{define, enter, resolve_name, start_from};
 use tree::count_fields;
-
-// The operator whose right side is walked first.
-const LESS_THAN: u8 = 8;
 
 // Whether the names of a field of a tag are those of its children, in order.
 fn has_children(t: usize) -> bool
@@ -40,152 +39,119 @@ fn has_children(t: usize) -> bool
     )
 }
 
-// Looks an Identifier up, and logs its record. How many there are then.
-fn log_identifier(
-    tree: &[u8],
-    names: &[u8],
-    table: &mut [u32],
-    log: &mut [u8],
-    level: usize,
-    at: usize,
-    n: usize,
-) -> usize
-    requires whole { Whole tree.now at }
-    requires standing { Standing tree.now names.now level table.old log.old n 4 }
-    ensures { Passes tree.now names.now level Anything (λ _. look_up at (content tree.now at)) 4 table.old table.new log.old log.new n result }
-{
-    match resolve_name(tree, names, table, level, at) {
-        Ok(found) => {
-            put_entry(log, n, at, found.code as usize, found.crossed);
-            n + 1
+// What a pass is lent: the table area, and the log with so many records.
+#[derive(Drop)]
+struct Namer<'a> {
+    table: &'a mut [u32],
+    log: &'a mut [u8],
+    count: usize,
+}
+
+impl<'a> Namer<'a> {
+    // Looks an Identifier up, and logs its record.
+    fn log_identifier(&mut self, tree: &[u8], names: &[u8], level: usize, at: usize)
+        requires whole { Whole tree.now at }
+        requires standing { Stands tree.now names.now level self.old 4 }
+        ensures { Names tree.now names.now level Anything (λ _. look_up at (content tree.now at)) 4 self.old self.new }
+    {
+        if let Ok(found) = resolve_name(tree, names, self.table, level, at) {
+            put_entry(self.log, self.count, at, found.code as usize, found.crossed);
+            self.count += 1;
         }
-        Err(_) => n,
     }
-}
 
-// Logs the records of what stands at `at`, behind n of them. How many there are then.
-#[cycle(pass)]
-fn name_field(
-    tree: &[u8],
-    names: &[u8],
-    table: &mut [u32],
-    log: &mut [u8],
-    level: usize,
-    at: usize,
-    n: usize,
-) -> usize
-    requires some { Some (ReadsNode tree.now at) }
-    requires standing { Standing tree.now names.now level table.old log.old n (3 + len tree.now at) }
-    ensures { Passes tree.now names.now level (ReadsNode tree.now at) walk_node (3 + len tree.now at) table.old table.new log.old log.new n result }
-{
-    match tree[at] as usize {
-        tag::IDENTIFIER => log_identifier(tree, names, table, log, level, at, n),
-        tag::LET => name_let(tree, names, table, log, level, at, n),
-        tag::FUNCTION => name_function(tree, names, table, log, level, at, n),
-        tag::INFIX => name_infix(tree, names, table, log, level, at, n),
-        t if has_children(t) => {
-            let end = after_at(tree, at);
-            name_row(tree, names, table, log, level, at + 3, end, n)
+    // Logs the records of what stands at `at`.
+    #[cycle(pass)]
+    fn name_field(&mut self, tree: &[u8], names: &[u8], level: usize, at: usize)
+        requires some { Some (ReadsNode tree.now at) }
+        requires standing { Stands tree.now names.now level self.old (3 + len tree.now at) }
+        ensures { Names tree.now names.now level (ReadsNode tree.now at) walk_node (3 + len tree.now at) self.old self.new }
+    {
+        match tree[at] as usize {
+            tag::IDENTIFIER => self.log_identifier(tree, names, level, at),
+            tag::LET => self.name_let(tree, names, level, at),
+            tag::FUNCTION => self.name_function(tree, names, level, at),
+            tag::INFIX => self.name_infix(tree, names, level, at),
+            t if has_children(t) => {
+                let end = after_at(tree, at);
+                self.name_row(tree, names, level, at + 3, end)
+            }
+            _ => {}
         }
-        _ => n,
     }
-}
 
-// Logs the records of the fields from an offset up to an end.
-#[cycle(pass)]
-fn name_row(
-    tree: &[u8],
-    names: &[u8],
-    table: &mut [u32],
-    log: &mut [u8],
-    level: usize,
-    from: usize,
-    end: usize,
-    n: usize,
-) -> usize
-    requires some { Some (ReadsNodes tree.now from end) }
-    requires standing { Standing tree.now names.now level table.old log.old n (end - from) }
-    ensures { Passes tree.now names.now level (ReadsNodes tree.now from end) walk_nodes (end - from) table.old table.new log.old log.new n result }
-{
-    let mut m = n;
-    for at in Fields::new(tree, from, end) {
-        m = name_field(tree, names, table, log, level, at, m);
+    // Logs the records of the fields from an offset up to an end.
+    #[cycle(pass)]
+    fn name_row(&mut self, tree: &[u8], names: &[u8], level: usize, from: usize, end: usize)
+        requires some { Some (ReadsNodes tree.now from end) }
+        requires standing { Stands tree.now names.now level self.old (end - from) }
+        ensures { Names tree.now names.now level (ReadsNodes tree.now from end) walk_nodes (end - from) self.old self.new }
+    {
+        for at in Fields::new(tree, from, end) {
+            self.name_field(tree, names, level, at);
+        }
     }
-    m
-}
 
-// A let: its name is defined before its value.
-#[cycle(pass)]
-fn name_let(
-    tree: &[u8],
-    names: &[u8],
-    table: &mut [u32],
-    log: &mut [u8],
-    level: usize,
-    at: usize,
-    n: usize,
-) -> usize
-    requires whole { Whole tree.now at }
-    requires some { Some (LetAt tree.now (ReadsExpr tree.now) at) }
-    requires standing { Standing tree.now names.now level table.old log.old n (3 + len tree.now at) }
-    ensures { Passes tree.now names.now level (LetAt tree.now (ReadsExpr tree.now) at) (walk_stmt naming) (3 + len tree.now at) table.old table.new log.old log.new n result }
-{
-    let end = after_at(tree, at);
-    let _ = define(tree, table, level, at + 3);
-    name_row(tree, names, table, log, level, at + 3, end, n)
-}
+    // A let: its name is defined before its value.
+    #[cycle(pass)]
+    fn name_let(&mut self, tree: &[u8], names: &[u8], level: usize, at: usize)
+        requires whole { Whole tree.now at }
+        requires some { Some (LetAt tree.now (ReadsExpr tree.now) at) }
+        requires standing { Stands tree.now names.now level self.old (3 + len tree.now at) }
+        ensures { Names tree.now names.now level (LetAt tree.now (ReadsExpr tree.now) at) (walk_stmt naming) (3 + len tree.now at) self.old self.new }
+    {
+        let end = after_at(tree, at);
+        let _ = define(tree, self.table, level, at + 3);
+        self.name_row(tree, names, level, at + 3, end)
+    }
 
-// An infix: for `<` its right operand comes first.
-#[cycle(pass)]
-fn name_infix(
-    tree: &[u8],
-    names: &[u8],
-    table: &mut [u32],
-    log: &mut [u8],
-    level: usize,
-    at: usize,
-    n: usize,
-) -> usize
-    requires whole { Whole tree.now at }
-    requires some { Some (InfixAt tree.now (ReadsExpr tree.now) at) }
-    requires standing { Standing tree.now names.now level table.old log.old n (3 + len tree.now at) }
-    ensures { Passes tree.now names.now level (InfixAt tree.now (ReadsExpr tree.now) at) (walk_expr naming) (3 + len tree.now at) table.old table.new log.old log.new n result }
-{
-    let op = after_at(tree, at + 3);
-    if tree[op + 3] == LESS_THAN {
-        let m = name_field(tree, names, table, log, level, op + 4, n);
-        return name_field(tree, names, table, log, level, at + 3, m);
+    // An infix: for `<` its right operand comes first.
+    #[cycle(pass)]
+    fn name_infix(&mut self, tree: &[u8], names: &[u8], level: usize, at: usize)
+        requires whole { Whole tree.now at }
+        requires some { Some (InfixAt tree.now (ReadsExpr tree.now) at) }
+        requires standing { Stands tree.now names.now level self.old (3 + len tree.now at) }
+        ensures { Names tree.now names.now level (InfixAt tree.now (ReadsExpr tree.now) at) (walk_expr naming) (3 + len tree.now at) self.old self.new }
+    {
+        let op = after_at(tree, at + 3);
+        if tree[op + 3] == LESS_THAN {
+            self.name_field(tree, names, level, op + 4);
+            return self.name_field(tree, names, level, at + 3);
+        }
+        let end = after_at(tree, at);
+        self.name_row(tree, names, level, at + 3, end)
     }
-    let end = after_at(tree, at);
-    name_row(tree, names, table, log, level, at + 3, end, n)
-}
 
-// A function: its body, with a table of its own.
-#[cycle(pass)]
-fn name_function(
-    tree: &[u8],
-    names: &[u8],
-    table: &mut [u32],
-    log: &mut [u8],
-    level: usize,
-    at: usize,
-    n: usize,
-) -> usize
-    requires some { Some (FunctionAt tree.now (ReadsBlock tree.now) at) }
-    requires standing { Standing tree.now names.now level table.old log.old n (3 + len tree.now at) }
-    ensures { Passes tree.now names.now level (FunctionAt tree.now (ReadsBlock tree.now) at) (walk_expr naming) (3 + len tree.now at) table.old table.new log.old log.new n result }
-{
-    let params = after_at(tree, at + 3);
-    let body = after_at(tree, params);
-    let k = count_fields(tree, params + 3, body);
-    if NESTING_LIMIT <= level {
-        return n;
+    // A function: its body, with a table of its own.
+    #[cycle(pass)]
+    fn name_function(&mut self, tree: &[u8], names: &[u8], level: usize, at: usize)
+        requires some { Some (FunctionAt tree.now (ReadsBlock tree.now) at) }
+        requires standing { Stands tree.now names.now level self.old (3 + len tree.now at) }
+        ensures { Names tree.now names.now level (FunctionAt tree.now (ReadsBlock tree.now) at) (walk_expr naming) (3 + len tree.now at) self.old self.new }
+    {
+        let params = after_at(tree, at + 3);
+        let body = after_at(tree, params);
+        let k = count_fields(tree, params + 3, body);
+        if NESTING_LIMIT <= level {
+            return;
+        }
+        if ARGUMENTS_LIMIT < k {
+            return;
+        }
+        enter(tree, self.table, level, at + 3, params + 3, k);
+        self.name_field(tree, names, level + 1, body)
     }
-    if ARGUMENTS_LIMIT < k {
-        return n;
+
+    // Logs the records of a whole tree; the slices are those that were lent.
+    fn name_statements(&mut self, tree: &[u8], names: &[u8])
+        requires some { Some (ReadsNodes tree.now 3 (length tree.now)) }
+        requires standing { Stands tree.now names.now 0 self.old (length tree.now - 3) }
+        ensures named { Names tree.now names.now 0 (ReadsNodes tree.now 3 (length tree.now)) walk_nodes (length tree.now - 3) self.old self.new }
+        ensures same_table { self.new.table.ghost_name ≡ self.old.table.ghost_name }
+        ensures same_log { self.new.log.ghost_name ≡ self.old.log.ghost_name }
+    {
+        self.name_row(tree, names, 0, 3, tree.len())
     }
-    enter(tree, table, level, at + 3, params + 3, k);
-    name_field(tree, names, table, log, level + 1, body, n)
 }
 
 // Logs the records of a whole tree that was checked, with the session's names from an offset up to an end. How many there are.
@@ -206,5 +172,11 @@ pub fn name_tree(
     ensures { PassesTree tree.now session.now from end log.new result }
 {
     start_from(session, table, from, end);
-    name_row(tree, &session[..end], table, log, 0, 3, tree.len(), 0)
+    let mut namer = Namer {
+        table,
+        log,
+        count: 0,
+    };
+    namer.name_statements(tree, &session[..end]);
+    namer.count
 }

@@ -5,7 +5,7 @@ ghost use Rattle.tree.specs.Grammar.{is_leaf};
 ghost use Rattle.tree.specs.Kinds.{good_tag, good_byte, good_content, kinds_of};
 
 use definition::limit::NAME_LIMIT;
-use definition::tag;
+use definition::{operator, tag};
 
 // What a child must be: its lowest and its highest tag, the fewest bytes of a name, and whether the content may end before it.
 #[derive(Clone, Copy)]
@@ -156,7 +156,7 @@ pub fn good_content(tree: &[u8], wanted: Wanted, t: usize, from: usize, len: usi
         tag::INTEGER => len == 8,
         tag::BOOLEAN => good_byte(tree, from, len, 1),
         tag::NAME => within(wanted.least, len, NAME_LIMIT),
-        tag::OPERATOR => good_byte(tree, from, len, 9),
+        tag::OPERATOR => good_byte(tree, from, len, operator::GREATER_THAN as usize),
         _ => true,
     }
 }

@@ -26,7 +26,7 @@ use Rattle.trial.specs.Output.{named_globals}
 use Rattle.trial.specs.Cells.{work_size}
 use Rattle.trial.specs.Call.{taken, first_refused, refused_with, Outcome, trial_outcome, taken_outcome, judged_outcome, image_outcome, run_outcome}
 use Rattle.trial.proofs.Passes.{trial-steps}
-use Rattle.trial.proofs.Running.{few}
+use Rattle.definition.proofs.Instructions.{code-count}
 use Rattle.trial.proofs.Scanning.{refused_more, refused_none}
 use Rattle.trial.proofs.Calling.{names_few}
 use Rattle.definition.specs.declared.reason.Reason.{Reason}
@@ -88,8 +88,8 @@ module _ (hs : List ℕ) (m : Image) {ns : List ℕ} (e : judged hs m m.pool ≡
   trial_small l = go (pass m.pool 0 m.code (Run.on (frame 0 [] unset_globals 0))) refl (pass_stops m.pool m.code (frame 0 [] unset_globals 0))
     where
       go : (r : Run) → pass m.pool 0 m.code (Run.on (frame 0 [] unset_globals 0)) ≡ r → Stops (size_of m.code) r → Small (trial_outcome (named_globals m.code) (trial_of r))
-      go (Run.on f) q s = let n = trial-steps m (ap trial_of q) in let k = few m.code in Small.ran {g = f.globals} {k = f.steps} l (omega arith)
-      go (Run.returned g i) q s = let n = trial-steps m (ap trial_of q) in let k = few m.code in Small.ran {g = g} {k = i} l (omega arith)
+      go (Run.on f) q s = let n = trial-steps m (ap trial_of q) in let k = code-count m.code in Small.ran {g = f.globals} {k = f.steps} l (omega arith)
+      go (Run.returned g i) q s = let n = trial-steps m (ap trial_of q) in let k = code-count m.code in Small.ran {g = g} {k = i} l (omega arith)
       go (Run.stopped k p) q (Stops.stopped a b c) = Small.refused {r = refusal k (3 + p)} a b (omega arith)
 
   taken_small : (room : ℕ) → Small (taken_outcome (refused_with hs m) m room)

@@ -1,11 +1,9 @@
 -- What holds of the instructions byte by byte.
-use Rattle.std.proofs.Common.{◌≡◌, ℕ, zero, suc, ◌+◌, ◌<◌, Bool, true, false, ltb, ltb-true, ltb-false, max, List, get_or, sym, refl, ap, ◌∙◌, arith, le-ltb}
-use Rattle.definition.specs.Basic.{pick}
+use Rattle.std.proofs.Common.{◌≡◌, ℕ, zero, suc, ◌<◌, true, false, List, get_or, arith}
 use Rattle.definition.specs.Bytecode.{Const}
-use Rattle.heights.proofs.Laws.{contrary}
+use Rattle.definition.proofs.Basic.{contrary}
 use Rattle.trial.specs.Value.{boolean, null, Infix, Prefix}
 use Rattle.trial.specs.Run.{Action, push, combine, change, constant, pop, jump_not_truthy, jump, get_global, set_global, return_value, other, actions, runnable_as}
-use Rattle.trial.specs.Output.{names_as}
 use Rattle.trial.specs.Machine.{InfixAt, PrefixAt, Produces, Runs}
 
 -- each byte with its action
@@ -87,76 +85,3 @@ runs pool k =
     (λ e. contrary e)
     (λ e. Runs.return_value)
     (λ n h e. contrary e)
-
--- the bytes below Array and ReturnValue, where the operand does not matter
-pub runs_rest : (pool : List Const) (k : ℕ) (n : ℕ) → (n ≡ 0x00 → ⊥) → (n ≡ 0x10 → ⊥) → (n ≡ 0x11 → ⊥) → (n ≡ 0x16 → ⊥) → ltb n 0x12 ≡ runnable_as pool k (get_or actions n other)
-runs_rest pool k =
-    by_byte (λ n a. (n ≡ 0x00 → ⊥) → (n ≡ 0x10 → ⊥) → (n ≡ 0x11 → ⊥) → (n ≡ 0x16 → ⊥) → ltb n 0x12 ≡ runnable_as pool k a)
-    (λ x y z w. absurd (x refl))
-    (λ x y z w. refl)
-    (λ x y z w. refl)
-    (λ x y z w. refl)
-    (λ x y z w. refl)
-    (λ x y z w. refl)
-    (λ x y z w. refl)
-    (λ x y z w. refl)
-    (λ x y z w. refl)
-    (λ x y z w. refl)
-    (λ x y z w. refl)
-    (λ x y z w. refl)
-    (λ x y z w. refl)
-    (λ x y z w. refl)
-    (λ x y z w. refl)
-    (λ x y z w. refl)
-    (λ x y z w. absurd (y refl))
-    (λ x y z w. absurd (z refl))
-    (λ x y z w. refl)
-    (λ x y z w. refl)
-    (λ x y z w. refl)
-    (λ x y z w. refl)
-    (λ x y z w. absurd (w refl))
-    (λ n h x y z w. le-ltb n 0x12 (omega arith))
-
--- how many globals are named
-module _ (n k op : ℕ) where
-  pub names-rest : (op ≡ 0x10 → ⊥) → (op ≡ 0x11 → ⊥) → n ≡ names_as n k (get_or actions op other)
-  names-rest =
-      by_byte (λ op a. (op ≡ 0x10 → ⊥) → (op ≡ 0x11 → ⊥) → n ≡ names_as n k a)
-      (λ x y. refl)
-      (λ x y. refl)
-      (λ x y. refl)
-      (λ x y. refl)
-      (λ x y. refl)
-      (λ x y. refl)
-      (λ x y. refl)
-      (λ x y. refl)
-      (λ x y. refl)
-      (λ x y. refl)
-      (λ x y. refl)
-      (λ x y. refl)
-      (λ x y. refl)
-      (λ x y. refl)
-      (λ x y. refl)
-      (λ x y. refl)
-      (λ x y. absurd (x refl))
-      (λ x y. absurd (y refl))
-      (λ x y. refl)
-      (λ x y. refl)
-      (λ x y. refl)
-      (λ x y. refl)
-      (λ x y. refl)
-      (λ m h x y. refl) op
-
-  -- the greater of what was named and one more
-  more : max n (k + 1) ≡ pick (ltb k n) n (suc k)
-  more = go (ltb k n) refl
-    where
-      go : (t : Bool) → ltb k n ≡ t → max n (k + 1) ≡ pick t n (suc k)
-      go true e = omega (arith, ltb-true)
-      go false e = omega (arith, ltb-false)
-
-  pub names_get : op ≡ 0x10 → max n (k + 1) ≡ names_as n k (get_or actions op other)
-  names_get e = more ∙ sym (ap (λ o. names_as n k (get_or actions o other)) e)
-
-  pub names_set : op ≡ 0x11 → max n (k + 1) ≡ names_as n k (get_or actions op other)
-  names_set e = more ∙ sym (ap (λ o. names_as n k (get_or actions o other)) e)

@@ -15,7 +15,8 @@ use Rattle.definition.proofs.Basic.{pick_true, pick_false}
 use Rattle.bytecode.specs.Checked.{image_answer}
 use Rattle.listing.specs.Reads.{CodeAt, ImageAt}
 use Rattle.listing.proofs.Lines.{code-size}
-use Rattle.heights.specs.Judgement.{Kind, Reaches, ChunkOf, Passes}
+use Rattle.heights.specs.Judgement.{Reaches, ChunkOf, Passes}
+use Rattle.heights.specs.declared.chunk.Kind.TheVariants.{Main}
 use Rattle.heights.specs.Pass.{Passing, Passed, onwards, pass, Verdict, judged, Top, lastly}
 use Rattle.heights.specs.Marks.{marks_from, ChunkReady, PassEnds}
 use Rattle.heights.specs.Chunks.{pool_answer}
@@ -55,16 +56,16 @@ marked b hs {end} m c {l = l} p s e q =
     q ∙ ap (λ o. scan_answer o (named_globals m.code)) (ap (λ f. first_refused m.pool f m.code) f ∙ sym (ap (λ r. onwards r none (λ s. first_refused m.pool s.marks m.code)) e))
 
 -- main is a chunk of its image
-main_chunk : (m : Image) (cs : List Const) → ChunkOf m cs 0 Kind.main 0 m.code
+main_chunk : (m : Image) (cs : List Const) → ChunkOf m cs 0 Main 0 m.code
 main_chunk m [] = ChunkOf.main
 main_chunk m (x ∷ cs) = ChunkOf.before (main_chunk m cs)
 
 module _ (hs : List ℕ) (m : Image) {ns : List ℕ} (e : judged hs m m.pool ≡ Verdict.tops ns) where
   -- where all chunks pass, main does
-  pub main_passes : Passes hs Kind.main 0 m.code
+  pub main_passes : Passes hs Main 0 m.code
   main_passes = go (judged_right hs m m.pool) e
     where
-      go : {v : Verdict} → Right hs m m.pool v → v ≡ Verdict.tops ns → Passes hs Kind.main 0 m.code
+      go : {v : Verdict} → Right hs m m.pool v → v ≡ Verdict.tops ns → Passes hs Main 0 m.code
       go (Right.tops a u) q = a.each (main_chunk m m.pool)
       go (Right.fails {at} f) q = let z : ◌≡◌ {A = ℕ} 0 1 = cc in absurd (omega arith)
 
@@ -75,11 +76,11 @@ module _ (hs : List ℕ) (m : Image) {ns : List ℕ} (e : judged hs m m.pool ≡
     pub arrives_there : {p x : ℕ} → Reaches m.code p x → state.marks p ≡ 2 + x
 
   pub arrived : Arrived
-  arrived = go (pass hs 0 (size_of m.code) m.code) refl (pass_holds hs 0 (size_of m.code) m.code) (passing hs Kind.main 0 m.code main_passes).1
+  arrived = go (pass hs 0 (size_of m.code) m.code) refl (pass_holds hs 0 (size_of m.code) m.code) (passing hs Main 0 m.code main_passes).1
     where
       go : (r : Passed) → pass hs 0 (size_of m.code) m.code ≡ r → IsHeld hs 0 (size_of m.code) m.code r
-          → onwards r Top.fails (λ s. pick (leb (s.marks (size_of m.code)) (lastly Kind.main)) (Top.top s.top) Top.fails) ≡ Top.top (passing hs Kind.main 0 m.code main_passes).0 → Arrived
-      go (Passed.passed s) q (IsHeld.held h) t = record { state = s; passed = q; arrives_there = λ r. arrives hs Kind.main 0 m.code s h r }
+          → onwards r Top.fails (λ s. pick (leb (s.marks (size_of m.code)) (lastly Main)) (Top.top s.top) Top.fails) ≡ Top.top (passing hs Main 0 m.code main_passes).0 → Arrived
+      go (Passed.passed s) q (IsHeld.held h) t = record { state = s; passed = q; arrives_there = λ r. arrives hs Main 0 m.code s h r }
       go Passed.failed q h t = let z : ◌≡◌ {A = ℕ} 0 1 = cc in absurd (omega arith)
 
   -- number 27 refuses none

@@ -2,7 +2,7 @@
 use Rattle.std.proofs.Common.{◌≡◌, ℕ, ◌*◌, ◌≤◌, Bool, true, false, T, ltb, leb, List, [], ◌∷◌, length, take, sym, refl, ap, ◌∙◌, subst, arith}
 use Rattle.std.specs.Prelude.{Option, None as none, Some as some, Ok, Err}
 use Rattle.definition.specs.Basic.{Bytes, pick}
-use Rattle.definition.specs.Number.{refusal, short_buffer, output_short, number_of}
+use Rattle.definition.specs.Number.{refusal, short_buffer, output_short}
 use Rattle.definition.specs.Opcode.{Instr}
 use Rattle.definition.specs.Bytecode.{Code, size_of, Const, Image, image_bytes}
 use Rattle.definition.specs.Session.{Words, begun}

@@ -12,16 +12,13 @@ use Rattle.definition.specs.Valid.{All}
 use Rattle.trial.specs.Run.{runnable}
 use Rattle.trial.specs.Evaluate.{names_stmt, names_stmts, names_else, names_expr}
 use Rattle.definition.proofs.Basic.{pick_true, pick_false}
+use Rattle.definition.proofs.ValidSymbols.{all_rest}
 use Rattle.definition.proofs.Chunks.{PoolGrows, pool_same, pool_then, pool_more}
 use Rattle.definition.proofs.Account.{Known, if_code, Yields, StmtCode, StmtsCode, ElseCode, ExprCode}
 
 -- each instruction is one that a trial run takes
 abbrev pub Runnable : List Const → Code → Type 0
 Runnable pool = All (λ i. T (runnable pool i))
-
--- of the code before the last instruction
-all_rest : {A : Type 0} {P : A → Type 0} {x : A} {xs : List A} → All P (x ∷ xs) → All P xs
-all_rest (All.more h a) = a
 
 -- of the first piece
 pub all_first : {A : Type 0} {P : A → Type 0} (d : List A) {c : List A} → All P (d ++ c) → All P c

@@ -6,6 +6,7 @@ use Rattle.definition.specs.Opcode.{Instr, instr, size}
 use Rattle.definition.specs.Bytecode.{Code, size_of, Const, Image}
 use Rattle.definition.specs.Trusted.{Stands}
 use Rattle.definition.specs.Effect.{takes, gives}
+use Rattle.definition.proofs.Instructions.{code-count}
 use Rattle.listing.specs.Reads.{CodeAt, PoolAt}
 use Rattle.heights.specs.Judgement.{Reaches}
 use Rattle.heights.proofs.Positions.{Behind, behind_it}
@@ -14,7 +15,7 @@ use Rattle.trial.specs.Run.{Action, actions, runnable_as, Frame, frame, Run, exe
 use Rattle.trial.specs.Cells.{Stacked, Keeping, stack_limit}
 use Rattle.trial.specs.Machine.{Runs, StepReady, Step, Framed, After, EndsAs, Safe}
 use Rattle.trial.specs.declared.machine.State.{State}
-use Rattle.std.specs.Prelude.{Result, Ok, Err, IsErrAnd}
+use Rattle.std.specs.Prelude.{Result, Ok, Err}
 use Rattle.std.specs.declared.ops.ControlFlow.TheVariants.{Continue, Break}
 use Rattle.definition.specs.Number.{refusal}
 use Rattle.definition.specs.declared.reason.Refusal.{Refusal}
@@ -73,11 +74,6 @@ pass_more pool i c s = refl
 pass_none : (pool : List Const) (s : Run) → pass pool 0 [] s ≡ s
 unfolding pass
 pass_none pool s = refl
-
--- an instruction has a byte
-pub few : (c : Code) → length c ≤ size_of c
-few [] = omega arith
-few (i ∷ c) = let l = few c in omega arith
 
 keeps_on : {c : Code} {r : Run} {f : Frame} → KeepsHeight c r → r ≡ Run.on f → Reaches c f.at (length f.stack)
 keeps_on {c} {f = f} (KeepsHeight.on {f = g} h) e = let q : g ≡ f = cc in subst (λ (f : Frame). Reaches c f.at (length f.stack)) q h
@@ -148,7 +144,7 @@ module _ (b : Bytes) (end pool : ℕ) (m : Image) (h : CodeAt b 3 end m.code) (c
     pub few_steps : end ≤ 65536 → s.steps ≤ 131072
     few_steps g =
         let n = within_on (pass_within {k = 0} m.pool 0 l.code (Within.on {f = frame 0 [] unset_globals 0} (omega arith))) l.run in
-        omega (arith, n, few l.code, l.behind.size_is, l.behind.order, l.framed.steps)
+        omega (arith, n, code-count l.code, l.behind.size_is, l.behind.order, l.framed.steps)
 
     module _ {i : Instr} {after : ℕ} (next : CodeLoop.Behind b end h (i ∷ l.code) after) where
       -- an instruction that a jump left out
@@ -176,9 +172,6 @@ module _ (b : Bytes) (end pool : ℕ) (m : Image) (h : CodeAt b 3 end m.code) (c
 
         pub run_next : (n : ℕ) → n ≡ at + size i → n ≡ 3 + (l.frame.at + size i)
         run_next n e = omega (arith, e, position, l.behind.size_is)
-
-        height_is : s.height ≡ length l.frame.stack
-        height_is = stacked_length l.framed.stack
 
         module _ {w₁ : List ℕ} {r : Step} (a : After w₁ l.frame.at r (execute m.pool i l.frame)) where
           pub run_again : {t : State} → r ≡ Ok (Continue t) → RunLoop w₁ after t

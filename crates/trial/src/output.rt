@@ -20,6 +20,7 @@ pub fn put_globals(output: &mut [u8], work: &[u64], n: usize)
     requires { (9 * n ≤ length output.old) × (n ≤ 1024) × KeepsGlobals work.now }
     ensures { (g : Globals) → Keeping work.now g → output.new ≡ over (shown n g) output.old }
 {
+    // Kept: an index, which goes over two parts of the work area and nine bytes a value of the output: `zip` and `enumerate` count too.
     for k in 0..n {
         put_cell(output, 9 * k, work[1024 + k], work[k]);
     }

@@ -14,6 +14,7 @@ ghost use Rattle.walk.specs.Compiles.{Stands, Compiles};
 ghost use Rattle.walk.specs.Parts.{walk_list, walk_branch, walk_other, walk_branches, ReadsTree};
 
 use definition::limit::ARGUMENTS_LIMIT;
+use definition::operator::LESS_THAN;
 use definition::{Reason, tag};
 use field::after_at;
 use field::fields::Fields;
@@ -24,9 +25,6 @@ use scope::{
 };
 use step::{define, enter, leave, literal, load};
 use tree::count_fields;
-
-// The operator whose right side is compiled first.
-const LESS_THAN: u8 = 8;
 
 // The memory that a walk is lent: the session, the code area, the table area.
 #[derive(Drop)]

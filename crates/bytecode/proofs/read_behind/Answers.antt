@@ -1,14 +1,10 @@
 -- `bytecode::read_behind` meets its contract: the names, the pool, and zeros.
 use native.Mathlib.Omega.{arith}
-use Rattle.bytecode.proofs.Sessions.{was_ok, was_err, words_within, names_wrong, names_within, pool_broken, pool_within, tail_broken, layout_sound}
+use Rattle.bytecode.proofs.Sessions.{was_ok, was_err, words_within, names_within, pool_broken, pool_within, tail_broken, layout_sound}
 use Rattle.bytecode.proofs.read_behind.Goals as goal
 
 pub check_names-requires : goal.check_names-requires
 check_names-requires c = record { order = words_within c.args.session.now c.requires; within = omega arith }
-
-pub returns-in_err-names : goal.returns-in_err-names
-returns-in_err-names c =
-    rw c.from_residual.ensures (names_wrong c.args.session.now c.requires c.check_names.ensures (was_err _ c.in_err-names.ensures.value).1)
 
 pub check_pool-requires : goal.check_pool-requires
 check_pool-requires c =

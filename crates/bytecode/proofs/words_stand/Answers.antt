@@ -1,5 +1,5 @@
 -- `bytecode::words_stand` meets its contract: the fields, and whether a name is repeated.
-use Rattle.bytecode.proofs.Words.{handed_wrong, handed-row, handed_tested}
+use Rattle.bytecode.proofs.Words.{handed-row, handed_tested}
 use Rattle.bytecode.proofs.words_stand.Goals as goal
 
 pub distinct_names-requires : goal.distinct_names-requires
@@ -7,6 +7,3 @@ distinct_names-requires c = handed-row c.args.names.now c.check_name_fields.ensu
 
 pub returns-in-Ok : goal.returns-in-Ok
 returns-in-Ok c = handed_tested c.args.names.now c.check_name_fields.ensures c.in-Ok.is c.distinct_names.ensures
-
-pub returns-in-Err : goal.returns-in-Err
-returns-in-Err c = handed_wrong c.args.names.now c.check_name_fields.ensures c.in-Err.is

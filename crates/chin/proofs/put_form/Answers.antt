@@ -12,17 +12,11 @@ use Rattle.chin.proofs.put_form.Goals as goal
 pub length_at-end-requires : goal.length_at-end-requires
 length_at-end-requires c = omega (arith, image_long c.args.from c.args.image.now c.requires.is)
 
-pub overflow_add-end : goal.overflow_add-end
-overflow_add-end c = omega (arith, c.length_at-end.ensures.small)
-
 pub turn_code-requires : goal.turn_code-requires
 turn_code-requires c =
     let start = c in
     let a = start.args in
     record { code = start.requires.image.code; is = main_at a.from a.image.now start.requires.is c.length_at-end.ensures.is }
-
-pub overflow_add-end-2 : goal.overflow_add-end-2
-overflow_add-end-2 c = omega (arith, c.length_at-end.ensures.small)
 
 pub turn_constants-requires : goal.turn_constants-requires
 turn_constants-requires c =

@@ -28,9 +28,6 @@ returns-in-Err c =
       writes = sym (ap (λ g. output_of g a.output.now) wrong);
     }
 
-pub shape_of-output-in-Err-put_form : goal.shape_of-output-in-Err-put_form
-shape_of-output-in-Err-put_form c = (ap length (empty-part c.put_form.new.output c.args.output.now c.put_form.auto.output))
-
 pub returns-in-Err-put_form : goal.returns-in-Err-put_form
 returns-in-Err-put_form c =
     let a = c.args in
@@ -44,9 +41,6 @@ returns-in-Err-put_form c =
       answers = sym (ap (λ g. answer_of g (length a.output.now)) bad);
       writes = empty-part put.new.output a.output.now put.auto.output ∙ sym (ap (λ g. output_of g a.output.now) bad);
     }
-
-pub shape_of-output-in-Ok-put_form : goal.shape_of-output-in-Ok-put_form
-shape_of-output-in-Ok-put_form c = c.write_form.auto.output ∙ (ap length (empty-part c.put_form.new.output c.args.output.now c.put_form.auto.output))
 
 pub returns-in-Ok-put_form : goal.returns-in-Ok-put_form
 returns-in-Ok-put_form c =

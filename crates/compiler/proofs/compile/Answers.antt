@@ -3,13 +3,8 @@ use native.Mathlib.Omega.{arith}
 use mathlib.Core.Path.{sym, ◌∙◌}
 use Rattle.definition.specs.Limit.{session_size}
 use Rattle.compiler.specs.Stage.{lent_of}
-use Rattle.compiler.proofs.Lent.{long, front_bytes, promise_kept, promise_short}
+use Rattle.compiler.proofs.Lent.{front_bytes, promise_kept, promise_short}
 use Rattle.compiler.proofs.compile.Goals as goal
-
-pub compile_lent-requires : goal.compile_lent-requires
-compile_lent-requires c =
-    let e = c in
-    long e.args.session.now e.args.code.now e.args.table.now (sym c.long_enough.ensures ∙ c.if-long_enough.true)
 
 pub returns-then-long_enough : goal.returns-then-long_enough
 returns-then-long_enough c =

@@ -5,12 +5,6 @@ use Rattle.bytecode.specs.Checked.{layout_answer}
 use Rattle.compiler.proofs.Opened.{opened, broken, refused_tree}
 use Rattle.compiler.proofs.compile_in.Goals as goal
 
-pub translate-requires : goal.translate-requires
-translate-requires c =
-    let k = c in
-    let r = k in
-    record { lengths = c.requires; layout = sym r.read_layout.ensures.layout ∙ k.in-Some.is; good = sym k.check.ensures ∙ c.in-Ok.is }
-
 pub returns-in-None : goal.returns-in-None
 returns-in-None c =
     let r = c in

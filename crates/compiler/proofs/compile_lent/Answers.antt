@@ -1,21 +1,10 @@
 -- `compile_lent` is the whole call where the buffers are large enough: what was done on their first parts, and the work areas zeroed.
 -- Assumes nothing.
-use native.Mathlib.Omega.{arith}
 use mathlib.Core.Path.{sym, ◌∙◌}
-use lib.Seq.{length_front}
 use Rattle.definition.specs.Limit.{session_size, code_size, table_size}
 use Rattle.compiler.specs.Stage.{lent_of}
 use Rattle.compiler.proofs.Lent.{front_length, lent-whole}
 use Rattle.compiler.proofs.compile_lent.Goals as goal
-
-pub slice_bounds-compile_in-end-2 : goal.slice_bounds-compile_in-end-2
-slice_bounds-compile_in-end-2 c = front_length session_size c.args.session.now c.requires.session
-
-pub slice_bounds-compile_in-end-4 : goal.slice_bounds-compile_in-end-4
-slice_bounds-compile_in-end-4 c = front_length code_size c.args.code.now c.requires.code
-
-pub slice_bounds-compile_in-end-6 : goal.slice_bounds-compile_in-end-6
-slice_bounds-compile_in-end-6 c = front_length table_size c.args.table.now c.requires.table
 
 pub compile_in-answer-requires : goal.compile_in-answer-requires
 compile_in-answer-requires c =
@@ -24,22 +13,6 @@ compile_in-answer-requires c =
       code = sym (front_length code_size c.args.code.now c.requires.code);
       table = sym (front_length table_size c.args.table.now c.requires.table);
     }
-
-pub clear_code-requires : goal.clear_code-requires
-clear_code-requires c =
-    let k = c in
-    omega (arith, (length_front c.args.code.now c.compile_in-answer.new.code code_size c.compile_in-answer.auto.code), c.requires.code)
-
-pub clear_table-requires : goal.clear_table-requires
-clear_table-requires c =
-    let k = c in
-    omega (arith, (length_front c.args.table.now c.compile_in-answer.new.table table_size c.compile_in-answer.auto.table), c.requires.table)
-
-pub shape_of-code : goal.shape_of-code
-shape_of-code c = c.clear_code.auto.code ∙ (length_front c.args.code.now c.compile_in-answer.new.code code_size c.compile_in-answer.auto.code)
-
-pub shape_of-table : goal.shape_of-table
-shape_of-table c = c.clear_table.auto.table ∙ (length_front c.args.table.now c.compile_in-answer.new.table table_size c.compile_in-answer.auto.table)
 
 pub returns : goal.returns
 returns c =

@@ -4,7 +4,7 @@ use mathlib.Core.Path.{◌∙◌, ap, subst}
 use lib.ListN.{length}
 use Rattle.definition.specs.Valid.{AreBytes}
 use Rattle.heights.specs.Chunks.{PoolJudges}
-use Rattle.heights.proofs.Answers.{empty-part, sound, wrong, fails, long, written}
+use Rattle.heights.proofs.Answers.{empty-part, sound, fails, long, written}
 use Rattle.heights.proofs.check_heights.Goals as goal
 
 pub judge-requires : goal.judge-requires

@@ -1,12 +1,12 @@
 -- `heights::propose_heights` meets its contract: the check, how many there are, then the list.
 use native.Mathlib.Omega.{arith}
-use mathlib.Core.Path.{◌∙◌, ap, sym, refl}
+use mathlib.Core.Path.{◌∙◌, ap, sym}
 use lib.ListN.{length, drop}
 use Rattle.definition.specs.Valid.{AreBytes}
 use Rattle.definition.specs.Decode.{read_image}
 use Rattle.heights.specs.Proposal.{proposal_size}
 use Rattle.heights.proofs.Answers.{empty-part, sound}
-use Rattle.heights.proofs.Flows.{proposal_wrong, proposal_long, proposal_fits}
+use Rattle.heights.proofs.Flows.{proposal_long, proposal_fits}
 use Rattle.heights.proofs.propose_heights.Goals as goal
 
 pub propose-count-requires : goal.propose-count-requires

@@ -1,16 +1,6 @@
 -- `listing::list_image` meets its contract: first the reading that checks and counts, then the text.
-use Rattle.listing.proofs.Images.{sound_image, wrong_image, listing_long, listing-written}
+use Rattle.listing.proofs.Images.{sound_image, listing-written}
 use Rattle.listing.proofs.list_image.Goals as goal
-
-pub returns-then-output-sound : goal.returns-then-output-sound
-returns-then-output-sound c =
-    let if1 = c.if-output-sound in
-    let constants = c.in-Ok in
-    let measure-image = c.measure_image in
-    let start = c in
-    let h = sound_image start.args.image.now measure-image.ensures constants.is in
-    let facts = listing_long start.args.image.now start.args.output.now h.0.is h.2 if1.true in
-    record { answers = facts.0; writes = facts.1 }
 
 pub put_listing-requires : goal.put_listing-requires
 put_listing-requires c =
@@ -18,14 +8,6 @@ put_listing-requires c =
     let measure-image = c.measure_image in
     let start = c in
     (sound_image start.args.image.now measure-image.ensures constants.is).0
-
-pub returns-in-Err : goal.returns-in-Err
-returns-in-Err c =
-    let r = c.in-Err in
-    let measure-image = c.measure_image in
-    let start = c in
-    let facts = wrong_image start.args.image.now start.args.output.now measure-image.ensures r.is in
-    record { answers = facts.0; writes = facts.1 }
 
 pub returns-else-output-sound : goal.returns-else-output-sound
 returns-else-output-sound c =

@@ -5,4 +5,4 @@ use Rattle.series.proofs.compile_row.Given as goal
 
 abbrev pub invariant-loop-length : goal.invariant-loop-length
 invariant-loop-length l =
-    RowLoop l.trees l.lengths (record { answer = l.initial.answer; lent = lent_of l.initial.session l.initial.output l.initial.code l.initial.table }) (record { answer = l.answer; lent = lent_of l.session l.output l.code l.table }) l.at l.length-index
+    RowLoop l.trees l.lengths (record { answer = l.initial.answer; lent = lent_of l.initial.session l.initial.output l.initial.code l.initial.table }) (record { answer = l.answer; lent = lent_of l.session l.output l.code l.table }) l.rest l.length-index

@@ -1,6 +1,6 @@
 -- `step::enter` meets its contract: number 14, number 8, then a table and a chunk more.
 use borrow.Author.Rules.{rules}
-use Rattle.step.proofs.Functions.{sound_on, params_stand, enter-nested, enter-many, enter-on, enter_stop}
+use Rattle.step.proofs.Functions.{params_stand, enter-nested, enter-many, enter-on}
 use Rattle.step.proofs.Symbols.{beside-part}
 use Rattle.step.proofs.enter.Goals as goal
 
@@ -19,18 +19,9 @@ enter-requires c = record {
   n_le_arguments_limit = search rules;
 }
 
-pub inside-requires : goal.inside-requires
-inside-requires c = record {
-  fits = sound_on c.in_ok-s.was c.requires.sound;
-  level_lt_nesting_limit = search rules;
-}
-
 pub returns : goal.returns
 returns c =
     let table = c in
     let within = table in
     let m = within in
     enter-on m.requires.head_at m.in_ok-s.was within.if-s-ge-NESTING_LIMIT.false within.if-n-gt-ARGUMENTS_LIMIT.false table.after_at-row.ensures.is table.enter.ensures table.enter.auto.table c.inside.ensures
-
-pub returns-in_err-s : goal.returns-in_err-s
-returns-in_err-s c = enter_stop c.in_err-s.was c.from_residual.ensures.1

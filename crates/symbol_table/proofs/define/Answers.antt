@@ -1,24 +1,18 @@
 -- `symbol_table::define` meets its contract.
 use Prim.Native.Nat.{◌-◌}
-use mathlib.Core.Path.{sym, ◌∙◌}
 use native.Mathlib.Omega.{arith}
-use lib.Seq.{length-take-le}
-use Rattle.symbol_table.specs.Layout.{globals_size}
 use Rattle.symbol_table.proofs.Resolving.{good-globals, good_here}
 use Rattle.symbol_table.proofs.Defining.{defined_global, defined_local}
 use Rattle.symbol_table.proofs.define.Goals as goal
 
-pub slice_bounds-place_global-end-then-level-eq0 : goal.slice_bounds-place_global-end-then-level-eq0
-slice_bounds-place_global-end-then-level-eq0 c = sym (length-take-le globals_size c.args.table.now (omega arith))
-
 pub place_global-requires : goal.place_global-requires
-place_global-requires c = (c.requires.good.0, rw c.new-key.ensures.tree (good-globals _ _ _ _ c.requires.good.1))
+place_global-requires c = (c.requires.good.0, rw (c.in-Some.ensures.cases.same, c.new-key.ensures.tree) (good-globals _ _ _ _ c.requires.good.1))
 
 pub returns-then-level-eq0 : goal.returns-then-level-eq0
 returns-then-level-eq0 c =
     let s = c in
     defined_global _ _ _ _ _ (record { stands = s.requires.stands; is = c.new-key.ensures.hash }) _ _ c.if-level-eq0.true
-    (c.place_global.auto.globals ∙ length-take-le globals_size s.args.table.now (omega arith)) (rw (c.new-key.ensures.tree, c.new-key.ensures.at) at c.place_global.ensures)
+    (c.place_global.ensures.good s.requires.good.0 (rw (c.in-Some.ensures.cases.same, c.new-key.ensures.tree) (good-globals _ _ _ _ s.requires.good.1))).size (rw (c.in-Some.ensures.cases.same, c.new-key.ensures.tree, c.new-key.ensures.at) at c.place_global.ensures)
 
 pub place_at-requires : goal.place_at-requires
 place_at-requires c =
@@ -29,4 +23,4 @@ place_at-requires c =
     }
 
 pub returns : goal.returns
-returns c = defined_local _ _ _ _ _ (record { stands = c.requires.stands; is = c.new-key.ensures.hash }) _ _ _ (omega arith) (rw c.new-key.ensures.at at c.place_at.ensures)
+returns c = defined_local _ _ _ _ _ (record { stands = c.requires.stands; is = c.new-key.ensures.hash }) _ _ _ (omega arith) (rw (c.label.ensures.at, c.label.ensures.hash, c.new-key.ensures.at) at c.place_at.ensures)

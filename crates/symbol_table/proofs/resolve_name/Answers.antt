@@ -14,10 +14,3 @@ find_outermost-requires c =
 pub returns-then-level-eq0 : goal.returns-then-level-eq0
 returns-then-level-eq0 c =
     resolved_outermost _ _ _ _ _ _ c.requires.good _ c.if-level-eq0.true c.find_outermost.ensures.crossed (rw (c.new-key.ensures.tree, c.new-key.ensures.at) at c.find_outermost.ensures.resolved)
-
-pub resolve-requires : goal.resolve-requires
-resolve-requires c =
-    record {
-      standing = record { words = c.requires.has_words; size = c.requires.level_in_bounds; good = rw c.new-key.ensures.tree c.requires.good };
-      known = λ far. absurd (omega arith);
-    }

@@ -4,7 +4,7 @@ use Rattle.definition.specs.Valid.{AreBytes}
 use Rattle.heights.proofs.Answers.{sound}
 use Rattle.heights.proofs.Whole.{image_short}
 use Rattle.trial.specs.Call.{outcome_answer, outcome_into}
-use Rattle.trial.proofs.Calling.{wrong_image, chunk_failing, all_passing, taken-image}
+use Rattle.trial.proofs.Calling.{chunk_failing, all_passing, taken-image}
 use Rattle.trial.proofs.run_image.Goals as goal
 
 pub judge-requires : goal.judge-requires

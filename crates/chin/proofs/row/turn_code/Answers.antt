@@ -1,31 +1,10 @@
 -- `chin::row::turn_code` meets its contract: one instruction a turn; what is left decides.
 use Rattle.std.proofs.Common.{◌≡◌, ◌-◌, ◌∙◌, arith, sym, subst}
 use Rattle.definition.proofs.Basic.{passed_on}
-use Rattle.opcode.proofs.EachInstruction.{over_new, starts_at, over_again, read_at, sized, all_stand}
-use Rattle.chin.specs.Rows.{jump_of, InstrIn, TurnsInstr}
-use Rattle.chin.proofs.Chunks.{CodeLoop, code-begins, code_ends, code_there, code-instr, code_stops, code_again}
+use Rattle.opcode.proofs.EachInstruction.{over_again, read_at, sized, all_stand}
+use Rattle.chin.specs.Rows.{jump_of, TurnsInstr}
+use Rattle.chin.proofs.Chunks.{CodeLoop, code_ends, code_there, code_stops, code_again}
 use Rattle.chin.proofs.row.turn_code.Goals as goal
-
-pub loop-at-init : goal.loop-at-init
-loop-at-init c =
-    let a = c.args in
-    let n = c.new-at-items.ensures in
-    let e = c.into_iter-at-iterator.ensures.into_iter_gives in
-    record {
-      over = over_new e n.code n.end;
-      so_far = subst (λ at. CodeLoop (jump_of a.from) a.image.now a.start a.end a.output.now at a.output.now) (starts_at e n.at) (code-begins (jump_of a.from) a.image.now a.start a.end c.requires.is.order a.output.now);
-    }
-
-pub turn_instruction-requires : goal.turn_instruction-requires
-turn_instruction-requires c =
-    let a = c.args in
-    let l = c.loop-at in
-    let n = c.in-Some.ensures.steps in
-    let r = read_at l.invariant.over n in
-    let z = sized r c.requires.is.within in
-    let p = subst (λ at. CodeLoop (jump_of a.from) a.image.now a.start a.end a.output.now at l.output) (sym n.here) l.invariant.so_far in
-    let s : c.in-Some.next - c.in-Some.at ≡ z.long = omega (arith, z.upto) in
-    subst (InstrIn a.image.now a.start c.in-Some.at) (sym s) (code-instr (jump_of a.from) a.image.now a.start a.end c.requires.is p r.before z.is)
 
 pub returns-in_err-turn_instruction : goal.returns-in_err-turn_instruction
 returns-in_err-turn_instruction c =

@@ -1,18 +1,9 @@
 -- `chin::row::turn_constant` meets its contract: by the tag.
-use native.Mathlib.Omega.{arith}
 use mathlib.Core.Path.{◌∙◌, ap, sym}
 use lib.ListN.{set}
 use Rattle.bytecode.specs.Form.{tag_function_in}
-use Rattle.chin.proofs.Functions.{const_within, const_stays, function_at, function_turned}
+use Rattle.chin.proofs.Functions.{const_stays, function_at, function_turned}
 use Rattle.chin.proofs.row.turn_constant.Goals as goal
-
-pub bounds-image-at : goal.bounds-image-at
-bounds-image-at c = omega (
-  arith,
-  (let start = c in
-      let a = start.args in
-      const_within a.from a.image.now a.at a.end start.requires.is),
-)
 
 pub returns-then-image-at : goal.returns-then-image-at
 returns-then-image-at c =
@@ -20,47 +11,11 @@ returns-then-image-at c =
     let a = start.args in
     λ x is. const_stays a.from a.image.now a.at a.end x is (λ e. c.if-image-at.true (e ∙ sym c.tags-function.ensures.function)) a.output.now
 
-pub length_at-len-requires : goal.length_at-len-requires
-length_at-len-requires c = omega (
-  arith,
-  (let start = c in
-      let a = start.args in
-      const_within a.from a.image.now a.at a.end start.requires.is),
-)
-
-pub overflow_add-at : goal.overflow_add-at
-overflow_add-at c = omega (
-  arith,
-  (let start = c in
-      let a = start.args in
-      const_within a.from a.image.now a.at a.end start.requires.is),
-)
-
-pub overflow_add-at-2 : goal.overflow_add-at-2
-overflow_add-at-2 c = omega (
-  arith,
-  (let start = c in
-      let a = start.args in
-      const_within a.from a.image.now a.at a.end start.requires.is),
-)
-
-pub overflow_add-at-3 : goal.overflow_add-at-3
-overflow_add-at-3 c = omega (
-  arith,
-  (let start = c in
-      let a = start.args in
-      const_within a.from a.image.now a.at a.end start.requires.is),
-  c.length_at-len.ensures.is,
-)
-
 pub turn_code-requires : goal.turn_code-requires
 turn_code-requires c =
     let start = c in
     let a = start.args in
     function_at a.from a.image.now a.at a.end start.requires.constant start.requires.is (c.if-image-at.false ∙ c.tags-function.ensures.function) c.length_at-len.ensures.is
-
-pub shape_of-output : goal.shape_of-output
-shape_of-output c = c.turn_code.auto.output ∙ c.store.auto.output
 
 pub returns : goal.returns
 returns c =

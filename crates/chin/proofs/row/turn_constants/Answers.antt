@@ -2,20 +2,10 @@
 use Rattle.std.proofs.Common.{arith, sym, subst, ◌∙◌}
 use Rattle.std.specs.Prelude.{Err}
 use Rattle.definition.proofs.Basic.{passed_on}
-use Rattle.bytecode.proofs.EachConstant.{over_new, starts_at, over_again, stands_at, none_left}
+use Rattle.bytecode.proofs.EachConstant.{over_again, stands_at, none_left}
 use Rattle.chin.specs.Rows.{TurnsConst, TurnsPool}
-use Rattle.chin.proofs.Pools.{PoolLoop, pool-begins, pool_ends, same_pool, pool_const, pool_within, pool_stops, pool_again}
+use Rattle.chin.proofs.Pools.{PoolLoop, pool_ends, same_pool, pool_const, pool_within, pool_stops, pool_again}
 use Rattle.chin.proofs.row.turn_constants.Goals as goal
-
-pub loop-at-init : goal.loop-at-init
-loop-at-init c =
-    let a = c.args in
-    let n = c.new-at-items.ensures in
-    let e = c.into_iter-at-iterator.ensures.into_iter_gives in
-    record {
-      over = over_new e n.image n.end;
-      so_far = subst (λ at. PoolLoop a.from a.image.now a.start a.end a.output.now at a.output.now) (starts_at e n.at) (pool-begins a.from a.image.now a.start a.end c.requires.is.order a.output.now);
-    }
 
 pub turn_constant-requires : goal.turn_constant-requires
 turn_constant-requires c =
@@ -56,9 +46,6 @@ loop-at-preserved c =
       over = over_again l.invariant.over n;
       so_far = subst (λ at. PoolLoop a.from b a.start a.end a.output.now at turn.new.output) (sym s.sized ∙ sym n.behind) (pool_again a.from b a.start a.end c.requires.is p s.before turn.auto.output fine);
     }
-
-pub shape_of-output : goal.shape_of-output
-shape_of-output c = c.loop-at.invariant.so_far.kept
 
 pub returns : goal.returns
 returns c =

@@ -1,29 +1,10 @@
 -- `accept` writes the definition's image and session. Assumes nothing.
 use Prim.Native.Nat.{◌+◌, ◌-◌}
 use native.Mathlib.Omega.{arith}
-use mathlib.Core.Path.{sym}
 use lib.ListN.{length, take, drop, length-take}
-use lib.Seq.{length-take-le}
 use Rattle.compiler.proofs.Defined.{later-names}
-use Rattle.compiler.proofs.Accepted.{bounds, words-end, image_room, names_room, session_room, accepted}
+use Rattle.compiler.proofs.Accepted.{bounds, words-end, names_room, session_room, accepted}
 use Rattle.compiler.proofs.translate.accept.Goals as goal
-
-pub overflow_add-from : goal.overflow_add-from
-overflow_add-from c = let b = bounds c.requires.translated in omega (arith, b.start, b.end)
-
-pub slice_bounds-write_image-end : goal.slice_bounds-write_image-end
-slice_bounds-write_image-end c =
-    let e = c in
-    sym (length-take-le e.args.s.chunk.len e.args.code.now (bounds e.requires.translated).code)
-
-pub slice_bounds-write_image-count : goal.slice_bounds-write_image-count
-slice_bounds-write_image-count c = (bounds c.requires.translated).start
-
-pub slice_bounds-write_image-start : goal.slice_bounds-write_image-start
-slice_bounds-write_image-start c = (bounds c.requires.translated).start
-
-pub write_image-requires : goal.write_image-requires
-write_image-requires c = image_room c.requires.translated (omega (arith, c.requires.total_value, c.requires.total_in_bounds))
 
 pub append_names-end-requires : goal.append_names-end-requires
 append_names-end-requires c =

@@ -1,24 +1,25 @@
 -- The loop's invariant: what is left of the two names decides.
-use mathlib.Core.Path.{sym, ap, ◌∙◌}
-use Rattle.std.proofs.lemmas.Iterator.{empty_from_Zip}
-use lib.ListN.{length}
-use Rattle.field.proofs.Same.{same_lengths, same_step, same_differ, left_equal, same_none}
+use mathlib.Core.Path.{sym, ◌∙◌}
+use native.Mathlib.Omega.{arith}
+use Rattle.field.proofs.Same.{same_lengths, same_step, same_differ, same_none}
 use Rattle.field.proofs.names.same_name.Goals as goal
 
 pub returns-then-x-y : goal.returns-then-x-y
 returns-then-x-y c = sym (same_lengths _ _ c.if-x-y.true)
 
-pub returns-then-a-b : goal.returns-then-a-b
-returns-then-a-b c =
-    let s = c.in-Some.ensures.steps in
-    sym (c.loop-a.invariant.1 ∙ same_differ s.0 s.1 c.if-a-b.true)
+pub returns-then-b-y : goal.returns-then-b-y
+returns-then-b-y c =
+    let a = c.args in
+    let i = c.loop-i.i in
+    sym (c.loop-i.invariant ∙ same_differ a.x.now a.y.now i (omega arith) (omega arith) c.if-b-y.true)
 
-pub loop-a-preserved : goal.loop-a-preserved
-loop-a-preserved c =
-    let s = c.in-Some.ensures.steps in
-    (left_equal s.0 s.1 c.loop-a.invariant.0, c.loop-a.invariant.1 ∙ same_step s.0 s.1 c.if-a-b.false)
+pub loop-i-preserved : goal.loop-i-preserved
+loop-i-preserved c =
+    let a = c.args in
+    let i = c.loop-i.i in
+    c.loop-i.invariant ∙ same_step a.x.now a.y.now i (omega arith) (omega arith) c.if-b-y.false
 
 pub returns : goal.returns
 returns c =
-    let e = empty_from_Zip c.loop-a.a-iterator c.next.new.self c.next.result c.in-None.is c.next.ensures.steps c.loop-a.invariant.0 in
-    sym (c.loop-a.invariant.1 ∙ same_none _ _ (ap length e.0) (ap length e.1))
+    let a = c.args in
+    sym (c.loop-i.invariant ∙ same_none a.x.now a.y.now c.loop-i.i (omega arith) (omega arith))

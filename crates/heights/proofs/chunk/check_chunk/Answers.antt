@@ -1,9 +1,6 @@
 -- `heights::chunk::check_chunk` meets its contract: the pass, then what arrives at the end.
-use Rattle.heights.proofs.Ends.{pass_ready, chunk_failed, chunk_ends_high, chunk_passed}
+use Rattle.heights.proofs.Ends.{chunk_failed, chunk_ends_high, chunk_passed}
 use Rattle.heights.proofs.chunk.check_chunk.Goals as goal
-
-pub pass-requires : goal.pass-requires
-pass-requires c = let s = c in pass_ready s.args.marks.now s.args.code.bytes.now s.args.code.start s.args.code.end s.requires
 
 pub returns-in_err-chunk : goal.returns-in_err-chunk
 returns-in_err-chunk c = λ d a kind q. chunk_failed a (c.pass.ensures d a) kind (c.in_err-chunk.was) c.from_residual.ensures

@@ -33,15 +33,6 @@ slice_bounds-put_bytes-end c =
     let w = word_at start.requires.1 wide.ensures.is word-start.ensures word-start2.ensures in
     w.within
 
-pub put_bytes-requires : goal.put_bytes-requires
-put_bytes-requires c =
-    let word-start2 = c.word_start-end in
-    let word-start = c.word_start-start in
-    let wide = c.wide-o in
-    let start = c in
-    let w = word_at start.requires.1 wide.ensures.is word-start.ensures word-start2.ensures in
-    omega (arith, start.requires.0, ap length w.is, w.size, w.within)
-
 pub returns : goal.returns
 returns c =
     let put-bytes = c.put_bytes in

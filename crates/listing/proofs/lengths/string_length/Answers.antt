@@ -3,17 +3,8 @@ use mathlib.Core.Path.{ap}
 use native.Mathlib.Omega.{arith}
 use lib.ListN.{length}
 use Rattle.definition.specs.Text.{decimal}
-use Rattle.listing.proofs.TextLengths.{string_empty, string_some}
+use Rattle.listing.proofs.TextLengths.{string_some}
 use Rattle.listing.proofs.lengths.string_length.Goals as goal
-
-pub returns-then-len-eq0 : goal.returns-then-len-eq0
-returns-then-len-eq0 c =
-    let if1 = c.if-len-eq0 in
-    let decimal-length = c.decimal_length-before in
-    record {
-      is = λ b e. omega (arith, string_empty b (omega (arith, if1.true)), decimal-length.ensures.is, ap (λ n. length (decimal n)) if1.true);
-      small = omega arith;
-    }
 
 pub returns : goal.returns
 returns c =

@@ -1,13 +1,7 @@
 -- `listing::measure::measure_function` meets its contract: its three numbers, and its code decides.
 use native.Mathlib.Omega.{arith}
-use Rattle.definition.proofs.Basic.{passed_on}
-use Rattle.listing.proofs.Measures.{function_good, function_wrong}
+use Rattle.listing.proofs.Measures.{function_good}
 use Rattle.listing.proofs.measure.measure_function.Goals as goal
-
-pub returns-in_err-code-clause-is : goal.returns-in_err-code-clause-is
-returns-in_err-code-clause-is c =
-    let a = c.args in
-    rw (passed_on c.from_residual.ensures.1) (function_wrong a.image.now a.from a.len (c.measure_code.ensures.is a.len (omega arith)) c.in_err-code.was)
 
 pub returns-clause-is : goal.returns-clause-is
 returns-clause-is c =

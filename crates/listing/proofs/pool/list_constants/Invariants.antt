@@ -3,5 +3,10 @@ use Rattle.bytecode.proofs.EachConstant.{Over}
 use Rattle.listing.proofs.Pools.{PoolLoop}
 use Rattle.listing.proofs.pool.list_constants.Given as goal
 
-abbrev pub invariant-loop-start : goal.invariant-loop-start
-invariant-loop-start l = record { over : Over l.pool.bytes.now l.pool.end l.start-iterator; so_far : PoolLoop l.pool.bytes.now l.pool.start l.pool.end l.initial.output l.at l.output l.next l.start-iterator.at l.index }
+abbrev pub invariant-loop-index : goal.invariant-loop-index
+invariant-loop-index l =
+    record {
+      can : (goal.iterator-loop-index).can_next l.index-iterator;
+      over : Over l.pool.bytes.now l.pool.end l.index-iterator.iter;
+      so_far : PoolLoop l.pool.bytes.now l.pool.start l.pool.end l.initial.output l.at l.output l.next l.index-iterator.iter.at l.index-iterator.count;
+    }

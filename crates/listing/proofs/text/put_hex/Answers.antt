@@ -1,33 +1,20 @@
 -- `listing::text::put_hex` meets its contract: a byte a turn; what is left decides.
-use Prim.Native.Nat.{◌-◌}
 use native.Mathlib.Omega.{arith}
-use Rattle.definition.specs.Basic.{byte_at}
-use Rattle.listing.proofs.Puts.{begins, again, ends}
-use Rattle.listing.proofs.Numbers.{hex_next, hex_end, length_hexed}
+use mathlib.Core.Path.{ap}
+use lib.ListN.{length-drop, drop}
+use lib.Seq.{drop-length}
+use Rattle.definition.specs.Text.{hex}
+use Rattle.listing.proofs.Puts.{ends}
+use Rattle.listing.proofs.Numbers.{length-hex}
 use Rattle.listing.proofs.text.put_hex.Goals as goal
-
-pub loop-k-init : goal.loop-k-init
-loop-k-init c = begins _ _ _ _ _ (omega arith)
 
 pub put_hex_byte-next-requires : goal.put_hex_byte-next-requires
 put_hex_byte-next-requires c =
-    let start = c in
-    let loop = c.loop-k in
-    let byte = byte_at start.args.image.now in
-    omega (arith, loop.invariant.count, start.requires, length_hexed byte start.args.from (start.args.end - start.args.from), length_hexed byte loop.k (start.args.end - loop.k))
-
-pub loop-k-preserved : goal.loop-k-preserved
-loop-k-preserved c =
-    let start = c in
-    let loop = c.loop-k in
-    let h = c.loop-k-test.true in
-    again _ _ loop.invariant h (hex_next (byte_at start.args.image.now) loop.k start.args.end h) c.put_hex_byte-next.ensures
-
-pub shape_of-output : goal.shape_of-output
-shape_of-output c = c.loop-k.invariant.kept
+    let b = c.args.bytes.now in
+    let loop = c.loop-b in
+    omega (arith, loop.invariant.count, c.requires, length-hex b, length-hex (drop loop.b-index b), length-drop loop.b-index b)
 
 pub returns : goal.returns
 returns c =
-    let start = c in
-    let byte = byte_at start.args.image.now in
-    ends _ _ c.loop-k.invariant c.loop-k-test.false (hex_end byte start.args.end) (omega (arith, length_hexed byte start.args.from (start.args.end - start.args.from)))
+    let b = c.args.bytes.now in
+    ends _ _ c.loop-b.invariant c.loop-b-test.false (ap hex (drop-length b)) (omega (arith, length-hex b))

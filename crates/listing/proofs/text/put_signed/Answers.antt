@@ -1,31 +1,18 @@
--- `listing::text::put_signed` meets its contract: by the first byte.
+-- `listing::text::put_signed` meets its contract: by the sign.
 use native.Mathlib.Omega.{arith}
-use Rattle.definition.specs.Basic.{byte_at}
+use mathlib.Core.Path.{ap, sym, ◌∙◌}
+use Rattle.definition.specs.Text.{decimal}
 use Rattle.listing.proofs.Puts.{both, reworded, wider}
-use Rattle.listing.proofs.Numbers.{positive, above_zero, negative}
+use Rattle.listing.proofs.Numbers.{shown}
 use Rattle.listing.proofs.text.put_signed.Goals as goal
 
-pub returns-then-image-from-lt128 : goal.returns-then-image-from-lt128
-returns-then-image-from-lt128 c =
-    let put-decimal = c.put_decimal in
-    let if1 = c.if-image-from-lt128 in
-    let eight-bytes = c.eight_bytes-n in
-    let start = c in
-    wider (reworded put-decimal.ensures (positive (byte_at start.args.image.now) start.args.from eight-bytes.ensures if1.true)) (omega arith)
-
-pub overflow_add-n : goal.overflow_add-n
-overflow_add-n c =
-    let if1 = c.if-image-from-lt128 in
-    let eight-bytes = c.eight_bytes-n in
-    let start = c in
-    let h = above_zero (byte_at start.args.image.now) start.args.from eight-bytes.ensures if1.false in
-    omega arith
+pub returns-then-is_negative : goal.returns-then-is_negative
+returns-then-is_negative c =
+    let s = shown c.args.bytes.now c.requires.1 (λ i. omega (arith, c.type_inv.bytes i)) c.integer-n.ensures in
+    let size = reworded c.put_decimal.ensures (ap decimal c.unsigned_abs-size.ensures.value) in
+    reworded (both c.put-next.ensures size) (s.negative (sym c.is_negative.ensures ∙ c.if-is_negative.true))
 
 pub returns : goal.returns
 returns c =
-    let put-decimal2 = c.put_decimal-2 in
-    let put = c.put-next in
-    let if1 = c.if-image-from-lt128 in
-    let eight-bytes = c.eight_bytes-n in
-    let start = c in
-    reworded (both put.ensures put-decimal2.ensures) (negative (byte_at start.args.image.now) start.args.from eight-bytes.ensures if1.false (omega arith))
+    let s = shown c.args.bytes.now c.requires.1 (λ i. omega (arith, c.type_inv.bytes i)) c.integer-n.ensures in
+    wider (reworded c.put_decimal-2.ensures (ap decimal c.unsigned_abs-size.ensures.value ∙ s.positive (sym c.is_negative.ensures ∙ c.if-is_negative.false))) (omega arith)

@@ -1,7 +1,7 @@
 -- An instruction is added where there is room for its bytes.
 use native.Mathlib.Omega.{arith}
 use Rattle.definition.proofs.Instructions.{width_most}
-use Rattle.scope.proofs.ByValue.{adds_on, adds_full}
+use Rattle.scope.proofs.ByValue.{adds_on}
 use Rattle.scope.proofs.emission.with_instruction.Goals as goal
 
 pub overflow_add-n : goal.overflow_add-n
@@ -9,9 +9,6 @@ overflow_add-n c = let start = c in omega (arith, start.requires.1.is, width_mos
 
 pub overflow_add-at-2 : goal.overflow_add-at-2
 overflow_add-at-2 c = let start = c in omega (arith, start.requires.1.is, width_most start.args.i.op)
-
-pub returns-then-at-n-gt-CODE_SIZE : goal.returns-then-at-n-gt-CODE_SIZE
-returns-then-at-n-gt-CODE_SIZE c = search adds_full
 
 pub returns : goal.returns
 returns c = search adds_on

@@ -1,16 +1,9 @@
 -- `step::closing::close` meets its contract: room for the loads, the constant, then the loads and Closure.
-use Rattle.step.proofs.Closed.{closes_full, few_captures, closes_ready, closes_on}
+use Rattle.step.proofs.Closed.{closes_full, closes_on}
 use Rattle.step.proofs.closing.close.Goals as goal
 
 pub returns-then-c-k-gt-CODE_SIZE : goal.returns-then-c-k-gt-CODE_SIZE
 returns-then-c-k-gt-CODE_SIZE c = closes_full _ _ c.requires c.captures-n.ensures c.loads_size.ensures.is c.if-c-k-gt-CODE_SIZE.true c.refuse.ensures
-
-pub emit_function-requires : goal.emit_function-requires
-emit_function-requires c = record {
-  ready = closes_ready c.requires c.add_function-added.ensures;
-  part_size_in_bounds = c.requires.table;
-  n_le_free_limit = few_captures c.requires c.captures-n.ensures;
-}
 
 pub returns : goal.returns
 returns c = closes_on _ _ c.requires c.captures-n.ensures c.loads_size.ensures.is c.definitions.ensures c.add_function-added.ensures c.if-c-k-gt-CODE_SIZE.false c.emit_function.ensures

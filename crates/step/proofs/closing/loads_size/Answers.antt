@@ -1,21 +1,22 @@
--- `step::closing::loads_size` meets its contract: the sum over the originals passed.
+-- `step::closing::loads_size` meets its contract: the sum of the sizes of the originals' loads.
 use native.Mathlib.Omega.{arith}
-use Rattle.definition.proofs.Instructions.{width_most}
-use Rattle.step.proofs.Loads.{size_holds, size_again, size_ends}
+use mathlib.Core.Path.{◌∙◌}
+use Rattle.std.proofs.Common.{rules, ◌^◌}
+use Rattle.std.proofs.lemmas.Iterator.{YieldsList-from_range, YieldsList-from_map}
+use Rattle.std.proofs.lemmas.Iterator.Consumers.{fits_from_yields_list, sum_from_yields_List}
+use Rattle.symbol_table.specs.Layout.{part}
+use Rattle.step.proofs.Loads.{size_at, sizes_sum, sizes_small, same_size}
 use Rattle.step.proofs.closing.loads_size.Goals as goal
 
-pub loop-i-init : goal.loop-i-init
-loop-i-init c = search size_holds
-
-pub overflow_add-size : goal.overflow_add-size
-overflow_add-size c = omega (arith, c.load_of-l.ensures.sized, width_most c.load_of-l.result.op)
-
-pub overflow_add-size-in-loop-i : goal.overflow_add-size-in-loop-i
-overflow_add-size-in-loop-i c = omega (arith, c.load_of-l.ensures.sized, width_most c.load_of-l.result.op)
-
-pub loop-i-preserved : goal.loop-i-preserved
-loop-i-preserved c = search size_again
+pub sum-requires-clause-fits : goal.sum-requires-clause-fits
+sum-requires-clause-fits c =
+    let r = part c.args.level c.args.table.now in
+    fits_from_yields_list c.map.result (2 ^ 64)
+    (YieldsList-from_map _ (size_at r) (YieldsList-from_range 0 c.args.n c.args.n c.map.ensures.source (omega arith)) c.map.ensures.closure (λ x s q k. search (rules, same_size))) (omega (arith, sizes_small r c.args.n, c.requires.n_le_free_limit))
 
 pub returns : goal.returns
-returns c = let facts = size_ends _ _ c.loop-i.invariant c.loop-i-test.false in
-    record { is = facts.0; small = facts.1 }
+returns c =
+    let r = part c.args.level c.args.table.now in
+    let total = sum_from_yields_List c.map.result _ c.sum.ensures.ran
+    (YieldsList-from_map _ (size_at r) (YieldsList-from_range 0 c.args.n c.args.n c.map.ensures.source (omega arith)) c.map.ensures.closure (λ x s q k. search (rules, same_size))) in
+    record { is = total ∙ sizes_sum r c.args.n; small = omega (arith, total, sizes_small r c.args.n) }

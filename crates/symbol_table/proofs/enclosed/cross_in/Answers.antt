@@ -12,4 +12,4 @@ returns-then-part-ge-CAPTURES c = rw c.in_ok-found.was (crosses_none _ _ _ _ (om
 pub returns : goal.returns
 returns c =
     rw (c.in_ok-found.was, c.capture_in-code.ensures.value, c.capture_in-code.ensures.part_after)
-    (crosses_free _ _ _ _ (omega arith) (omega arith) c.requires.sized c.args.key.now.within)
+    (crosses_free _ _ _ _ (omega arith) (omega arith) c.requires.sized c.args.label.within)

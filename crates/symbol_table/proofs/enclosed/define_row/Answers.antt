@@ -11,7 +11,7 @@ new-requires c = let here = row_here _ _ _ (omega arith) c.loop.invariant.stands
 pub loop-preserved : goal.loop-preserved
 loop-preserved c =
     let less : c.args.n - (c.loop.counter + 1) ≡ c.args.n - c.loop.counter - 1 = omega arith in
-    rw (less, c.define_in.ensures.part_after, c.new.ensures.at, c.after_at-at.ensures.is)
+    rw (less, c.define_in.ensures.part_after, c.label.ensures.at, c.label.ensures.hash, c.new.ensures.at, c.after_at-at.ensures.is)
     (left_step _ _ _ _ _ _ _ c.loop.invariant _ c.requires.tree_len_bound (omega arith) c.new.ensures.hash)
 
 pub returns : goal.returns

@@ -7,4 +7,4 @@ pub returns-then-n-ge-LOCALS : goal.returns-then-n-ge-LOCALS
 returns-then-n-ge-LOCALS c = locals_full _ _ _ c.if-n-ge-LOCALS.true
 
 pub returns : goal.returns
-returns c = rw (c.define_in-d.ensures.value, c.define_in-d.ensures.part_after) (local_defined _ _ _ c.requires (omega arith) c.args.key.now.within)
+returns c = rw (c.define_in-d.ensures.value, c.define_in-d.ensures.part_after) (local_defined _ _ _ c.requires (omega arith) c.args.label.within)

@@ -6,7 +6,6 @@ pub push_global-requires : goal.push_global-requires
 push_global-requires c =
     let a = c.requires.addable in
     record {
-      globals_len = a.size;
       globals_bound = a.room;
       at_lt_globals_size = place_to a c.content_at.ensures c.find_place-place.ensures;
     }

@@ -23,12 +23,12 @@ returns-then-same_global c x =
 
 pub loop-k-smaller : goal.loop-k-smaller
 loop-k-smaller c =
-    sought_less _ _ _ _ _ (two_sides c.args.side) c.requires.good_globals c.loop-k.invariant c.loop-k-test.true refl c.same_global.ensures c.if-same_global.false c.args.key.now.is
+    sought_less _ _ _ _ _ (two_sides c.args.side) c.requires.good_globals c.loop-k.invariant c.loop-k-test.true refl c.same_global.ensures c.if-same_global.false c.args.name.now.is
     c.side_of.ensures c.child-k.ensures
 
 pub loop-k-preserved : goal.loop-k-preserved
 loop-k-preserved c =
-    sought_next _ _ _ _ _ (two_sides c.args.side) c.requires.good_globals c.loop-k.invariant c.loop-k-test.true refl c.same_global.ensures c.if-same_global.false c.args.key.now.is
+    sought_next _ _ _ _ _ (two_sides c.args.side) c.requires.good_globals c.loop-k.invariant c.loop-k-test.true refl c.same_global.ensures c.if-same_global.false c.args.name.now.is
     c.side_of.ensures c.child-k.ensures
 
 pub returns : goal.returns

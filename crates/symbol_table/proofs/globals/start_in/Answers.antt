@@ -1,10 +1,8 @@
 -- The loop's invariant: what is left of the names decides.
-use mathlib.Core.List.{[]}
 use mathlib.Core.Path.{sym, subst}
 use native.Mathlib.Omega.{arith}
 use lib.ListN.{set}
-use lib.Seq.{length-take-le}
-use Rattle.field.proofs.EachField.{over_new, starts_at, can_begin, over_again, is_before, is_behind, whole_here, is_over}
+use Rattle.field.proofs.EachField.{over_new, starts_at, can_begin, over_again, is_before, is_behind, is_over}
 use Rattle.symbol_table.proofs.Starting.{Begun, items_fields, begun-start, begun_here, begun_addable, begun-step, begun_none}
 use Rattle.symbol_table.proofs.globals.start_in.Goals as goal
 
@@ -17,14 +15,8 @@ loop-at-init c =
     record {
       can = can_begin e n (items_fields c.requires.has_items);
       over = over_new e n;
-      begun = subst (λ at. Begun a.session.now a.from a.end (set c.clear_heads.new.globals 0 0) at) (starts_at e n) (begun-start a.session.now a.from c.clear_heads.new.globals k.globals_len k.by_index a.end c.requires.has_items);
+      begun = subst (λ at. Begun a.session.now a.from a.end (set c.clear_heads.new.globals 0 0) at) (starts_at e n) (begun-start a.session.now a.from c.clear_heads.new.globals (omega arith) k a.end c.requires.has_items);
     }
-
-pub hash_at-hash-requires : goal.hash_at-hash-requires
-hash_at-hash-requires c = (whole_here c.loop-at.invariant.over c.in-Some.ensures.steps).fits
-
-pub slice_bounds-add_global-end : goal.slice_bounds-add_global-end
-slice_bounds-add_global-end c = sym (length-take-le _ _ c.loop-at.invariant.begun.within)
 
 pub add_global-requires : goal.add_global-requires
 add_global-requires c =
@@ -48,9 +40,6 @@ loop-at-preserved c =
       begun = subst (λ at. Begun a.session.now a.from a.end c.add_global.new.globals at) (sym (is_behind l.invariant.over n))
           (begun-step _ _ _ _ _ x _ c.requires.session_len_bound (begun_here _ _ _ _ _ x c.requires.has_items (is_before l.invariant.over n)) c.add_global.ensures);
     }
-
-pub shape_of-globals : goal.shape_of-globals
-shape_of-globals c = omega (arith, (c.loop-at.invariant.begun.good []).size)
 
 pub returns : goal.returns
 returns c = begun_none _ _ _ _ _ c.loop-at.invariant.begun c.requires.has_items (is_over c.loop-at.invariant.over c.in-None.ensures.steps)

@@ -5,10 +5,6 @@ use Rattle.symbol_table.specs.Layout.{base}
 use Rattle.symbol_table.proofs.Levels.{width, at_put}
 use Rattle.symbol_table.proofs.query.cross_at.Goals as goal
 
-pub cross_in-requires : goal.cross_in-requires
-cross_in-requires c =
-    rw (width (base c.args.level)) (record { sized = c.requires.sized; few = c.requires.few })
-
 pub returns : goal.returns
 returns c =
     let s = c in

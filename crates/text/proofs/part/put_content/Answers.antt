@@ -4,19 +4,38 @@ use lib.ListN.{length}
 use Rattle.definition.proofs.Bytes.{length-bytes, bytes_slice}
 use Rattle.definition.specs.Basic.{byte_at}
 use Rattle.text.specs.Kind.{number_of}
+use Rattle.text.specs.Scan.{value, integer_limit}
+use Rattle.text.specs.Seen.{within_limit}
 use Rattle.text.specs.declared.kind.Kind.TheVariants.{Integer, String, True, False}
 use Rattle.text.proofs.Contents.{content_integer, content_string, content_true, content_false, content-bytes, put_done}
 use Rattle.text.proofs.Numbers.{apart}
+use Rattle.text.proofs.Skips.{limit_within}
 use Rattle.text.proofs.RowAt.{end_within}
-use mathlib.Core.Path.{sym, ap, ◌∙◌}
+use mathlib.Core.Path.{sym, ap, subst, ◌∙◌}
 use native.Mathlib.Omega.{arith}
+use Rattle.std.proofs.Common.{rules}
 use Rattle.text.proofs.part.put_content.Goals as goal
+
+pub unwrap-requires : goal.unwrap-requires
+unwrap-requires c =
+    let h = c.requires.0 in
+    let from = c.args.token.start in
+    let n = c.args.token.end - from in
+    let w : from + n ≤ length c.args.text.now = omega (arith, h.order, h.within, end_within c.args.text.now) in
+    let small = subst (λ bs. value 0 bs ≤ integer_limit) (bytes_slice c.args.text.now from n w) (h.integer (ap number_of c.in-Integer.is)) in
+    let some = c.value.ensures ∙ limit_within _ small in
+    search rules
 
 pub returns-in-Integer : goal.returns-in-Integer
 returns-in-Integer c =
+    let h = c.requires.0 in
     let k = ap number_of c.in-Integer.is in
     let b = c.to_be_bytes.ensures in
-    put_done c.args.text.now c.args.token c.args.to c.args.output.now (content_integer c.args.text.now c.args.token k (c.requires.0.integer k) _ (sym c.unwrap.ensures ∙ c.value.ensures) ∙ sym b) c.put_bytes.ensures.behind c.put_bytes.ensures.puts (omega (arith, ap length b))
+    let from = c.args.token.start in
+    let n = c.args.token.end - from in
+    let w : from + n ≤ length c.args.text.now = omega (arith, h.order, h.within, end_within c.args.text.now) in
+    let v = sym c.unwrap.ensures ∙ c.value.ensures ∙ ap (λ bs. within_limit (value 0 bs)) (sym (bytes_slice c.args.text.now from n w)) in
+    put_done c.args.text.now c.args.token c.args.to c.args.output.now (content_integer c.args.text.now c.args.token k (h.integer k) _ v ∙ sym b) c.put_bytes.ensures.behind c.put_bytes.ensures.puts (omega (arith, ap length b))
 
 pub returns-in-String : goal.returns-in-String
 returns-in-String c =

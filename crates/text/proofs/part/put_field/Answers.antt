@@ -1,4 +1,5 @@
 -- `put_field` meets its contract: the content, and its head.
+use Rattle.std.specs.Prelude.{Some}
 use Rattle.text.proofs.Contents.{field_stored}
 use Rattle.text.proofs.RowAt.{end_early}
 use Rattle.text.specs.Parts.{content_of, closed_of}
@@ -16,7 +17,7 @@ pub returns : goal.returns
 returns c =
     let b = c.put_content-end.ensures in
     record {
-      part = c.close.ensures.part ∙ ap (closed_of c.args.tag) c.empty.ensures ∙ ap (λ n. record { at = c.args.token.end; to = n; levels = 1; tag = c.args.tag }) b.behind;
+      part = c.close.ensures.part ∙ ap (closed_of c.args.tag) c.empty.ensures ∙ ap (λ n. record { at = c.args.token.end; to = n; levels = 1; tag = Some c.args.tag }) b.behind;
       stored = field_stored _ (content_of c.args.text.now c.args.token) c.args.to c.args.output.now b.stored b.behind (rw c.empty.ensures at c.close.ensures.stored);
       most = b.most;
     }

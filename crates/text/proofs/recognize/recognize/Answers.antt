@@ -1,8 +1,7 @@
 -- `recognize` meets its contract: what is left of the text decides.
 use native.Mathlib.Omega.{arith}
-use mathlib.Core.Path.{refl, sym, ap, subst, ◌∙◌}
+use mathlib.Core.Path.{refl, ap, ◌∙◌}
 use Rattle.std.specs.Prelude.{Err}
-use Rattle.text.specs.Tokens.{Stopped}
 use Rattle.text.proofs.OverTokens.{given, stopped}
 use Rattle.text.proofs.Turns.{begins, going_at, at-end, at_broken, at-large, token_seen, at_stuck, goes-on}
 use Rattle.text.proofs.recognize.recognize.Goals as goal
@@ -29,9 +28,6 @@ loop-token-preserved c =
       text = n.text ∙ i.text;
       going = going_at n.at (goes-on _ _ _ _ _ i.going (given i.text n) refl _ c.top.ensures c.step.ensures c.in-Some-step.is c.change.ensures.is c.change.ensures.low);
     }
-
-pub stop-requires : goal.stop-requires
-stop-requires c = subst Stopped (sym c.in_default.ensures.steps.same) c.in_default.ensures.steps.stopped
 
 pub returns-in-Finished : goal.returns-in-Finished
 returns-in-Finished c =

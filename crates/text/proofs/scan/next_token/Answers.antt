@@ -28,9 +28,6 @@ late text start e l h = go (ltb start 8192) refl
     go true t = let z : start + 1 ≤ end_of text = least_end text (omega arith) (omega (arith, ltb-true start 8192 t)) in absurd (omega arith)
     go false t = ltb-false start 8192 t
 
-pub piece_at-requires : goal.piece_at-requires
-piece_at-requires c = omega (arith, c.if-start-end.true, c.text_end-end.ensures, end_within c.args.text.now)
-
 pub returns-then-start-end : goal.returns-then-start-end
 returns-then-start-end c =
     let t = c.args.text.now in

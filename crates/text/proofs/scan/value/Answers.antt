@@ -7,18 +7,20 @@ use Rattle.text.proofs.scan.value.Goals as goal
 
 pub returns-then-n : goal.returns-then-n
 returns-then-n c =
-    let loop = c.loop-k in
-    sym (ap within_limit (loop.invariant.1 ∙ value-step _ _ _ _ c.loop-k-test.true) ∙ limit_above _ _ (omega arith))
+    let l = c.loop-b in
+    sym (ap within_limit (l.invariant.1 ∙ value-step c.args.digits.now l.n l.b-index (omega arith)) ∙ limit_above _ _ (omega arith))
 
 pub returns-then-n-gt-INTEGER_LIMIT : goal.returns-then-n-gt-INTEGER_LIMIT
 returns-then-n-gt-INTEGER_LIMIT c =
-    let loop = c.loop-k in
-    sym (ap within_limit (loop.invariant.1 ∙ value-step _ _ _ _ c.loop-k-test.true) ∙ limit_above _ _ (omega (arith, c.saturating_sub.ensures)))
+    let l = c.loop-b in
+    sym (ap within_limit (l.invariant.1 ∙ value-step c.args.digits.now l.n l.b-index (omega arith)) ∙ limit_above _ _ (omega (arith, c.saturating_sub.ensures)))
 
-pub loop-k-preserved : goal.loop-k-preserved
-loop-k-preserved c =
-    let loop = c.loop-k in
-    (c.if-n-gt-INTEGER_LIMIT.false, rw c.saturating_sub.ensures (loop.invariant.1 ∙ value-step _ _ _ _ c.loop-k-test.true))
+pub loop-b-preserved : goal.loop-b-preserved
+loop-b-preserved c =
+    let l = c.loop-b in
+    (c.if-n-gt-INTEGER_LIMIT.false, rw c.saturating_sub.ensures (l.invariant.1 ∙ value-step c.args.digits.now l.n l.b-index (omega arith)))
 
 pub returns : goal.returns
-returns c = sym (ap within_limit (c.loop-k.invariant.1 ∙ value_done _ _ _ _ c.loop-k-test.false) ∙ limit_within _ c.loop-k.invariant.0)
+returns c =
+    let l = c.loop-b in
+    sym (ap within_limit (l.invariant.1 ∙ value_done c.args.digits.now l.n l.b-index (omega arith)) ∙ limit_within _ l.invariant.0)

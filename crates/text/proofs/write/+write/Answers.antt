@@ -75,10 +75,6 @@ pub write_expression-loop-opened-init : goal.write_expression-loop-opened-init
 write_expression-loop-opened-init t c =
     climb_begins c.skip_groups-first.ensures c.write_operand-so_far.ensures.writes c.write_operand-so_far.ensures.spares
 
-pub write_expression-token_at-token-requires : goal.write_expression-token_at-token-requires
-write_expression-token_at-token-requires t c =
-    c.loop-opened.invariant.bounds.within
-
 pub write_expression-overflow_sub-opened : goal.write_expression-overflow_sub-opened
 write_expression-overflow_sub-opened t c =
     omega (arith, closed_one _ _ (sym c.closes_group.ensures ∙ c.if-closes_group.true))

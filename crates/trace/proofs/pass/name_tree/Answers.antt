@@ -1,5 +1,6 @@
 -- `name_tree` meets its contract: the tables from the names, then the pass over the statements.
 use mathlib.Core.Path.{sym}
+use borrow.Author.Rules.{rules}
 use native.Mathlib.Omega.{arith}
 use lib.Seq.{length-take-le}
 use Rattle.trace.proofs.Tree.{good_reads, tree_row, tree_standing, tree_passes}
@@ -7,30 +8,23 @@ use Rattle.trace.proofs.pass.name_tree.Goals as goal
 
 pub start_from-requires : goal.start_from-requires
 start_from-requires c =
-    let start = c in
     record {
-      session_len_bound = start.requires.session_len_bound;
-      has_items = start.requires.has_items;
-      globals_size_in_bounds = omega (arith, start.requires.table_size_in_bounds);
+      session_len_bound = c.requires.session_len_bound;
+      has_items = c.requires.has_items;
+      globals_size_in_bounds = omega (arith, c.requires.table_size_in_bounds);
     }
 
-pub slice_bounds-name_row-end : goal.slice_bounds-name_row-end
-slice_bounds-name_row-end c =
-    let start = c in
-    sym (length-take-le start.args.end start.args.session.now start.requires.has_items.within)
+pub slice_bounds-name_statements-end : goal.slice_bounds-name_statements-end
+slice_bounds-name_statements-end c =
+    sym (length-take-le c.args.end c.args.session.now c.requires.has_items.within)
 
-pub name_row-requires : goal.name_row-requires
-name_row-requires c =
-    let start = c in
-    let on-start-from = c.start_from in
+pub name_statements-requires : goal.name_statements-requires
+name_statements-requires c =
     record {
-      some = tree_row (good_reads start.args.tree.now start.requires.tree_value);
-      standing = tree_standing (good_reads start.args.tree.now start.requires.tree_value) on-start-from.ensures start.requires.has_words (omega (arith, start.requires.table_size_in_bounds, on-start-from.auto.table)) start.requires.code_size_in_bounds;
+      some = tree_row (good_reads c.args.tree.now c.requires.tree_value);
+      standing = tree_standing (good_reads c.args.tree.now c.requires.tree_value) c.start_from.ensures c.requires.has_words (omega (arith, c.requires.table_size_in_bounds, c.start_from.auto.table)) c.requires.code_size_in_bounds;
     }
 
 pub returns : goal.returns
 returns c =
-    let start = c in
-    let on-start-from = c.start_from in
-    let on-name-row = c.name_row in
-    tree_passes (good_reads start.args.tree.now start.requires.tree_value) on-start-from.ensures on-name-row.ensures
+    tree_passes (good_reads c.args.tree.now c.requires.tree_value) c.start_from.ensures c.name_statements.ensures.named.passes (search rules)

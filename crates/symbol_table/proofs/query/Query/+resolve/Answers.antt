@@ -17,8 +17,8 @@ returns-then-level-eq0 t c = resolved_outermost _ _ _ _ _ _ c.requires.standing.
 pub count_at-n-requires-clause-sized : goal.count_at-n-requires-clause-sized
 count_at-n-requires-clause-sized t c = (good_here _ _ _ _ c.requires.standing.good (c.args.level - 1) (omega arith)).table.sized
 
-pub code_for-outside-requires-clause-outside : goal.code_for-outside-requires-clause-outside
-code_for-outside-requires-clause-outside t c = outside_standing _ c.requires.standing
+pub known_for-outside-requires-clause-outside : goal.known_for-outside-requires-clause-outside
+known_for-outside-requires-clause-outside t c = outside_standing _ c.requires.standing
 
 pub look_at-requires-clause-opened : goal.look_at-requires-clause-opened
 look_at-requires-clause-opened t c = opened_standing _ c.requires.standing (omega arith) c.count_at-n.ensures
@@ -36,7 +36,7 @@ resolve-outer-requires t c =
     let look = c.look_at in
     let a₁ = look.new.table in
     let good = good_kept _ _ _ _ _ p.good l e look.ensures.inside in
-    (omega arith, (record { words = p.words; size = omega (arith, p.size, length-take-le (base l) a₁ (omega (arith, p.size, look.auto.table))); good = good_around _ _ _ _ good l e }, known_around _ _ _ _ _ p.good l e look.ensures.inside _ _ c.code_for-outside.ensures))
+    (omega arith, (record { words = p.words; size = omega (arith, p.size, length-take-le (base l) a₁ (omega (arith, p.size, look.auto.table))); good = good_around _ _ _ _ good l e }, record { code = known_around _ _ _ _ _ p.good l e look.ensures.inside _ _ c.known_for-outside.ensures.code; far = c.known_for-outside.ensures.far }))
 
 pub cross_at-requires-clause-sized : goal.cross_at-requires-clause-sized
 cross_at-requires-clause-sized t c =
@@ -61,4 +61,4 @@ returns t c =
     found_around _ _ _ a₁ _ p.good l e look.ensures.inside _ _ _ _ _ _ _ (c.resolve-outer.auto.table ∙ length-take-le (base l) a₁ (omega (arith, p.size, look.auto.table))) (is_name c.args.self.now.key)
     (ap hit_of (sym c.in_default.is) ∙ look.ensures.entry)
     c.resolve-outer.ensures
-    c.cross_at.ensures
+    (rw (c.label.ensures.at, c.label.ensures.hash) at c.cross_at.ensures)

@@ -1,0 +1,43 @@
+-- `propose_pool` meets its contract: a constant a turn.
+use Rattle.std.proofs.Common.{sym, subst}
+use Rattle.bytecode.proofs.EachConstant.{over_again}
+use Rattle.heights.proofs.EachConstant.{turn_at, all_read}
+use Rattle.heights.proofs.Flows.{PoolLoop, pool_ends, pool_constant, pool_again}
+use Rattle.heights.proofs.Lent.{lends_on}
+use Rattle.heights.proofs.propose.Proposer.propose_pool.Goals as goal
+
+pub propose_constant-requires : goal.propose_constant-requires
+propose_constant-requires c =
+    let a = c.args in
+    let s = a.self.now in
+    let l = c.loop-start in
+    let n = c.in-Some.ensures.steps in
+    let p = subst (λ at. PoolLoop a.pool.bytes.now a.pool.start a.pool.end s.count s.heights.now s.marks.now l.self.heights.now l.self.marks.now at l.self.count) (sym n.here) l.invariant.so_far in
+    pool_constant a.pool.bytes.now a.pool.start a.pool.end s.count c.requires p (turn_at l.invariant.over n c.requires.pool.is p.reading)
+
+pub loop-start-preserved : goal.loop-start-preserved
+loop-start-preserved c =
+    let a = c.args in
+    let s = a.self.now in
+    let l = c.loop-start in
+    let n = c.in-Some.ensures.steps in
+    let p = subst (λ at. PoolLoop a.pool.bytes.now a.pool.start a.pool.end s.count s.heights.now s.marks.now l.self.heights.now l.self.marks.now at l.self.count) (sym n.here) l.invariant.so_far in
+    let k = turn_at l.invariant.over n c.requires.pool.is p.reading in
+    let j = c.propose_constant in
+    let t = j.new.self in
+    let q = pool_again a.pool.bytes.now a.pool.start a.pool.end s.count c.requires p k (j.ensures.proposes k.x k.standing) j.ensures.lent.heights j.ensures.lent.marks in
+    record {
+      over = over_again l.invariant.over n;
+      so_far = subst (λ at. PoolLoop a.pool.bytes.now a.pool.start a.pool.end s.count s.heights.now s.marks.now t.heights.now t.marks.now at t.count) (sym n.behind) q;
+      lent = lends_on l.invariant.lent j.ensures.lent;
+    }
+
+pub returns : goal.returns
+returns c =
+    let a = c.args in
+    let l = c.loop-start in
+    let p = l.invariant.so_far in
+    record {
+      proposes = pool_ends a.pool.bytes.now a.pool.start a.pool.end a.self.now.count c.requires p (all_read l.invariant.over c.requires.pool.is p.reading c.in-None.ensures.steps);
+      lent = l.invariant.lent;
+    }
