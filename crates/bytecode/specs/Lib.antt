@@ -2,3 +2,4 @@ pub mod Form
 pub mod Checked
 pub mod Layout
 pub mod Constants
+pub mod Parts

@@ -48,7 +48,7 @@ impl Head {
     pub fn is_name(self) -> bool
         ensures { result ≡ is_name (head_of self) }
     {
-        self.tag == tag::NAME_BYTE && 1 <= self.len && self.len <= limit::NAME_LIMIT
+        self.tag == tag::NAME && 1 <= self.len && self.len <= limit::NAME_LIMIT
     }
 }
 

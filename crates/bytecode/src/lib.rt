@@ -20,7 +20,7 @@ use definition::{Reason, Refusal, limit, tag};
 use field::names::distinct_names;
 pub use field_head::{Head, head_at, head_where};
 use item_check::{Items, check_items};
-pub use span::Span;
+pub use span::{Parts, Span};
 use zero::all_zero;
 
 // The tags of the chin unit's main code and functions.

@@ -1,7 +1,9 @@
 // Parts of an image.
-ghost use Rattle.std.specs.Prelude.{◌≡◌};
+ghost use Rattle.std.specs.Prelude.{◌≡◌, ◌≤◌, length};
+ghost use Rattle.bytecode.specs.Parts.{Divides};
 
 use crate::constants::Constants;
+use field::length_at;
 use opcode::instructions::Instructions;
 
 // A part of bytes, from an offset up to another.
@@ -29,5 +31,33 @@ impl<'a> Span<'a> {
         ensures end { result.end ≡ self.entry.end }
     {
         Constants::new(self.bytes, self.start, self.end)
+    }
+}
+
+// The two parts of an image that are read: main's code, and the constants of its pool.
+#[derive(Clone, Copy)]
+pub struct Parts<'a> {
+    pub code: Span<'a>,
+    pub pool: Span<'a>,
+}
+
+impl<'a> Parts<'a> {
+    // Of an image, by the content length of its main field: each part stands behind a head of three bytes.
+    pub fn of(image: &'a [u8]) -> Self
+        requires { 3 ≤ length image.now }
+        ensures { Divides image.now result }
+    {
+        let end = 3 + length_at(image, 0);
+        let code = Span {
+            bytes: image,
+            start: 3,
+            end,
+        };
+        let pool = Span {
+            bytes: image,
+            start: end + 3,
+            end: image.len(),
+        };
+        Parts { code, pool }
     }
 }

@@ -104,10 +104,7 @@ pub extern "C" fn monkey_list_image(image: &[u8], output: &mut [u8]) -> u64
 fn refusal_answer(refusal: Option<Refusal>) -> Result<usize, Refusal>
     ensures { result ≡ refusal_answer refusal }
 {
-    match refusal {
-        Some(r) => Err(r),
-        None => Ok(0),
-    }
+    refusal.map_or(Ok(0), Err)
 }
 
 // Counts the whole frames of an image and the bytes behind them: whole × 65,536 + rest; or 17 and the place, or 23.

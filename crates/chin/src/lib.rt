@@ -9,10 +9,9 @@ ghost use Rattle.definition.specs.Bytecode.{Image};
 ghost use Rattle.chin.specs.Chin.{translate as translated, to_chin, from_chin, answer_of, output_of};
 ghost use Rattle.chin.specs.Rows.{jump_of, other_form, ImageAt, HasImage, TurnsImage, Copied};
 
-use bytecode::{Form, check_form};
+use bytecode::{Form, Parts, check_form};
 use definition::output::store;
-use definition::{Reason, Refusal};
-use field::length_at;
+use definition::{Reason, Refusal, refused};
 use operand::other_form;
 use row::{turn_code, turn_constants};
 
@@ -22,11 +21,11 @@ fn put_form(output: &mut [u8], image: &[u8], from: Form) -> Result<(), usize>
     requires { HasImage from image.now }
     ensures { (m : Image) → ImageAt from image.now m → TurnsImage from m image.now output.old output.new result }
 {
-    let end = 3 + length_at(image, 0);
+    let Parts { code, pool } = Parts::of(image);
     let tag = other_form(from).tags().main;
     store(output, 0, tag);
-    turn_code(output, image, 3, end, from)?;
-    turn_constants(output, image, end + 3, image.len(), from)
+    turn_code(output, image, code.start, code.end, from)?;
+    turn_constants(output, image, pool.start, pool.end, from)
 }
 
 // Writes the other form of a sound image whose jumps have operands there; or 15.
@@ -36,10 +35,7 @@ fn write_form(image: &[u8], output: &mut [u8], from: Form) -> Result<usize, Refu
 {
     let len = image.len();
     if output.len() < len {
-        return Err(Refusal {
-            reason: Reason::OutputShort,
-            place: 0,
-        });
+        return refused(Reason::OutputShort, 0);
     }
     output[..len].copy_from_slice(image);
     let _ = put_form(output, image, from);
@@ -51,16 +47,11 @@ fn translate(image: &[u8], output: &mut [u8], from: Form) -> Result<usize, Refus
     ensures answers { result ≡ answer_of (translated from (other_form from) (jump_of from) image.now) (length output.old) }
     ensures writes { output.new ≡ output_of (translated from (other_form from) (jump_of from) image.now) output.old }
 {
-    match check_form(image, from) {
-        Err(r) => Err(r),
-        Ok(_) => match put_form(&mut output[..0], image, from) {
-            Err(place) => Err(Refusal {
-                reason: Reason::BadJump,
-                place: place,
-            }),
-            Ok(()) => write_form(image, output, from),
-        },
+    check_form(image, from)?;
+    if let Err(place) = put_form(&mut output[..0], image, from) {
+        return refused(Reason::BadJump, place);
     }
+    write_form(image, output, from)
 }
 
 // An image into the chin form: its length, which is the image's; or 17, 26 or 15, and the output stays.
@@ -68,8 +59,7 @@ pub fn to_chin(image: &[u8], output: &mut [u8]) -> Result<usize, Refusal>
     ensures answers { result ≡ answer_of (to_chin image.now) (length output.old) }
     ensures writes { output.new ≡ output_of (to_chin image.now) output.old }
 {
-    let form = Form::Plain;
-    translate(image, output, form)
+    translate(image, output, Form::Plain)
 }
 
 // The chin form back into an image, likewise.
@@ -77,6 +67,5 @@ pub fn from_chin(image: &[u8], output: &mut [u8]) -> Result<usize, Refusal>
     ensures answers { result ≡ answer_of (from_chin image.now) (length output.old) }
     ensures writes { output.new ≡ output_of (from_chin image.now) output.old }
 {
-    let form = Form::Chin;
-    translate(image, output, form)
+    translate(image, output, Form::Chin)
 }

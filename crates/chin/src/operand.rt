@@ -4,6 +4,7 @@ ghost use Rattle.chin.specs.Turn.{exchanged as exchangedOf};
 ghost use Rattle.chin.specs.Rows.{jump_of, other_form, wide_operand};
 
 use bytecode::Form;
+use field::word;
 use opcode::opcodes::{JUMP, JUMP_NOT_TRUTHY};
 
 // The form that an image is translated into.
@@ -20,7 +21,8 @@ pub fn other_form(form: Form) -> Form
 fn exchanged(a: usize) -> usize
     ensures { result ≡ exchangedOf a }
 {
-    usize::from(((a % 65536) as u16).swap_bytes())
+    let [.., high, low] = a.to_be_bytes();
+    word(low, high)
 }
 
 // The operand of a jump that ends at an offset of its chunk: the distance to its target, or the target of its distance; or there is none.

@@ -5,13 +5,13 @@ use mathlib.Core.List.{List, []}
 use mathlib.Core.Path.{◌≡◌, sym, ap, ◌∙◌}
 use lib.ListN.{length, take}
 use Rattle.definition.specs.Basic.{Bytes, byte_at}
-use Rattle.definition.specs.Limit.{code_size, table_size}
+use Rattle.definition.specs.Limit.{table_size}
 use Rattle.definition.specs.Decode.{read_names}
 use Rattle.definition.specs.Walk.{on}
 use Rattle.definition.proofs.Pools.{pool-length}
 use Rattle.definition.proofs.Sessions.{session_length}
 use Rattle.field.specs.Layout.{after}
-use Rattle.scope.specs.View.{view, Ready}
+use Rattle.scope.specs.View.{view}
 use Rattle.std.specs.Prelude.{Ok}
 use Rattle.refinement.specs.Relation.{names_end, pool_end, start_view}
 use Rattle.bytecode.specs.declared.SessionLayout.{SessionLayout}
@@ -78,7 +78,3 @@ module _ {e : Bytes} {l : SessionLayout} (x : Opened e l) where
     -- the whole memory is the start of the refinement
     pub started-view : (c : Bytes) → memory tree c (rest e t) (Ok (start_state l)) ≡ on tt (start_view x.session e c)
     started-view c = λ i. on tt (view c e (started_symbols i) (start_state (x.layout i)))
-
--- an empty chunk
-pub started_ready : {c : Bytes} (l : SessionLayout) → length c ≡ code_size → Ready c (Ok (start_state l))
-started_ready l size = record { area = omega arith; sound = record { room = omega arith; last = omega arith; prev = omega arith } }

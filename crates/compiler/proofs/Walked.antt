@@ -1,5 +1,5 @@
 -- From the walk's promise on lent memory to the definition's walk.
-use Prim.Native.Nat.{ℕ, ◌-◌, ◌≤◌}
+use Prim.Native.Nat.{ℕ, ◌-◌}
 use native.Mathlib.Omega.{arith}
 use mathlib.Core.List.{List}
 use mathlib.Core.Path.{◌≡◌, refl, sym, ap, subst, subst₂, ◌∙◌}
@@ -21,19 +21,16 @@ use Rattle.std.specs.Prelude.{Err, Ok}
 use Rattle.definition.proofs.ReadWellFormed.{read_well_formed}
 use Rattle.definition.proofs.Sessions.{session_length}
 use Rattle.tree.specs.Check.{Good, verdict}
-use Rattle.tree.specs.Reads.{Some}
 use Rattle.field.specs.Layout.{after}
-use Rattle.scope.specs.View.{View, view, then, Ready}
+use Rattle.scope.specs.View.{View, view, then}
 use Rattle.scope.specs.Machine.{machine}
 use Rattle.scope.specs.declared.State as Memory
-use Rattle.scope.specs.Walked.{Walked}
-use Rattle.scope.specs.Walked.{stopped}
+use Rattle.scope.specs.Walked.{Walked, stopped}
 use Rattle.refinement.specs.Relation.{pool_end, start_view, marks, Appended, Compiled, WalkEnds}
 use Rattle.refinement.proofs.Walk.{walk_ends}
 use Rattle.refinement.proofs.Outcome.{memory_through, memory_halts}
 use Rattle.refinement.proofs.Buffer.{restored}
 use Rattle.bytecode.specs.declared.SessionLayout.{SessionLayout}
-use Rattle.symbol_table.specs.Layout.{globals_size}
 use Rattle.symbol_table.specs.Contract.{HasNames, Starts}
 use Rattle.step.specs.Memory.{Rest, rest, symbols_of, no_symbols, settled, memory, FineState, Origin, Walks}
 use Rattle.walk.specs.Parts.{ReadsTree}
@@ -41,8 +38,7 @@ use Rattle.compiler.specs.Result.{refused_result, step_result, session_result, c
 use Rattle.compiler.specs.Stage.{Opened, Checked}
 use Rattle.compiler.specs.Translated.{Small, start_state, Through, Halted, WalkEnded}
 use Rattle.compiler.proofs.Opened.{opened}
-use Rattle.compiler.proofs.Started.{opened_names, opened_small, opened_after, started_fine, started-view, started_ready}
-use Rattle.scope.specs.declared.Stopped.{Stopped}
+use Rattle.compiler.proofs.Started.{opened_names, opened_small, opened_after, started_fine, started-view}
 
 -- a walk that goes on is settled as it is
 settled_on : {A : Type 0} (y : Res View A) {a : A} {v : View} → on a v ≡ settled y → y ≡ on a v
@@ -100,7 +96,7 @@ module _ {e : Bytes} {l : SessionLayout} (x : Opened e l) {t₀ t : List ℕ} (b
   walk_is : {c' : Bytes} {m : Rest} {r : Walked} → WalksTree tree l c c' (rest e t) m r → memory tree c' m r ≡ settled (done x.session e c b)
   walk_is w = w.step b (record { end = n; reads = reads }) ∙ ap (λ m. settled (then m (walk_stmts machine b))) (started-view x begun tree c)
 
-  pub walk_through : {c' e' : Bytes} {t' : List ℕ} {s : Memory.State} → WalksTree tree l c c' (rest e t) (rest e' t') (Ok s) → Through tree e c' e' t' l s
+  walk_through : {c' e' : Bytes} {t' : List ℕ} {s : Memory.State} → WalksTree tree l c c' (rest e t) (rest e' t') (Ok s) → Through tree e c' e' t' l s
   walk_through {c'} {e'} {t'} {s} w =
       let k = memory_through both_end (settled_on (done x.session e c b) (walk_is w)) in
       record {
@@ -117,7 +113,7 @@ module _ {e : Bytes} {l : SessionLayout} (x : Opened e l) {t₀ t : List ℕ} (b
         same = λ o. result_is o ∙ (λ i. step_result (x.bytes i) o (Definition.finish (length o) x.session (k.same i)));
       }
 
-  pub walk_stopped : {c' e' : Bytes} {t' : List ℕ} {q : Refusal} {s : Memory.State} → WalksTree tree l c c' (rest e t) (rest e' t') (Err (stopped q s)) → Halted tree e e' l q s
+  walk_stopped : {c' e' : Bytes} {t' : List ℕ} {q : Refusal} {s : Memory.State} → WalksTree tree l c c' (rest e t) (rest e' t') (Err (stopped q s)) → Halted tree e e' l q s
   walk_stopped {e'} {q} {s} w =
       let z = x.session in
       let u = settled_stop (done z e c b) (walk_is w) in
@@ -132,9 +128,9 @@ module _ {e : Bytes} {l : SessionLayout} (x : Opened e l) {t₀ t : List ℕ} (b
       }
 
   -- however it ended
-  pub walk_ended : {c' e' : Bytes} {t' : List ℕ} (r : Walked) → WalksTree tree l c c' (rest e t) (rest e' t') r → WalkEnded tree e c' e' t' l r
-  walk_ended (Ok s) w = walk_through w
-  walk_ended (Err z) w = walk_stopped w
+  ended_so : {c' e' : Bytes} {t' : List ℕ} (r : Walked) → WalksTree tree l c c' (rest e t) (rest e' t') r → WalkEnded tree e c' e' t' l r
+  ended_so (Ok s) w = walk_through w
+  ended_so (Err z) w = walk_stopped w
 
 -- The walk of a call
 
@@ -160,34 +156,23 @@ module _ {tree e c : Bytes} {t : List ℕ} {l : SessionLayout} (k : Checked tree
   pub layout_small : Small l
   layout_small = opened_small x
 
-  -- what starting the table area needs
-  pub start-needs : (length e ≤ session_size) × (HasNames e l.words_end × (globals_size ≤ length t))
-  start-needs = (omega (arith, k.lengths.session), (opened_names x, omega (arith, k.lengths.table)))
+  -- the session's names
+  pub names_stand : HasNames e l.words_end
+  names_stand = opened_names x
 
   module _ {end : ℕ} {t₁ : List ℕ} (ends : end ≡ after e l.words_end) (begun : Starts e l.words_end end t t₁) {s : Memory.State} (first : s ≡ start_state l) where
     begun_at : Starts e l.words_end l.names_end t t₁
     begun_at = subst (λ n. Starts e l.words_end n t t₁) (ends ∙ opened_after x) begun
 
-    -- what the walk needs
-    pub walk_needs : length t₁ ≡ length t → Some (ReadsTree tree) × (Ready c (Ok s) × FineState tree (rest e t₁) s)
-    walk_needs n = (
-      (well.statements, record { end = well.end; reads = well.same }),
-      (subst (λ s. Ready c (Ok s)) (sym first) (started_ready l k.lengths.code), subst (λ s. FineState tree (rest e t₁) s) (sym first) (started_fine x begun_at tree (n ∙ k.lengths.table))),
-    )
+    -- the table area stands well for the walk
+    pub walk_fine : length t₁ ≡ length t → FineState tree (rest e t₁) s
+    walk_fine n = rw first (started_fine x begun_at tree (n ∙ k.lengths.table))
 
     -- how it ended
-    pub walked : {c' e' : Bytes} {t' : List ℕ} (r : Walked) → Walks tree (ReadsTree tree) (walk_stmts machine) c c' (rest e t₁) (rest e' t') (Ok s) r → WalkEnded tree e c' e' t' l r
-    walked {c'} {e'} {t'} r w =
-        walk_ended x begun_at c k.lengths.code tree well.statements well.end well.same r
+    pub walk_ended : {c' e' : Bytes} {t' : List ℕ} (r : Walked) → Walks tree (ReadsTree tree) (walk_stmts machine) c c' (rest e t₁) (rest e' t') (Ok s) r → WalkEnded tree e c' e' t' l r
+    walk_ended {c'} {e'} {t'} r w =
+        ended_so x begun_at c k.lengths.code tree well.statements well.end well.same r
         (subst (λ s. Walks tree (ReadsTree tree) (walk_stmts machine) c c' (rest e t₁) (rest e' t') (Ok s) r) first w)
-
--- how it ended, by its answer
-module _ (tree e c' e' : Bytes) (t' : List ℕ) (l : SessionLayout) where
-  pub went_through : {r : Walked} {s : Memory.State} → WalkEnded tree e c' e' t' l r → r ≡ Ok s → Through tree e c' e' t' l s
-  went_through w h = subst (λ r. WalkEnded tree e c' e' t' l r) h w
-
-  pub went_back : {r : Walked} {z : Stopped} → WalkEnded tree e c' e' t' l r → r ≡ Err z → Halted tree e e' l z.refusal z.state
-  went_back w h = subst (λ r. WalkEnded tree e c' e' t' l r) h w
 
 -- zeros over what was added, and the refusal
 pub halted_result : (tree e : Bytes) {e' : Bytes} {l : SessionLayout} {q : Refusal} {s : Memory.State} → Halted tree e e' l q s → {b : Bytes} → b ≡ sets e' l.pool_end (replicate (s.pool_end - l.pool_end) 0)

@@ -14,7 +14,7 @@ ghost use Rattle.compiler.specs.Stage.{lent_of, Long, Lengths};
 
 use bytecode::{read_layout, words_stand};
 use definition::limit::{CODE_SIZE, SESSION_SIZE, TABLE_SIZE};
-use definition::{Reason, Refusal};
+use definition::{Reason, Refusal, refused};
 use session::words::begin_session;
 use translate::translate;
 
@@ -30,32 +30,20 @@ pub fn make_session_words(session: &mut [u8], names: &[u8]) -> Result<usize, Ref
     ensures { MakesWords session.old names.now result session.new }
 {
     if session.len() < SESSION_SIZE {
-        return Err(Refusal {
-            reason: Reason::ShortBuffer,
-            place: 0,
-        });
+        return refused(Reason::ShortBuffer, 0);
     }
     if words_stand(names) {
         begin_session(session, names);
         return Ok(SESSION_SIZE);
     }
-    Err(Refusal {
-        reason: Reason::BadWords,
-        place: 0,
-    })
+    refused(Reason::BadWords, 0)
 }
 
 // Whether all that is lent is as long as number 1 asks.
 pub fn long_enough(session: &[u8], code: &[u8], table: &[u32]) -> bool
     ensures { result ≡ both (leb code_size (length code.now)) (both (leb table_size (length table.now)) (leb session_size (length session.now))) }
 {
-    if code.len() < CODE_SIZE {
-        return false;
-    }
-    if table.len() < TABLE_SIZE {
-        return false;
-    }
-    SESSION_SIZE <= session.len()
+    CODE_SIZE <= code.len() && TABLE_SIZE <= table.len() && SESSION_SIZE <= session.len()
 }
 
 // Zeroes the code area.
@@ -85,16 +73,11 @@ fn compile_in(
     requires { Lengths session.old code.old table.old }
     ensures { record { answer = result; session = session.new; output = output.new } ≡ call_result tree.now session.old output.old }
 {
-    match read_layout(session) {
-        None => Err(Refusal {
-            reason: Reason::NoSession,
-            place: 0,
-        }),
-        Some(layout) => match tree::check(tree) {
-            Err(r) => Err(r),
-            Ok(()) => translate(session, tree, output, code, table, layout),
-        },
-    }
+    let Some(layout) = read_layout(session) else {
+        return refused(Reason::NoSession, 0);
+    };
+    tree::check(tree)?;
+    translate(session, tree, output, code, table, layout)
 }
 
 // Compiles a tree in buffers that are large enough, and zeroes the work areas.
@@ -134,8 +117,5 @@ pub fn compile(
     if long_enough(session, code, table) {
         return compile_lent(session, tree, output, code, table);
     }
-    Err(Refusal {
-        reason: Reason::ShortBuffer,
-        place: 0,
-    })
+    refused(Reason::ShortBuffer, 0)
 }

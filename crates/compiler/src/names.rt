@@ -19,16 +19,18 @@ fn append_name(session: &mut [u8], tree: &[u8], v: u32, at: usize) -> usize
     let place = v as usize;
     if place < IN_TREE {
         let n = length_at(session, place);
-        write::put_head(session, at, tag::NAME_BYTE, n);
+        write::put_head(session, at, tag::NAME, n);
         session.copy_within(place + 3..place + 3 + n, at + 3);
         return at + (3 + n);
     }
     let name = content_at(tree, place - IN_TREE);
-    write::put_field(session, at, tag::NAME_BYTE, name);
+    write::put_field(session, at, tag::NAME, name);
     at + (3 + name.len())
 }
 
 // Appends the names of the globals from an index on, behind the session's own. The offset behind them.
+// Kept: an index, since where the globals stand in the area is the symbol table's own: a slice of them would be a function more, with
+// two clauses on the index and a lemma on what stands in it.
 pub fn append_names(session: &mut [u8], tree: &[u8], table: &[u32], from: usize, at: usize) -> usize
     requires later_names { LaterNames tree.now (take at session.old) table.now from (get_or table.now 0 0) }
     requires table_in_bounds { at + length (later_fields tree.now (take at session.old) table.now from (get_or table.now 0 0)) ≤ length session.old }

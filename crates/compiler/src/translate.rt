@@ -3,11 +3,12 @@ ghost use Rattle.std.specs.Prelude.{◌≡◌, ◌≤◌, length};
 ghost use Rattle.compiler.specs.Result.{call_result};
 ghost use Rattle.compiler.specs.Stage.{Checked};
 ghost use Rattle.compiler.specs.Translated.{Small, start_state, image_length, Translated, final_result, WalkEnded};
+ghost use Rattle.scope.specs.Walked.{walked};
 
 use super::names::append_names;
 use bytecode::SessionLayout;
-use definition::{Reason, Refusal};
-use scope::{Chunk, State, Walked};
+use definition::{Reason, Refusal, refused};
+use scope::{Chunk, Scope, State};
 use session::image::write_image;
 use session::write_back;
 use session::zero::restore;
@@ -37,23 +38,21 @@ fn accept(
     session: &mut [u8],
     tree: &[u8],
     output: &mut [u8],
-    code: &[u8],
+    scope: &Scope<'_>,
     table: &[u32],
     layout: SessionLayout,
-    s: State,
     total: usize,
 ) -> Result<usize, Refusal>
-    requires translated { Translated tree.now code.now session.old table.now layout s }
-    requires total_value { total ≡ image_length layout s }
+    requires translated { Translated tree.now scope.now.code.now session.old table.now layout scope.now.state }
+    requires total_value { total ≡ image_length layout scope.now.state }
     requires total_in_bounds { total ≤ length output.old }
-    ensures { ((p : Translated tree.now code.now session.old table.now layout s) → record { answer = result; session = session.new; output = output.new } ≡ final_result p output.old) }
+    ensures { ((p : Translated tree.now scope.now.code.now session.old table.now layout scope.now.state) → record { answer = result; session = session.new; output = output.new } ≡ final_result p output.old) }
 {
-    let chunk = s.chunk;
-    let len = chunk.len as usize;
+    let len = scope.state.chunk.len as usize;
     let names_end = layout.names_end;
     let from = names_end + 3;
-    let to = s.pool_end as usize;
-    write_image(output, &code[..len], &session[from..to]);
+    let to = scope.state.pool_end as usize;
+    write_image(output, &scope.code[..len], &session[from..to]);
     let end = append_names(session, tree, table, layout.names, names_end);
     let start = 6 + len;
     write_back(session, layout.words_end, end, &output[start..total]);
@@ -65,40 +64,37 @@ fn finish(
     session: &mut [u8],
     tree: &[u8],
     output: &mut [u8],
-    code: &[u8],
+    scope: &Scope<'_>,
     table: &[u32],
     layout: SessionLayout,
-    s: State,
 ) -> Result<usize, Refusal>
-    requires { Translated tree.now code.now session.old table.now layout s }
-    ensures { ((p : Translated tree.now code.now session.old table.now layout s) → record { answer = result; session = session.new; output = output.new } ≡ final_result p output.old) }
+    requires { Translated tree.now scope.now.code.now session.old table.now layout scope.now.state }
+    ensures { ((p : Translated tree.now scope.now.code.now session.old table.now layout scope.now.state) → record { answer = result; session = session.new; output = output.new } ≡ final_result p output.old) }
 {
-    let chunk = s.chunk;
-    let end = s.pool_end as usize;
-    let total = 6 + chunk.len as usize + (end - (layout.names_end + 3));
+    let end = scope.state.pool_end as usize;
+    let total = 6 + scope.state.chunk.len as usize + (end - (layout.names_end + 3));
     if output.len() < total {
         restore(session, layout.pool_end, end);
-        return Err(Refusal {
-            reason: Reason::OutputShort,
-            place: 0,
-        });
+        return refused(Reason::OutputShort, 0);
     }
-    accept(session, tree, output, code, table, layout, s, total)
+    accept(session, tree, output, scope, table, layout, total)
 }
 
 // The walk over a checked tree, from the session's names.
 fn walk_tree(
     tree: &[u8],
     session: &mut [u8],
-    code: &mut [u8],
+    scope: &mut Scope<'_>,
     table: &mut [u32],
     layout: SessionLayout,
-) -> Walked
-    requires { Checked tree.now session.old code.old table.old layout }
-    ensures { WalkEnded tree.now session.old code.new session.new table.new layout result }
+) -> Result<(), Refusal>
+    requires checked { Checked tree.now session.old scope.old.code.now table.old layout }
+    requires first { scope.old.state ≡ start_state layout }
+    ensures ended { WalkEnded tree.now session.old scope.new.code.now session.new table.new layout (walked result scope.new.state) }
+    ensures same { scope.new.code.ghost_name ≡ scope.old.code.ghost_name }
 {
     symbol_table::start(session, table, layout.words_end);
-    compile_tree(tree, session, code, table, start_state(layout))
+    compile_tree(tree, session, scope, table)
 }
 
 // Translates a checked tree. What a refused one added to the session is zeroed again.
@@ -113,11 +109,15 @@ pub fn translate(
     requires { Checked tree.now session.old code.old table.old layout }
     ensures { record { answer = result; session = session.new; output = output.new } ≡ call_result tree.now session.old output.old }
 {
-    match walk_tree(tree, session, code, table, layout) {
-        Err(z) => {
-            restore(session, layout.pool_end, z.state.pool_end as usize);
-            Err(z.refusal)
+    let mut scope = Scope {
+        code,
+        state: start_state(layout),
+    };
+    match walk_tree(tree, session, &mut scope, table, layout) {
+        Err(refusal) => {
+            restore(session, layout.pool_end, scope.state.pool_end as usize);
+            Err(refusal)
         }
-        Ok(s) => finish(session, tree, output, code, table, layout, s),
+        Ok(()) => finish(session, tree, output, &scope, table, layout),
     }
 }

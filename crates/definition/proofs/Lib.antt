@@ -13,8 +13,11 @@ pub mod Gives
 pub mod ReadWellFormed
 pub mod Steps
 pub mod Bytes
+pub mod Slices
 pub mod Items
 pub mod Fields
+pub mod Ends
+pub mod Passes
 pub mod Instructions
 pub mod Pools
 pub mod Sessions

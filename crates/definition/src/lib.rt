@@ -2,10 +2,11 @@
 // share.
 #![tactic(auto)]
 
+pub mod builtins;
 pub mod limit;
 pub mod operator;
 pub mod output;
 pub mod reason;
 pub mod tag;
 
-pub use reason::{Reason, Refusal};
+pub use reason::{Reason, Refusal, refused};

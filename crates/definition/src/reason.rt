@@ -1,6 +1,6 @@
 // Why a call was refused, and where.
 ghost use Rattle.std.specs.Prelude.{◌≡◌, ◌<◌};
-ghost use Rattle.definition.specs.Number.{number_of};
+ghost use Rattle.definition.specs.Number.{number_of, refusal};
 
 use std::error::Error;
 use std::fmt;
@@ -83,6 +83,13 @@ impl Reason {
     {
         self as u64
     }
+}
+
+// A call is refused for a reason, at a place.
+pub fn refused<T>(reason: Reason, place: usize) -> Result<T, Refusal>
+    ensures { result ≡ Err (refusal reason place) }
+{
+    Err(Refusal { reason, place })
 }
 
 impl fmt::Display for Reason {

@@ -1,54 +1,51 @@
-// The tags of fields, as specs/Tag.antt has them: those of a tree as numbers to go by, those of sessions and images as bytes.
+// The tags of fields, as specs/Tag.antt has them.
 // Kept: named numbers, no enum: trees, sessions and images that callers lend hold any byte, and functions take it as it stands.
 
 // A tree: statements.
-pub const PROGRAM: usize = 0x10;
+pub const PROGRAM: u8 = 0x10;
 
 // Statements.
-pub const EXPR_STMT: usize = 0x11;
+pub const EXPR_STMT: u8 = 0x11;
 
-pub const BLOCK: usize = 0x12;
+pub const BLOCK: u8 = 0x12;
 
-pub const LET: usize = 0x13;
+pub const LET: u8 = 0x13;
 
-pub const RETURN: usize = 0x14;
+pub const RETURN: u8 = 0x14;
 
 // Expressions.
-pub const IDENTIFIER: usize = 0x20;
+pub const IDENTIFIER: u8 = 0x20;
 
-pub const PREFIX: usize = 0x21;
+pub const PREFIX: u8 = 0x21;
 
-pub const INFIX: usize = 0x22;
+pub const INFIX: u8 = 0x22;
 
-pub const IF: usize = 0x23;
+pub const IF: u8 = 0x23;
 
-pub const FUNCTION: usize = 0x24;
+pub const FUNCTION: u8 = 0x24;
 
-pub const CALL: usize = 0x25;
+pub const CALL: u8 = 0x25;
 
-pub const INTEGER: usize = 0x26;
+pub const INTEGER: u8 = 0x26;
 
-pub const BOOLEAN: usize = 0x27;
+pub const BOOLEAN: u8 = 0x27;
 
-pub const STRING: usize = 0x28;
+pub const STRING: u8 = 0x28;
 
-pub const ARRAY: usize = 0x29;
+pub const ARRAY: u8 = 0x29;
 
-pub const INDEX: usize = 0x2a;
+pub const INDEX: u8 = 0x2a;
 
-pub const HASH: usize = 0x2b;
+pub const HASH: u8 = 0x2b;
 
-pub const MACRO: usize = 0x2c;
+pub const MACRO: u8 = 0x2c;
 
 // A name, parameters, an operator.
-pub const NAME: usize = 0x30;
+pub const NAME: u8 = 0x30;
 
-pub const PARAMS: usize = 0x31;
+pub const PARAMS: u8 = 0x31;
 
-pub const OPERATOR: usize = 0x32;
-
-// A name in a session.
-pub const NAME_BYTE: u8 = NAME as u8;
+pub const OPERATOR: u8 = 0x32;
 
 // A session's global names.
 pub const NAMES: u8 = 0x40;

@@ -8,7 +8,7 @@ use super::{after_at, content_at};
 
 // Whether two names are the same.
 // Kept: a loop with an index, tried otherwise: with `==` of slices, which is made for long ones, a call on names takes up to a sixth more
-// instructions, over `zip` 9 to 13 % more on chosen names, and the bar is 3 % (docs/PERFORMANCE.md, "The bar").
+// instructions, over `zip` 7 to 13 % more on chosen names, and the bar is 3 % (docs/PERFORMANCE.md, "The bar").
 pub fn same_name(x: &[u8], y: &[u8]) -> bool
     ensures { result ≡ same x.now y.now }
 {

@@ -5,7 +5,7 @@ ghost use Rattle.std.specs.Prelude.{◌≡◌, ◌*◌, ◌<◌};
 ghost use Rattle.frames.specs.Frames.{size_in_range, count_frames, place_in, find_frame, IsFrame, frame_refusal};
 
 use bytecode::check_image;
-use definition::{Reason, Refusal};
+use definition::{Reason, Refusal, refused};
 
 // The least and the greatest size of a frame.
 pub const LEAST_SIZE: usize = 16;
@@ -39,10 +39,7 @@ pub fn count_frames(image: &[u8], size: usize) -> Result<FrameCount, Refusal>
 {
     check_image(image)?;
     if !size_in_range(size) {
-        return Err(Refusal {
-            reason: Reason::BadSize,
-            place: 0,
-        });
+        return refused(Reason::BadSize, 0);
     }
     let len = image.len();
     Ok(FrameCount {
@@ -70,10 +67,7 @@ fn place_in(count: FrameCount, size: usize, index: usize) -> Result<FramePlace, 
             });
         }
     }
-    Err(Refusal {
-        reason: Reason::NoFrame,
-        place: 0,
-    })
+    refused(Reason::NoFrame, 0)
 }
 
 // Finds the frame of a number from 0 in an image: its offset and length; or 17, 23 or 24, in that order.

@@ -3,14 +3,13 @@ use Prim.Native.Nat.{ℕ, ◌+◌, ◌-◌, ◌≤◌, ◌<◌}
 use native.Mathlib.Omega.{arith}
 use mathlib.Core.Bool.{Bool}
 use mathlib.Core.List.{List, [], ◌∷◌}
-use mathlib.Core.Path.{◌≡◌, refl, sym, ap, subst, ◌∙◌}
+use mathlib.Core.Path.{◌≡◌, refl, sym, ap, subst, subst₂, ◌∙◌}
 use lib.Dec.{leb}
 use lib.ListN.{length, drop, replicate, length-replicate}
 use lib.Seq.{drop-drop}
 use borrow.Author.Tests.{le-leb, lt-leb}
 use Rattle.definition.specs.Basic.{Bytes, byte_at, pick}
 use Rattle.definition.specs.Number.{refusal, output_short}
-use Rattle.definition.specs.Field.{head}
 use Rattle.definition.specs.Valid.{AreBytes}
 use Rattle.definition.specs.Limit.{constants_limit}
 use Rattle.definition.specs.Tag.{tag_function_const}
@@ -22,14 +21,16 @@ use Rattle.opcode.specs.Decoding.{read_before, decode_answer, found as instructi
 use Rattle.opcode.specs.declared.Instruction.{Instruction}
 use Rattle.opcode.specs.declared.Decoded.{Decoded as ReadInstruction}
 use Rattle.listing.specs.Reads.{CodeAt, PoolAt, ImageAt}
-use Rattle.listing.proofs.Images.{parts}
+use Rattle.bytecode.specs.declared.span.Parts.{Parts}
+use Rattle.bytecode.specs.Parts.{Divides}
+use Rattle.listing.proofs.Images.{code_in, pool_in}
 use Rattle.listing.proofs.Items.{Reading, begins, ends, Next, next}
 use Rattle.listing.proofs.Lines.{whole-read}
 use Rattle.heights.specs.Judgement.{instructions, counted}
 use Rattle.heights.specs.Chunks.{Standing}
 use Rattle.heights.specs.Proposal.{Proposed, FlowSpot, FlowReady, ConstantFlow, PoolFlow, proposal_answer, proposal_size}
 use Rattle.opcode.proofs.Decoding.{before_within, answered, unanswered}
-use Rattle.heights.proofs.Whole.{image_short}
+use Rattle.heights.proofs.Whole.{image_short, code_short}
 use Rattle.heights.proofs.Judges.{standing_head, no_instructions, chunk, Turn}
 
 -- what stays from an index on stays from a later one on
@@ -196,29 +197,32 @@ main_counted : (m : Image) (cs : List Const) → length m.code ≤ counted m cs
 main_counted m [] = omega arith
 main_counted m (x ∷ cs) = let h = main_counted m cs in omega arith
 
-module _ (b : Bytes) (a : AreBytes b) {m : Image} (i : ImageAt b m) {len : ℕ} (e : len ≡ (head (byte_at b) 0).len) where
-  pub main_flow : (n : ℕ) → 65536 ≤ n → FlowReady (replicate n 0) b 3 (3 + len) 0
-  main_flow n h =
-      let k = parts b i e in
-      let s = image_short b a i e in
+module _ (b : Bytes) (a : AreBytes b) {m : Image} (i : ImageAt b m) {p : Parts} (d : Divides b p) where
+  pub main_flow : (n : ℕ) → 65536 ≤ n → {l : List ℕ} {count : ℕ} → l ≡ replicate n 0 → count ≡ 0 → FlowReady l p.code.bytes.now p.code.start p.code.end count
+  main_flow n h q z =
+      let s = code_short b a i d in
       record {
-        code = record { code = m.code; is = k.code };
-        room = omega (arith, length-replicate {A = ℕ} n 0, k.code.within);
-        short = omega (arith, k.code.within);
+        code = record { code = m.code; is = code_in b i d };
+        room = omega (arith, ap length q, length-replicate {A = ℕ} n 0);
+        short = omega arith;
         few = omega arith;
       }
 
-  pub pool_flow : (l : List ℕ) → 65536 ≤ length l → {n r : ℕ} {o o₁ : List ℕ} → Proposed n (3 + len) o r o₁ → PoolFlow l b (3 + len + 3) (length b) r
-  pool_flow l h p =
-      let k = parts b i e in
-      let s = image_short b a i e in
-      record { pool = record { pool = m.pool; is = k.pool }; room = omega arith; short = omega arith; few = omega (arith, p.few) }
+  pub pool_flow : (l : List ℕ) → 65536 ≤ length l → {n r : ℕ} {o o₁ : List ℕ} → Proposed n p.code.end o r o₁ → PoolFlow l p.pool.bytes.now p.pool.start p.pool.end r
+  pool_flow l h q =
+      let s = image_short b a i in
+      record {
+        pool = record { pool = m.pool; is = pool_in b i d };
+        room = omega (arith, d.last);
+        short = omega (arith, d.last);
+        few = omega (arith, d.behind, d.next, q.few);
+      }
 
   -- main, then the pool
-  pub image_proposed : {end r₁ r₂ : ℕ} {o o₁ o₂ : List ℕ} → Proposed (0 + length m.code) end o r₁ o₁ → Proposed (counted m m.pool) (length b) o₁ r₂ o₂ → Proposed (counted m m.pool) (length b) o r₂ o₂
-  image_proposed {r₁ = r₁} {r₂} {o} {o₁} p q =
+  pub image_proposed : {end r₁ r₂ : ℕ} {o o₁ o₂ : List ℕ} → Proposed (0 + length m.code) end o r₁ o₁ → Proposed (counted m m.pool) p.pool.end o₁ r₂ o₂ → Proposed (counted m m.pool) (length b) o r₂ o₂
+  image_proposed {r₁ = r₁} {r₂} {o} {o₁} f q =
       let h = main_counted m m.pool in
-      record { many = q.many; few = q.few; rest = q.rest ∙ stays_later o₁ o r₁ r₂ (omega (arith, p.many, q.many)) p.rest }
+      record { many = q.many; few = omega (arith, q.few, d.last); rest = q.rest ∙ stays_later o₁ o r₁ r₂ (omega (arith, f.many, q.many)) f.rest }
 
 -- The answer
 
@@ -237,3 +241,10 @@ module _ (b : Bytes) {m : Image} (i : ImageAt b m) {count : ℕ} (c : count ≡ 
   -- room for all
   pub proposal_fits : count ≤ room → (Ok count ≡ proposal_answer (read_image b) room) × (proposal_size (read_image b) room ≡ count)
   proposal_fits h = let t = by_test (le-leb (counted m m.pool) room (omega arith)) in (ap Ok c ∙ sym t.0, t.1 ∙ sym c)
+
+-- the loops at the same offset, after as many
+pub flow_at : {b : Bytes} {start end first : ℕ} {o₀ l₀ o l : List ℕ} {at at₁ k k₁ : ℕ} → FlowLoop b start end first o₀ l₀ o l at k → at ≡ at₁ → k ≡ k₁ → FlowLoop b start end first o₀ l₀ o l at₁ k₁
+flow_at {b} {start} {end} {first} {o₀} {l₀} {o} {l} p e f = subst₂ (FlowLoop b start end first o₀ l₀ o l) e f p
+
+pub pool_at : {b : Bytes} {start end first : ℕ} {o₀ l₀ o l : List ℕ} {at at₁ k : ℕ} → PoolLoop b start end first o₀ l₀ o l at k → at ≡ at₁ → PoolLoop b start end first o₀ l₀ o l at₁ k
+pool_at {b} {start} {end} {first} {o₀} {l₀} {o} {l} {k = k} p e = subst (λ at. PoolLoop b start end first o₀ l₀ o l at k) e p

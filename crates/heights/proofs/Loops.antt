@@ -216,3 +216,7 @@ module _ (b : Bytes) (start end : ℕ) (hs : List ℕ) (first : ℕ) where
                 small = small_step p.state.marks (size_of p.code) found.x (length p.code) p.small;
                 long = n ∙ p.long;
               }
+
+-- the loop at the same offset
+pub pass_at : {b : Bytes} {start end : ℕ} {hs : List ℕ} {first : ℕ} {l₀ l : List ℕ} {at at₁ k top : ℕ} → PassLoop b start end hs first l₀ l at k top → at ≡ at₁ → PassLoop b start end hs first l₀ l at₁ k top
+pass_at {b} {start} {end} {hs} {first} {l₀} {l} {k = k} {top = top} p e = subst (λ at. PassLoop b start end hs first l₀ l at k top) e p

@@ -2,7 +2,7 @@
 use Prim.Native.Nat.{ℕ, suc, ◌+◌, ◌≤◌}
 use native.Mathlib.Omega.{arith}
 use mathlib.Core.List.{List, [], ◌∷◌, ◌++◌}
-use mathlib.Core.Path.{◌≡◌, refl, sym, ap, ◌∙◌}
+use mathlib.Core.Path.{◌≡◌, refl, sym, ap, subst₂, ◌∙◌}
 use lib.ListN.{length, set, length-append}
 use lib.Seq.{sets}
 use Rattle.definition.specs.Basic.{Bytes, byte_at}
@@ -177,3 +177,7 @@ module _ (b : Bytes) (start end : ℕ) (hs o₀ l₀ : List ℕ) (p₀ : Progres
                 same_output = g ∙ i.same_output;
                 so_far = λ m o' s. more t.x (i.so_far m o' s) (sym j.answers ∙ e) j.stores;
               }
+
+-- the loop at the same offset, after as many
+pub pool_at : {b : Bytes} {start end : ℕ} {hs o₀ l₀ : List ℕ} {p₀ : Progress} {o l : List ℕ} {at at₁ index index₁ : ℕ} {p : Progress} → PoolLoop b start end hs o₀ l₀ p₀ o l at index p → at ≡ at₁ → index ≡ index₁ → PoolLoop b start end hs o₀ l₀ p₀ o l at₁ index₁ p
+pool_at {b} {start} {end} {hs} {o₀} {l₀} {p₀} {o} {l} {p = p} i e f = subst₂ (λ at k. PoolLoop b start end hs o₀ l₀ p₀ o l at k p) e f i

@@ -4,15 +4,16 @@ use native.Mathlib.Omega.{arith}
 use mathlib.Core.List.{List, [], ◌∷◌}
 use mathlib.Core.Path.{◌≡◌, refl, sym, ap, ◌∙◌}
 use lib.ListN.{length, replicate, length-replicate}
-use Rattle.definition.specs.Basic.{Bytes, byte_at}
+use Rattle.definition.specs.Basic.{Bytes}
 use Rattle.definition.specs.Limit.{image_limit}
-use Rattle.definition.specs.Field.{head}
 use Rattle.definition.specs.Bytecode.{Const, Image}
 use Rattle.definition.specs.Valid.{AreBytes}
 use Rattle.definition.proofs.Images.{write-image}
 use Rattle.definition.proofs.Places.{image_within}
 use Rattle.listing.specs.Reads.{ImageAt}
-use Rattle.listing.proofs.Images.{parts}
+use Rattle.bytecode.specs.declared.span.Parts.{Parts}
+use Rattle.bytecode.specs.Parts.{Divides}
+use Rattle.listing.proofs.Images.{parts, code_in, pool_in}
 use Rattle.heights.specs.declared.chunk.Kind.TheVariants.{Main}
 use Rattle.heights.specs.Pass.{Top, top_of, Verdict, also, judged}
 use Rattle.heights.specs.Marks.{ChunkReady}
@@ -32,76 +33,78 @@ judged_main hs m = refl
 abbrev none : Progress
 none = record { chunks = 0; heights = 0 }
 
-module _ (b : Bytes) (a : AreBytes b) {m : Image} (i : ImageAt b m) {len : ℕ} (e : len ≡ (head (byte_at b) 0).len) where
+module _ (b : Bytes) (a : AreBytes b) {m : Image} (i : ImageAt b m) where
   -- a sound image is short
   pub image_short : length b ≤ image_limit
   image_short = let w = write-image b a i.reads in omega (arith, image_within m w.sound, ap length w.bytes)
 
-  -- main can be judged
-  pub main_ready : (n : ℕ) → 65536 ≤ n → ChunkReady (replicate n 0) b 3 (3 + len) × (0 < 131072)
-  main_ready n h =
-      let k = parts b i e in
-      let s = image_short in (
-        record {
-          code = record { code = m.code; is = k.code };
-          room = omega (arith, length-replicate {A = ℕ} n 0, k.code.within);
-          short = omega (arith, k.code.within);
-          blank = record { zero = λ j _. one_element 0 n j };
-        },
-        omega arith,
-      )
+  module _ {p : Parts} (d : Divides b p) where
+    -- and so is main's code
+    pub code_short : p.code.end ≤ image_limit
+    code_short = omega (arith, image_short, (parts b i refl).code.within, d.behind)
 
-  module _ (hs out : List ℕ) {r : Option Progress} {out₁ l : List ℕ} (j : Judges (3 + len) (top_answer (top_of hs Main 0 m.code) none (length m.code)) (top_into (top_of hs Main 0 m.code) 0 out) r out₁ l) where
-    -- main fails
-    pub main_fails : r ≡ None → {o : List ℕ} → PoolJudges hs m m.pool out (Err 0) o
-    main_fails f =
-        let d = all m.pool (first (top_of hs Main 0 m.code) refl (sym j.answers ∙ f)) in
-        record { answers = sym (ap pool_answer d); stores = λ ns q. never (sym d ∙ q) }
-      where
-        first : (t : Top) → top_of hs Main 0 m.code ≡ t → top_answer t none (length m.code) ≡ None → judged hs m [] ≡ Verdict.fails 0
-        first (Top.top n) g q = not_fails q
-        first Top.fails g q = judged_main hs m ∙ ap (λ t. also t 0 []) g
+    -- main can be judged
+    pub main_ready : (n : ℕ) → 65536 ≤ n → {l : List ℕ} → l ≡ replicate n 0 → ChunkReady l p.code.bytes.now p.code.start p.code.end × (0 < 131072)
+    main_ready n h q = (
+      record {
+        code = record { code = m.code; is = code_in b i d };
+        room = omega (arith, ap length q, length-replicate {A = ℕ} n 0, code_short);
+        short = omega (arith, code_short);
+        blank = record { zero = λ j _. rw q (one_element 0 n j) };
+      },
+      omega arith,
+    )
 
-        all : (cs : List Const) → judged hs m [] ≡ Verdict.fails 0 → judged hs m cs ≡ Verdict.fails 0
-        all [] q = q
-        all (x ∷ cs) q = judged_failed hs m x cs (all cs q)
-
-        never : {ns : List ℕ} {A : Type 0} → Verdict.fails 0 ≡ Verdict.tops ns → A
-        never e = let z : ◌≡◌ {A = ℕ} 0 1 = cc in absurd (omega arith)
-
-    module _ {p : Progress} (f : r ≡ Some p) where
-      -- main passes
-      pub main_passes : SoFar hs m [] out out₁ p
-      main_passes = go (top_of hs Main 0 m.code) refl (sym j.answers ∙ f) j.stores
+    module _ (hs out : List ℕ) {r : Option Progress} {out₁ l : List ℕ} (j : Judges p.code.end (top_answer (top_of hs Main 0 m.code) none (length m.code)) (top_into (top_of hs Main 0 m.code) 0 out) r out₁ l) where
+      -- main fails
+      pub main_fails : r ≡ None → {o : List ℕ} → PoolJudges hs m m.pool out (Err 0) o
+      main_fails f =
+          let d = all m.pool (first (top_of hs Main 0 m.code) refl (sym j.answers ∙ f)) in
+          record { answers = sym (ap pool_answer d); stores = λ ns q. never (sym d ∙ q) }
         where
-          go : (t : Top) → top_of hs Main 0 m.code ≡ t → top_answer t none (length m.code) ≡ Some p → out₁ ≡ top_into t 0 out → SoFar hs m [] out out₁ p
-          go (Top.top n) g q s =
-              let i : ◌≡◌ {A = Progress} (record { chunks = 0 + 1; heights = 0 + length m.code }) p = cc in
-              record {
-                tops = n ∷ [];
-                passed = judged_main hs m ∙ ap (λ t. also t 0 []) g;
-                chunks = omega (arith, ap (λ (p : Progress). p.chunks) i);
-                heights = omega (arith, ap (λ (p : Progress). p.heights) i);
-                stored = s;
-              }
-          go Top.fails g q s = not_on q
+          first : (t : Top) → top_of hs Main 0 m.code ≡ t → top_answer t none (length m.code) ≡ None → judged hs m [] ≡ Verdict.fails 0
+          first (Top.top n) g q = not_fails q
+          first Top.fails g q = judged_main hs m ∙ ap (λ t. also t 0 []) g
 
-      -- and the pool can be judged
-      pub pool_ready : (n : ℕ) → 65536 ≤ n → length l ≡ length {A = ℕ} (replicate n 0) → PoolReady l b (3 + len + 3) (length b) p
-      pool_ready n h q =
-          let k = parts b i e in
-          let s = image_short in
-          record {
-            pool = record { pool = m.pool; is = k.pool };
-            room = omega (arith, length-replicate {A = ℕ} n 0);
-            short = omega arith;
-            few = omega (arith, main_passes.chunks, one main_passes.passed);
-            blank = blank_later (omega arith) (j.blank p f);
-          }
-        where
-          one : {ns : List ℕ} → judged hs m [] ≡ Verdict.tops ns → length ns ≡ 1
-          one {ns} g = go (top_of hs Main 0 m.code) (sym (judged_main hs m) ∙ g)
-            where
-              go : (t : Top) → also t 0 [] ≡ Verdict.tops ns → length ns ≡ 1
-              go (Top.top n) q = let i : n ∷ [] ≡ ns = cc in sym (ap length i)
-              go Top.fails q = let z : ◌≡◌ {A = ℕ} 0 1 = cc in absurd (omega arith)
+          all : (cs : List Const) → judged hs m [] ≡ Verdict.fails 0 → judged hs m cs ≡ Verdict.fails 0
+          all [] q = q
+          all (x ∷ cs) q = judged_failed hs m x cs (all cs q)
+
+          never : {ns : List ℕ} {A : Type 0} → Verdict.fails 0 ≡ Verdict.tops ns → A
+          never e = let z : ◌≡◌ {A = ℕ} 0 1 = cc in absurd (omega arith)
+
+      module _ {p₁ : Progress} (f : r ≡ Some p₁) where
+        -- main passes
+        pub main_passes : SoFar hs m [] out out₁ p₁
+        main_passes = go (top_of hs Main 0 m.code) refl (sym j.answers ∙ f) j.stores
+          where
+            go : (t : Top) → top_of hs Main 0 m.code ≡ t → top_answer t none (length m.code) ≡ Some p₁ → out₁ ≡ top_into t 0 out → SoFar hs m [] out out₁ p₁
+            go (Top.top n) g q s =
+                let i : ◌≡◌ {A = Progress} (record { chunks = 0 + 1; heights = 0 + length m.code }) p₁ = cc in
+                record {
+                  tops = n ∷ [];
+                  passed = judged_main hs m ∙ ap (λ t. also t 0 []) g;
+                  chunks = omega (arith, ap (λ (p : Progress). p.chunks) i);
+                  heights = omega (arith, ap (λ (p : Progress). p.heights) i);
+                  stored = s;
+                }
+            go Top.fails g q s = not_on q
+
+        -- and the pool can be judged
+        pub pool_ready : (n : ℕ) → 65536 ≤ n → length l ≡ length {A = ℕ} (replicate n 0) → PoolReady l p.pool.bytes.now p.pool.start p.pool.end p₁
+        pool_ready n h q =
+            let s = image_short in
+            record {
+              pool = record { pool = m.pool; is = pool_in b i d };
+              room = omega (arith, length-replicate {A = ℕ} n 0, d.last);
+              short = omega (arith, d.last);
+              few = omega (arith, d.next, main_passes.chunks, one main_passes.passed);
+              blank = blank_later (omega (arith, d.behind, d.next)) (j.blank p₁ f);
+            }
+          where
+            one : {ns : List ℕ} → judged hs m [] ≡ Verdict.tops ns → length ns ≡ 1
+            one {ns} g = go (top_of hs Main 0 m.code) (sym (judged_main hs m) ∙ g)
+              where
+                go : (t : Top) → also t 0 [] ≡ Verdict.tops ns → length ns ≡ 1
+                go (Top.top n) q = let i : n ∷ [] ≡ ns = cc in sym (ap length i)
+                go Top.fails q = let z : ◌≡◌ {A = ℕ} 0 1 = cc in absurd (omega arith)

@@ -1,5 +1,6 @@
-// One forward pass over a chunk. A mark says what arrives at an offset of the image: 0 nothing, 1 no way from the chunk's start, h + 2 the height h.
-// Kept: marks are numbers: an enum of the three takes eight bytes for four, and calls 256 KB of stack more than include/monkey.h promises.
+// One forward pass over a chunk. A mark says what arrives at an offset of the image: nothing, no way from the chunk's start, or GROUND + h: the height h.
+// Kept: marks are numbers: an enum of the three takes eight bytes for four, and calls 256 KB of stack more than include/monkey.h promises; a struct
+// of one number would be another type in the calls that C's functions and `trial` make, and order and sums are what marks are for.
 ghost use Rattle.std.specs.Prelude.{true, ◌≡◌, ℕ, ◌+◌, ◌-◌, ◌<◌, ◌≤◌, leb, ltb, length, get_or};
 ghost use Rattle.definition.specs.Basic.{pick, both};
 ghost use Rattle.definition.specs.Effect.{takes as taken};
@@ -13,6 +14,15 @@ ghost use Rattle.heights.specs.Lent.{Keeps};
 use crate::effect::{falls, gives, leaps, takes};
 use bytecode::Span;
 use opcode::Instruction;
+
+// The mark where nothing arrives.
+pub const NOTHING: u32 = 0;
+
+// The mark where only what has no way from the chunk's start arrives.
+pub const NO_WAY: u32 = 1;
+
+// The mark where height 0 arrives, as at a chunk's start.
+pub const GROUND: u32 = 2;
 
 // A chunk that passes: its greatest height, and how many heights were read so far.
 #[derive(Clone, Copy)]
@@ -34,8 +44,8 @@ impl Kind {
         ensures { result ≡ lastly self }
     {
         match self {
-            Kind::Main => 2,
-            Kind::Function => 1,
+            Kind::Main => GROUND,
+            Kind::Function => NO_WAY,
         }
     }
 }
@@ -44,7 +54,7 @@ impl Kind {
 fn agree(a: u32, b: u32) -> bool
     ensures { result ≡ agreeing a b }
 {
-    a <= 1 || b <= 1 || a == b
+    a <= NO_WAY || b <= NO_WAY || a == b
 }
 
 // Let a level arrive at an offset; whether it agrees with what arrived before.
@@ -62,7 +72,7 @@ fn arrive(marks: &mut [u32], at: usize, level: u32) -> bool
 fn fits(i: Instruction, level: u32, offered: u32) -> bool
     ensures { result ≡ fitting (instr_of i) level offered }
 {
-    level <= 1 || level - 2 == offered && takes(i) <= level - 2
+    level <= NO_WAY || level - GROUND == offered && takes(i) <= level - GROUND
 }
 
 // Whether nothing arrives at the operands of an instruction.
@@ -70,7 +80,7 @@ fn free(marks: &[u32], at: usize, width: usize) -> bool
     requires { at + width < length marks.now }
     ensures { result ≡ clear (λ k. get_or marks.now k 0) at width }
 {
-    marks[at + 1..at + 1 + width].iter().all(|m| *m == 0)
+    marks[at + 1..at + 1 + width].iter().all(|m| *m == NOTHING)
 }
 
 // What arrives behind an instruction.
@@ -78,8 +88,8 @@ fn behind(i: Instruction, level: u32) -> u32
     requires { (level ≤ 100000) × (1 < level → 2 + taken (instr_of i) ≤ level) }
     ensures { result ≡ after (instr_of i) level }
 {
-    if level <= 1 {
-        1
+    if level <= NO_WAY {
+        NO_WAY
     } else {
         level + gives(i.op) - takes(i)
     }
@@ -108,7 +118,7 @@ pub fn fall(marks: &mut [u32], goes: bool, next: usize, level: u32) -> bool
 pub fn height(level: u32) -> u32
     ensures { result ≡ level - 2 }
 {
-    level.saturating_sub(2)
+    level.saturating_sub(GROUND)
 }
 
 // What the check of a chunk is lent: the marks, and the code that it goes over.
@@ -186,7 +196,7 @@ pub fn check_chunk(
     requires { ChunkReady marks.old code.bytes.now code.start code.end }
     ensures { (c : Code) → CodeIn code.entry c → (kind : Kind) → last ≡ lastly kind → ChunkEnds heights.now kind first code.entry.end c result marks.new }
 {
-    marks[code.start] = 2;
+    marks[code.start] = GROUND;
     let chunk = pass(marks, code, heights, first)?;
     if last < marks[code.end] {
         return None;

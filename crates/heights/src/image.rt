@@ -8,10 +8,9 @@ ghost use Rattle.heights.specs.Chunks.{top_answer, top_into, constant_answer, co
 ghost use Rattle.heights.specs.Lent.{Lent};
 
 use crate::chunk::{Kind, check_chunk};
-use bytecode::Span;
+use bytecode::{Parts, Span};
 use definition::output::store;
 use definition::tag;
-use field::length_at;
 
 // How far the chunks were judged: how many passed, and how many heights were read.
 #[derive(Clone, Copy)]
@@ -81,23 +80,13 @@ impl<'a> Judging<'a> {
         ensures judges { (m : Image) → ImageAt image.now m → PoolJudges self.old.heights.now m m.pool self.old.output.now result self.new.output.now }
         ensures lent { Lent self.old self.new }
     {
-        let end = 3 + length_at(image, 0);
+        let Parts { code, pool } = Parts::of(image);
         let none = Progress {
             chunks: 0,
             heights: 0,
         };
-        let code = Span {
-            bytes: image,
-            start: 3,
-            end,
-        };
         let Some(main) = self.judge_chunk(code, none, Kind::Main) else {
             return Err(0);
-        };
-        let pool = Span {
-            bytes: image,
-            start: end + 3,
-            end: image.len(),
         };
         self.judge_pool(pool, main)
     }

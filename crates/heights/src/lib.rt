@@ -12,7 +12,7 @@ ghost use Rattle.heights.specs.Pass.{heights_answer, heights_into};
 ghost use Rattle.heights.specs.Proposal.{proposal_answer, proposal_size};
 
 use bytecode::check_image;
-use definition::{Reason, Refusal};
+use definition::{Reason, Refusal, refused};
 use image::judge;
 use propose::propose;
 
@@ -24,16 +24,10 @@ pub fn check_heights(image: &[u8], heights: &[u32], output: &mut [u32]) -> Resul
 {
     check_image(image)?;
     match judge(&mut output[..0], image, heights) {
-        Err(place) => Err(Refusal {
-            reason: Reason::BadHeights,
-            place,
-        }),
+        Err(place) => refused(Reason::BadHeights, place),
         Ok(count) => {
             if output.len() < count {
-                return Err(Refusal {
-                    reason: Reason::OutputShort,
-                    place: 0,
-                });
+                return refused(Reason::OutputShort, 0);
             }
             let _ = judge(output, image, heights);
             Ok(count)
@@ -50,10 +44,7 @@ pub fn propose_heights(image: &[u8], heights: &mut [u32]) -> Result<usize, Refus
     check_image(image)?;
     let count = propose(&mut heights[..0], image);
     if heights.len() < count {
-        return Err(Refusal {
-            reason: Reason::OutputShort,
-            place: 0,
-        });
+        return refused(Reason::OutputShort, 0);
     }
     propose(heights, image);
     Ok(count)

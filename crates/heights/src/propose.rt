@@ -7,19 +7,18 @@ ghost use Rattle.heights.specs.Chunks.{Standing};
 ghost use Rattle.heights.specs.Proposal.{Proposed, FlowSpot, FlowReady, ConstantFlow, PoolFlow};
 ghost use Rattle.heights.specs.Lent.{Lends};
 
-use crate::chunk::{fall, height, leap};
+use crate::chunk::{GROUND, NO_WAY, fall, height, leap};
 use crate::effect::{falls, gives, leaps, takes};
-use bytecode::Span;
+use bytecode::{Parts, Span};
 use definition::output::store;
 use definition::tag;
-use field::length_at;
 use opcode::Instruction;
 
 // What arrives behind an instruction, as if there were no way to it where it takes more than is there.
 fn flow(i: Instruction, level: u32) -> u32 {
     let taken = takes(i);
-    if level <= 1 || 100000 < level || level - 2 < taken {
-        1
+    if level <= NO_WAY || 100000 < level || level - GROUND < taken {
+        NO_WAY
     } else {
         level - taken + gives(i.op)
     }
@@ -57,7 +56,7 @@ impl<'a> Proposer<'a> {
         ensures proposes { (c : Code) → CodeIn code.entry c → Proposed (self.old.count + length c) code.entry.end self.old.heights.now self.new.count self.new.heights.now }
         ensures lent { Lends self.old self.new }
     {
-        self.marks[code.start] = 2;
+        self.marks[code.start] = GROUND;
         for (at, i, next) in code.instructions() {
             self.propose_one(code, at, next, i);
         }
@@ -96,18 +95,8 @@ impl<'a> Proposer<'a> {
         ensures proposes { (m : Image) → ImageAt image.now m → Proposed (counted m m.pool) (length image.now) self.old.heights.now self.new.count self.new.heights.now }
         ensures same { self.new.heights.ghost_name ≡ self.old.heights.ghost_name }
     {
-        let end = 3 + length_at(image, 0);
-        let code = Span {
-            bytes: image,
-            start: 3,
-            end,
-        };
+        let Parts { code, pool } = Parts::of(image);
         self.propose_chunk(code);
-        let pool = Span {
-            bytes: image,
-            start: end + 3,
-            end: image.len(),
-        };
         self.propose_pool(pool)
     }
 }

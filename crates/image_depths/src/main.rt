@@ -2,17 +2,16 @@
 // at index 4 of the pool. The heights are proposed here and then checked. A refusal is a sentence on standard error, and standard output stays empty.
 #![tactic(auto)]
 
-use bytecode::constants::Constants;
+use bytecode::{Parts, Span};
 use definition::tag;
-use field::length_at;
 use report::{print_in_heights, read_full};
 use std::io;
 
-// Writes the line of each function among the constants from an offset on, with the greatest heights in their order.
-fn print_functions(rt: &impl Print, image: &[u8], start: usize, tops: &[u32]) -> io::Result<()> {
+// Writes the line of each function among the constants of a pool, with the greatest heights in their order.
+fn print_functions(rt: &impl Print, pool: Span<'_>, tops: &[u32]) -> io::Result<()> {
     let mut tops = tops.iter();
-    for (index, (at, _)) in Constants::new(image, start, image.len()).enumerate() {
-        if image.get(at).copied() == Some(tag::FUNCTION_CONST) {
+    for (index, (at, _)) in pool.constants().enumerate() {
+        if pool.bytes.get(at).copied() == Some(tag::FUNCTION_CONST) {
             let Some(top) = tops.next() else {
                 return Ok(());
             };
@@ -31,7 +30,7 @@ fn print_depths(rt: &impl Print, image: &[u8], tops: &[u32]) -> io::Result<()> {
         return Ok(());
     }
     println!(rt; "main {main}")?;
-    print_functions(rt, image, 3 + length_at(image, 0) + 3, functions)
+    print_functions(rt, Parts::of(image).pool, functions)
 }
 
 // Checks the heights that were proposed. An image has at most 4,096 functions besides main.

@@ -19,6 +19,8 @@ use Rattle.definition.specs.Listing.{also, newline, code_lines, constant_lines, 
 use Rattle.definition.specs.declared.reason.Refusal.{Refusal}
 use Rattle.std.specs.Prelude.{Ok, Err, Result}
 use Rattle.session.proofs.Stores.{sets_over}
+use Rattle.bytecode.specs.declared.span.Parts.{Parts as Divided}
+use Rattle.bytecode.specs.Parts.{Divides}
 use Rattle.bytecode.specs.Checked.{constants}
 use Rattle.definition.proofs.Basic.{both_true}
 use Rattle.bytecode.proofs.Items.{ended, unlike}
@@ -26,7 +28,7 @@ use Rattle.bytecode.proofs.Fields.{main_content, pool_content, head_read, then_r
 use Rattle.listing.specs.declared.measure.MeasuredImage.{MeasuredImage}
 use Rattle.listing.specs.Measured.{image_measured}
 use Rattle.listing.specs.Put.{Puts, text_limit}
-use Rattle.listing.specs.Reads.{CodeAt, PoolAt, ImageAt, HasImage, pool_text}
+use Rattle.listing.specs.Reads.{CodeAt, PoolAt, CodeIn, PoolIn, ImageAt, HasImage, pool_text}
 use Rattle.listing.proofs.Lines.{code-size}
 
 -- nothing follows
@@ -108,6 +110,19 @@ module _ (b : Bytes) where
 
   pub parts : {m : Image} {len : ℕ} → ImageAt b m → len ≡ (head (byte_at b) 0).len → Parts m len
   parts {m} i e = subst (Parts m) (sym e) (image_parts i.reads).0
+
+  module _ {m : Image} (i : ImageAt b m) where
+    -- it has the head that its division reads
+    pub has_head : 3 ≤ length b
+    has_head = let k = parts i refl in omega (arith, k.code.within)
+
+    -- the parts that it is divided into
+    module _ {p : Divided} (d : Divides b p) where
+      pub code_in : CodeIn p.code m.code
+      code_in = rw (d.main, d.first, d.behind) (parts i refl).code
+
+      pub pool_in : PoolIn p.pool m.pool
+      pool_in = rw (d.constants, d.next, d.last) (parts i refl).pool
 
 -- main code's lines and the pool's
 pub listing_is : (m : Image) → (ascii "main" ++ also (decimal (size_of m.code)) ++ newline ++ code_lines m.code) ++ pool_text m.pool ≡ listing m

@@ -83,51 +83,55 @@ module _ (b : Bytes) (start end : ℕ) where
   code-begins o at h =
       record { code = []; reading = begins (read_instr (byte_at b)) end (end - start) start; order = h; size_is = omega arith; puts = none o at }
 
-  module _ {o₀ : Bytes} {at : ℕ} {o : Bytes} {to pos : ℕ} (l : CodeLoop o₀ at o to pos) where
-    pub code_ends : end ≤ pos → {c : Code} → CodeAt b start end c → Puts (per_byte * (end - start)) o₀ o at to (code_lines c)
-    code_ends h k =
-        let e : pos ≡ end = omega (arith, l.order) in
-        wider (reworded l.puts (ap code_lines (ends (read_instr (byte_at b)) end (end - start) start l.reading k.reads e))) (omega arith)
+module _ {b : Bytes} {start end : ℕ} {o₀ : Bytes} {at : ℕ} {o : Bytes} {to pos : ℕ} (l : CodeLoop b start end o₀ at o to pos) where
+  -- at the same offset
+  pub same : {pos₁ : ℕ} → pos ≡ pos₁ → CodeLoop b start end o₀ at o to pos₁
+  same e = subst (CodeLoop b start end o₀ at o to) e l
 
-    module _ (h : HasCode b start end) (before : pos < end) {r : Result Found Refusal} (t₀ : r ≡ decode_answer (read_before b pos end)) where
-      e : r ≡ decode_answer (read_instr (byte_at b) pos end)
-      e = t₀ ∙ ap decode_answer (before_within b pos end h.is.within)
+  pub code_ends : end ≤ pos → {c : Code} → CodeAt b start end c → Puts (per_byte * (end - start)) o₀ o at to (code_lines c)
+  code_ends h k =
+      let e : pos ≡ end = omega (arith, l.order) in
+      wider (reworded l.puts (ap code_lines (ends (read_instr (byte_at b)) end (end - start) start l.reading k.reads e))) (omega arith)
 
-      pub code_not_refused : {q : Refusal} → r ≡ Err q → ⊥
-      code_not_refused t = unanswered e (next (read_instr (byte_at b)) end (end - start) start l.reading h.is.reads (λ i. omega arith)).found t
+  module _ (h : HasCode b start end) (before : pos < end) {r : Result Found Refusal} (t₀ : r ≡ decode_answer (read_before b pos end)) where
+    e : r ≡ decode_answer (read_instr (byte_at b) pos end)
+    e = t₀ ∙ ap decode_answer (before_within b pos end h.is.within)
 
-      module _ {v : Found} (t : r ≡ Ok v) where
-        pub found : Next (read_instr (byte_at b)) end (end - start) start l.reading h.is.reads
-        found = next (read_instr (byte_at b)) end (end - start) start l.reading h.is.reads (λ i. omega arith)
+    pub code_not_refused : {q : Refusal} → r ≡ Err q → ⊥
+    code_not_refused t = unanswered e (next (read_instr (byte_at b)) end (end - start) start l.reading h.is.reads (λ i. omega arith)).found t
 
-        -- the instruction there
-        pub record Turn : Type 0 where
-          pub is : instr_of v.instruction ≡ found.x
-          pub known : v.instruction.op < 30
-          pub after_is : v.after ≡ found.next
-          pub sized : v.after ≡ pos + size found.x
-          pub within : v.after ≤ end
+    module _ {v : Found} (t : r ≡ Ok v) where
+      pub found : Next (read_instr (byte_at b)) end (end - start) start l.reading h.is.reads
+      found = next (read_instr (byte_at b)) end (end - start) start l.reading h.is.reads (λ i. omega arith)
 
-        pub code-turn : Turn
-        code-turn =
-            let w = whole-read (byte_at b) end pos found.x found.next found.found in
-            let a = answered e found.found t in
-            record {
-              is = a.0;
-              known = omega (arith, w.known, ap (λ (j : Instr). j.op) a.0);
-              after_is = a.1;
-              sized = a.1 ∙ w.after;
-              within = omega (arith, w.within, a.1);
-            }
+      -- the instruction there
+      pub record Turn : Type 0 where
+        pub is : instr_of v.instruction ≡ found.x
+        pub known : v.instruction.op < 30
+        pub after_is : v.after ≡ found.next
+        pub sized : v.after ≡ pos + size found.x
+        pub within : v.after ≤ end
 
-        pub code_again : {o₁ : Bytes} {to₁ : ℕ} → Puts per_byte o o₁ to to₁ (code_line (pos - start) (instr_of v.instruction)) → CodeLoop o₀ at o₁ to₁ v.after
-        code_again p =
-            let k = code-turn in
-            let s : pos - start ≡ size_of l.code = omega (arith, l.size_is) in
-            record {
-              code = found.x ∷ l.code;
-              reading = subst (λ n. Reading (read_instr (byte_at b)) end (end - start) start (found.x ∷ l.code) n) (sym k.after_is) found.reading;
-              order = k.within;
-              size_is = omega (arith, k.sized, l.size_is);
-              puts = wider (reworded (both l.puts p) (λ j. code_lines l.code ++ code_line (s j) (k.is j))) (omega (arith, k.sized, l.size_is));
-            }
+      pub code-turn : Turn
+      code-turn =
+          let w = whole-read (byte_at b) end pos found.x found.next found.found in
+          let a = answered e found.found t in
+          record {
+            is = a.0;
+            known = omega (arith, w.known, ap (λ (j : Instr). j.op) a.0);
+            after_is = a.1;
+            sized = a.1 ∙ w.after;
+            within = omega (arith, w.within, a.1);
+          }
+
+      pub code_again : {o₁ : Bytes} {to₁ : ℕ} → Puts per_byte o o₁ to to₁ (code_line (pos - start) (instr_of v.instruction)) → CodeLoop b start end o₀ at o₁ to₁ v.after
+      code_again p =
+          let k = code-turn in
+          let s : pos - start ≡ size_of l.code = omega (arith, l.size_is) in
+          record {
+            code = found.x ∷ l.code;
+            reading = subst (λ n. Reading (read_instr (byte_at b)) end (end - start) start (found.x ∷ l.code) n) (sym k.after_is) found.reading;
+            order = k.within;
+            size_is = omega (arith, k.sized, l.size_is);
+            puts = wider (reworded (both l.puts p) (λ j. code_lines l.code ++ code_line (s j) (k.is j))) (omega (arith, k.sized, l.size_is));
+          }

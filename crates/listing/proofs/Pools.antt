@@ -1,6 +1,6 @@
 -- The lines of a pool: a loop that puts a constant a turn.
 use Prim.Native.Nat.{ℕ, ◌+◌, ◌-◌, ◌*◌, ◌≤◌, ◌<◌}
-use mathlib.Core.Path.{◌≡◌, ◌∙◌, ap, sym, refl, subst}
+use mathlib.Core.Path.{◌≡◌, ◌∙◌, ap, sym, refl, subst, subst₂}
 use mathlib.Core.List.{List, [], ◌∷◌, ◌++◌}
 use native.Mathlib.Omega.{arith}
 use lib.ListN.{length}
@@ -38,45 +38,49 @@ module _ (b : Bytes) (start end : ℕ) where
         puts = none o at;
       }
 
-  module _ {o₀ : Bytes} {at : ℕ} {o : Bytes} {to pos count : ℕ} (l : PoolLoop o₀ at o to pos count) where
-    pub pool_ends : end ≤ pos → {cs : List Const} → PoolAt b start end cs → Puts (per_byte * (end - start)) o₀ o at to (constant_lines cs)
-    pool_ends h k =
-        let e : pos ≡ end = omega (arith, l.order) in
-        wider (reworded l.puts (ap constant_lines (ends (read_const (byte_at b)) end constants_limit start l.reading k.reads e))) (omega arith)
+module _ {b : Bytes} {start end : ℕ} {o₀ : Bytes} {at : ℕ} {o : Bytes} {to pos count : ℕ} (l : PoolLoop b start end o₀ at o to pos count) where
+  -- at the same offset, after as many constants
+  pub same : {pos₁ count₁ : ℕ} → pos ≡ pos₁ → count ≡ count₁ → PoolLoop b start end o₀ at o to pos₁ count₁
+  same e f = subst₂ (PoolLoop b start end o₀ at o to) e f l
 
-    module _ (h : HasPool b start end) (before : pos < end) where
-      pub found : Next (read_const (byte_at b)) end constants_limit start l.reading h.is.reads
-      found = next (read_const (byte_at b)) end constants_limit start l.reading h.is.reads (λ i. omega arith)
+  pub pool_ends : end ≤ pos → {cs : List Const} → PoolAt b start end cs → Puts (per_byte * (end - start)) o₀ o at to (constant_lines cs)
+  pool_ends h k =
+      let e : pos ≡ end = omega (arith, l.order) in
+      wider (reworded l.puts (ap constant_lines (ends (read_const (byte_at b)) end constants_limit start l.reading k.reads e))) (omega arith)
 
-      -- the constant there
-      pub record Turn : Type 0 where
-        pub constant : ConstantAt b pos end found.x
-        pub after_is : found.next ≡ pos + 3 + (head (byte_at b) pos).len
-        pub within : pos + 3 + (head (byte_at b) pos).len ≤ end
+  module _ (h : HasPool b start end) (before : pos < end) where
+    pub found : Next (read_const (byte_at b)) end constants_limit start l.reading h.is.reads
+    found = next (read_const (byte_at b)) end constants_limit start l.reading h.is.reads (λ i. omega arith)
 
-      pub pool-turn : Turn
-      pool-turn =
-          let e = const_end (byte_at b) pos end found.found in
-          let i = const_ends (byte_at b) pos end found.x found.next found.found in
-          record {
-            constant = record { within = h.is.within; reads = found.found ∙ ap (decoded found.x) e };
-            after_is = e;
-            within = omega arith;
-          }
+    -- the constant there
+    pub record Turn : Type 0 where
+      pub constant : ConstantAt b pos end found.x
+      pub after_is : found.next ≡ pos + 3 + (head (byte_at b) pos).len
+      pub within : pos + 3 + (head (byte_at b) pos).len ≤ end
 
-      pub pool_again : {o₁ o₂ : Bytes} {to₁ to₂ len : ℕ} → Puts 20 o o₁ to to₁ (decimal count)
-          → Puts (per_byte * (1 + (head (byte_at b) pos).len)) o₁ o₂ to₁ to₂ (constant_fields found.x) → len ≡ (head (byte_at b) pos).len
-          → PoolLoop o₀ at o₂ to₂ (pos + 3 + len) (count + 1)
-      pool_again {len = len} p q e =
-          let k = pool-turn in
-          let a : found.next ≡ pos + 3 + len = omega (arith, k.after_is) in
-          record {
-            pool = found.x ∷ l.pool;
-            reading = subst (λ n. Reading (read_const (byte_at b)) end constants_limit start (found.x ∷ l.pool) n) a found.reading;
-            order = omega (arith, k.within);
-            many = omega (arith, l.many);
-            counted = omega (arith, l.counted);
-            puts =
-                wider (reworded (both (both l.puts p) q) (ap (λ n. constant_lines l.pool ++ decimal n ++ constant_fields found.x) (sym l.counted)))
-                (omega (arith, l.many));
-          }
+    pub pool-turn : Turn
+    pool-turn =
+        let e = const_end (byte_at b) pos end found.found in
+        let i = const_ends (byte_at b) pos end found.x found.next found.found in
+        record {
+          constant = record { within = h.is.within; reads = found.found ∙ ap (decoded found.x) e };
+          after_is = e;
+          within = omega arith;
+        }
+
+    pub pool_again : {o₁ o₂ : Bytes} {to₁ to₂ len : ℕ} → Puts 20 o o₁ to to₁ (decimal count)
+        → Puts (per_byte * (1 + (head (byte_at b) pos).len)) o₁ o₂ to₁ to₂ (constant_fields found.x) → len ≡ (head (byte_at b) pos).len
+        → PoolLoop b start end o₀ at o₂ to₂ (pos + 3 + len) (count + 1)
+    pool_again {len = len} p q e =
+        let k = pool-turn in
+        let a : found.next ≡ pos + 3 + len = omega (arith, k.after_is) in
+        record {
+          pool = found.x ∷ l.pool;
+          reading = subst (λ n. Reading (read_const (byte_at b)) end constants_limit start (found.x ∷ l.pool) n) a found.reading;
+          order = omega (arith, k.within);
+          many = omega (arith, l.many);
+          counted = omega (arith, l.counted);
+          puts =
+              wider (reworded (both (both l.puts p) q) (ap (λ n. constant_lines l.pool ++ decimal n ++ constant_fields found.x) (sym l.counted)))
+              (omega (arith, l.many));
+        }

@@ -1,21 +1,17 @@
 -- What the reading that checks an image and counts its listing answers, from what the definition reads.
-use Rattle.std.specs.Prelude.{ℕ, ◌+◌, ◌≤◌, ◌<◌, ◌≡◌, List, length, get_or, Result, Ok, Err}
+use Rattle.std.specs.Prelude.{ℕ, ◌+◌, ◌≤◌, ◌<◌, ◌≡◌, List, length, Result, Ok, Err}
 use Rattle.definition.specs.Basic.{Bytes, byte_at}
 use Rattle.definition.specs.Number.{refusal, bad_image}
 use Rattle.definition.specs.Opcode.{Instr, width}
 use Rattle.definition.specs.Bytecode.{Code, Const, Image}
 use Rattle.definition.specs.Decode.{Decoded, decoded, malformed}
-use Rattle.definition.specs.Listing.{word, operand_fields, code_lines, constant_fields, constant_lines, listing}
+use Rattle.definition.specs.Listing.{operand_fields, code_lines, constant_fields, constant_lines, listing}
 use Rattle.definition.specs.declared.reason.Refusal.{Refusal}
 use Rattle.bytecode.specs.declared.Malformed.{Malformed}
 use Rattle.bytecode.specs.Checked.{wrong}
 use Rattle.listing.specs.declared.measure.Measured.{Measured}
 use Rattle.listing.specs.declared.measure.MeasuredPool.{MeasuredPool}
 use Rattle.listing.specs.declared.measure.MeasuredImage.{MeasuredImage}
-
--- a list is the table of the words' lengths
-pub record AreLengths (l : List ℕ) : Type 0 where
-  pub right : (o : ℕ) → o < 30 → get_or l o 0 ≡ length (word o)
 
 -- the operands of an instruction
 abbrev pub operands_of : Instr → Bytes

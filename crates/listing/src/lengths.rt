@@ -8,13 +8,13 @@ ghost use Rattle.definition.specs.Bytecode.{Const};
 ghost use Rattle.definition.specs.Listing.{word as word_of, code_line, constant_fields};
 ghost use Rattle.listing.specs.Put.{per_byte};
 ghost use Rattle.listing.specs.Reads.{function_head};
-ghost use Rattle.listing.specs.Measured.{AreLengths, InstrAt, operands_of};
+ghost use Rattle.listing.specs.Measured.{InstrAt, operands_of};
 
 use crate::text::integer;
 use field::{wide, word};
 
 // The length of the word of each instruction byte.
-pub const WORD_LENGTHS: [u8; 30] = [
+static WORD_LENGTHS: [u8; 30] = [
     8, 3, 3, 3, 3, 3, 4, 5, 5, 8, 11, 5, 4, 13, 4, 4, 9, 9, 5, 4, 5, 4, 11, 6, 8, 8, 10, 7, 7, 14,
 ];
 
@@ -65,28 +65,22 @@ fn operands_length(image: &[u8], at: usize, size: usize) -> usize
     }
 }
 
-// The length of the word of an instruction byte, by a table that is lent.
-fn word_length(lengths: &[u8; 30], op: u8) -> usize
-    requires { AreLengths lengths.now × (op < 30) }
+// The length of the word of an instruction byte.
+fn word_length(op: u8) -> usize
+    requires { op < 30 }
     ensures is { result ≡ length (word_of op) }
     ensures small { result < 256 }
 {
-    wide(lengths[wide(op)])
+    wide(WORD_LENGTHS[wide(op)])
 }
 
 // The length of the line of the instruction of `size` bytes at `at`, which has a position in its code.
-pub fn line_length(
-    lengths: &[u8; 30],
-    image: &[u8],
-    position: usize,
-    at: usize,
-    size: usize,
-) -> usize
-    requires { AreLengths lengths.now × InstrAt image.now at size }
+pub fn line_length(image: &[u8], position: usize, at: usize, size: usize) -> usize
+    requires { InstrAt image.now at size }
     ensures is { result ≡ length (code_line position (instr_at (byte_at image.now) at)) }
     ensures small { result ≤ per_byte }
 {
-    let before = padded_length(position) + 1 + word_length(lengths, image[at]);
+    let before = padded_length(position) + 1 + word_length(image[at]);
     before + operands_length(image, at, size) + 1
 }
 

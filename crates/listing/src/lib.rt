@@ -14,10 +14,9 @@ ghost use Rattle.definition.specs.Listing.{listing, list_answer, list_into};
 ghost use Rattle.listing.specs.Put.{text_limit, Puts};
 ghost use Rattle.listing.specs.Reads.{ImageAt, HasImage};
 
-use bytecode::Span;
+use bytecode::Parts;
 use code::list_code;
-use definition::{Reason, Refusal};
-use field::length_at;
+use definition::{Reason, Refusal, refused};
 use measure::measure_image;
 use pool::list_pool;
 use text::{put_bytes, put_field, put_newline};
@@ -27,22 +26,11 @@ fn put_listing(output: &mut [u8], image: &[u8], constants: usize) -> usize
     requires { HasImage image.now }
     ensures { (m : Image) → ImageAt image.now m → constants ≡ length m.pool → Puts text_limit output.old output.new 0 result (listing m) }
 {
-    let size = length_at(image, 0);
-    let end = 3 + size;
+    let Parts { code, pool } = Parts::of(image);
     let after_word = put_bytes(output, 0, b"main");
-    let after_size = put_field(output, after_word, size);
+    let after_size = put_field(output, after_word, code.end - code.start);
     let next = put_newline(output, after_size);
-    let code = Span {
-        bytes: image,
-        start: 3,
-        end,
-    };
     let after_code = list_code(output, next, code);
-    let pool = Span {
-        bytes: image,
-        start: end + 3,
-        end: image.len(),
-    };
     list_pool(output, after_code, pool, constants)
 }
 
@@ -52,17 +40,10 @@ pub fn list_image(image: &[u8], output: &mut [u8]) -> Result<usize, Refusal>
     ensures answers { result ≡ list_answer (read_image image.now) (length output.old) }
     ensures writes { output.new ≡ list_into (read_image image.now) output.old }
 {
-    match measure_image(image) {
-        Err(r) => Err(r),
-        Ok(sound) => {
-            if output.len() < sound.size {
-                return Err(Refusal {
-                    reason: Reason::OutputShort,
-                    place: 0,
-                });
-            }
-            put_listing(output, image, sound.constants);
-            Ok(sound.size)
-        }
+    let sound = measure_image(image)?;
+    if output.len() < sound.size {
+        return refused(Reason::OutputShort, 0);
     }
+    put_listing(output, image, sound.constants);
+    Ok(sound.size)
 }

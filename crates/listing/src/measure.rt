@@ -7,9 +7,7 @@ ghost use Rattle.bytecode.specs.Checked.{head_of, is_constant, constants, main_c
 ghost use Rattle.listing.specs.Put.{per_byte};
 ghost use Rattle.listing.specs.Measured.{Piece, code_measured, constant_measured, pool_measured, image_measured, text_of, pool_text_of};
 
-use crate::lengths::{
-    WORD_LENGTHS, decimal_length, function_length, integer_length, line_length, string_length,
-};
+use crate::lengths::{decimal_length, function_length, integer_length, line_length, string_length};
 use bytecode::{Form, Head, Malformed, head_where};
 use definition::{Refusal, limit, tag};
 use field::{wide, word};
@@ -43,14 +41,13 @@ fn measure_code(image: &[u8], start: usize, end: usize) -> Result<Measured, Malf
     ensures is { (len : ℕ) → end ≤ start + len → result ≡ code_measured (read_code (byte_at image.now) len start end) }
     ensures small { text_of result ≤ per_byte * (end - start) }
 {
-    let lengths = WORD_LENGTHS;
     // Kept: a `while`, since over `Instructions` the check of an image takes 4 to 6 % more instructions, and the bar is 3 %.
     let mut at = start;
     let mut text = 0;
     while at < end {
         match size_at(image, at, end) {
             Some(size) => {
-                text += line_length(&lengths, image, at - start, at, size);
+                text += line_length(image, at - start, at, size);
                 at += size;
             }
             None => return Err(Malformed { place: at }),

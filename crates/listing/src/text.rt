@@ -1,8 +1,6 @@
 // Text put into an output at an offset: stored where there is room, counted always. Each function answers the offset after its text.
-ghost use Rattle.std.specs.Prelude.{◌≡◌, [], ◌∷◌, ◌+◌, ◌-◌, ◌*◌, ◌≤◌, ◌<◌, length, replicate};
+ghost use Rattle.std.specs.Prelude.{◌≡◌, [], ◌∷◌, ◌+◌, ◌-◌, ◌*◌, ◌<◌, length, replicate};
 ghost use Rattle.std.specs.Int.{w64, cast_signed};
-ghost use Rattle.definition.specs.Basic.{byte_at};
-ghost use Rattle.definition.specs.Field.{bytes as bytes_at};
 ghost use Rattle.definition.specs.Text.{digit as digitOf, digits, decimal, padded, number, signed, hex_digit, hex};
 ghost use Rattle.definition.specs.Listing.{newline, also, hex_field};
 ghost use Rattle.listing.specs.Put.{Room, Puts};
@@ -76,16 +74,12 @@ fn put_zeros(output: &mut [u8], at: usize, n: usize) -> usize
     requires { Room 3 at }
     ensures { Puts 3 output.old output.new at result (replicate (4 - length (decimal n)) (digitOf 0)) }
 {
-    if n < 10 {
-        return put_bytes(output, at, b"000");
+    match n {
+        0..10 => put_bytes(output, at, b"000"),
+        10..100 => put_bytes(output, at, b"00"),
+        100..1000 => put_bytes(output, at, b"0"),
+        _ => at,
     }
-    if n < 100 {
-        return put_bytes(output, at, b"00");
-    }
-    if n < 1000 {
-        return put_bytes(output, at, b"0");
-    }
-    at
 }
 
 // Puts a number in decimal with at least four digits.
@@ -104,14 +98,6 @@ pub fn put_field(output: &mut [u8], at: usize, n: usize) -> usize
 {
     let next = put(output, at, b' ');
     put_decimal(output, next, n)
-}
-
-// A number of eight bytes, high byte first.
-pub fn eight_bytes(image: &[u8], at: usize) -> usize
-    requires { at + 8 ≤ length image.now }
-    ensures { result ≡ number 0 (bytes_at (byte_at image.now) at 8) }
-{
-    usize::from_be_bytes(*image[at..].first_chunk::<8>().unwrap())
 }
 
 // The number of eight bytes in two's complement, high byte first.
@@ -158,6 +144,7 @@ fn put_hex_byte(output: &mut [u8], at: usize, b: u8) -> usize
 }
 
 // Puts bytes in hexadecimal.
+// Kept: a loop as that of `put_bytes`, since one for both would take a byte's text as a closure, its promise beside it: longer.
 fn put_hex(output: &mut [u8], at: usize, bytes: &[u8]) -> usize
     requires { Room (2 * length bytes.now) at }
     ensures { Puts (2 * length bytes.now) output.old output.new at result (hex bytes.now) }

@@ -2,7 +2,7 @@
 use Rattle.std.proofs.Common.{◌≡◌, ℕ, ◌+◌, ◌-◌, ◌≤◌, List, ◌∷◌, length, ap, ◌∙◌, subst₂, arith}
 use borrow.Rule.Slice.PartMut.{put_mid, mid_of}
 use Rattle.definition.specs.Basic.{Bytes}
-use Rattle.load.specs.Node.{size}
+use Rattle.load.specs.Size.{size}
 use Rattle.load.specs.Draw.{Part, needs, row}
 use Rattle.load.specs.Writing.{Wrote, WroteAll}
 use Rattle.load.proofs.Laws.{wrote_as, wrote-length, length_mid, length_left, front_wrote, then_wrote}

@@ -5,7 +5,8 @@ use borrow.Rule.Slice.PartMut.{put_mid, mid_of}
 use Rattle.definition.specs.Basic.{Bytes}
 use Rattle.definition.specs.Tag.{tag_params}
 use Rattle.load.specs.Draw.{Drawn, drawn, bind, draw, Part, needs, times, row, field_of}
-use Rattle.load.specs.Node.{node, size, ◌then◌}
+use Rattle.definition.specs.Node.{node, ◌then◌}
+use Rattle.load.specs.Size.{size}
 use Rattle.load.specs.Load.{let_name, name_field, parameters, pairs, definition, definitions, a_statement}
 use Rattle.load.specs.Items.{part_of, parts, need_of}
 use Rattle.load.specs.Writing.{Wrote, WroteAll}

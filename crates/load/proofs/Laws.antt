@@ -9,8 +9,9 @@ use Rattle.definition.specs.Tag.{tag_string}
 use Rattle.definition.specs.Field.{field}
 use Rattle.session.specs.Write.{heading}
 use Rattle.session.proofs.Stores.{sets_over}
-use Rattle.load.specs.Node
-use Rattle.load.specs.Node.{Node, leaf, node, Nodes, ◌then◌, one, written, written_all, size, size_all}
+use Rattle.definition.specs.Node
+use Rattle.definition.specs.Node.{Node, leaf, node, Nodes, ◌then◌, one, written, written_all}
+use Rattle.load.specs.Size.{size, size_all}
 use Rattle.load.specs.Draw.{Drawn, drawn, bind, draw}
 use Rattle.load.specs.Load.{letters}
 use Rattle.load.specs.Writing.{Wrote, WroteAll}

@@ -2,10 +2,10 @@
 use Rattle.std.proofs.Common.{◌≡◌, ℕ, Bool, true, false, eqb, List, [], ◌∷◌, get_or, refl}
 use Rattle.definition.specs.Basic.{Bytes, pick, both}
 use Rattle.definition.specs.Tag.{tag_expr_stmt, tag_block, tag_let, tag_return, tag_identifier, tag_prefix, tag_infix, tag_if, tag_function, tag_call, tag_integer, tag_boolean, tag_string, tag_array, tag_index, tag_hash, tag_operator}
-use Rattle.load.specs.Node
-use Rattle.load.specs.Node.{Node, leaf, node, Nodes, ◌then◌}
+use Rattle.definition.specs.Node
+use Rattle.definition.specs.Node.{Node, leaf, node, Nodes, ◌then◌}
 use Rattle.load.specs.Load.{program, expression}
-use Rattle.load.specs.Node.{size}
+use Rattle.load.specs.Size.{size}
 use Rattle.load.proofs.Parts.{every}
 
 mutual

@@ -5,7 +5,7 @@ use borrow.Rule.Slice.PartMut.{put_mid, mid_of}
 use Rattle.definition.specs.Basic.{Bytes}
 use Rattle.definition.specs.Tag.{tag_block, tag_expr_stmt}
 use Rattle.session.specs.Write.{heading}
-use Rattle.load.specs.Node.{node}
+use Rattle.definition.specs.Node.{node}
 use Rattle.load.specs.Draw.{drawn, bind, draw, Part, times, row, field_of}
 use Rattle.load.specs.Load.{StatementRow, leaves, leaf_of, identifier, row_below, statement_of, block_of, choices, statement_choices, expression, statement, yielding, block, branch, an_expression, a_statement, a_yielding}
 use Rattle.load.specs.Writing.{Wrote, WroteAll}

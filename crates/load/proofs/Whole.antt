@@ -5,7 +5,7 @@ use Rattle.definition.specs.Number.{refusal, output_short}
 use Rattle.definition.specs.Output.{output_answer, output_after}
 use Rattle.std.specs.Prelude.{Ok, Err}
 use Rattle.opcode.proofs.Encoding.{placing, refusing}
-use Rattle.load.specs.Node.{written}
+use Rattle.definition.specs.Node.{written}
 use Rattle.load.specs.Load.{program, tree_of}
 use Rattle.load.specs.Writing.{Wrote}
 use Rattle.load.proofs.Parts.{written-size}

@@ -1,7 +1,7 @@
 -- The items of a row, as parts.
 use Rattle.std.specs.Prelude.{ℕ, List, [], ◌∷◌}
 use Rattle.definition.specs.Tag.{tag_let, tag_name}
-use Rattle.load.specs.Node.{leaf}
+use Rattle.definition.specs.Node.{leaf}
 use Rattle.load.specs.Draw.{drawn, Part, part, field_of}
 use Rattle.load.specs.Load.{expression_need, statement_need, block_need, leaf_of, integer, prefix_operator, infix_operator, let_name, function_name, function_parameters, an_expression, a_statement, a_yielding, a_block, a_branch}
 use Rattle.load.specs.declared.row.Item.{Item}

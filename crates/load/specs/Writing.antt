@@ -2,7 +2,8 @@
 use Rattle.std.specs.Prelude.{◌≡◌, ℕ, ◌≤◌, length}
 use Rattle.definition.specs.Basic.{Bytes}
 use Rattle.definition.specs.Output.{over}
-use Rattle.load.specs.Node.{Node, Nodes, written, written_all, size, size_all}
+use Rattle.definition.specs.Node.{Node, Nodes, written, written_all}
+use Rattle.load.specs.Size.{size, size_all}
 use Rattle.load.specs.Draw.{Drawn}
 
 -- a field: its bytes, its length and the new state; it keeps to what was lent

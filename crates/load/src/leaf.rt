@@ -1,6 +1,6 @@
 // Fields without parts of their own: literals, names and operators, each drawn.
 ghost use Rattle.std.specs.Prelude.{◌≡◌, ℕ, ◌+◌, ◌<◌, ◌≤◌, [], length, slice_index_or};
-ghost use Rattle.load.specs.Node.{leaf};
+ghost use Rattle.definition.specs.Node.{leaf};
 ghost use Rattle.load.specs.Draw.{drawn};
 ghost use Rattle.load.specs.Load.{leaf_of, letters, words, name_of, function_names};
 ghost use Rattle.load.specs.Writing.{Wrote};
@@ -26,13 +26,12 @@ pub const INFIXES: [u8; 8] = [
 ];
 
 // A field of a content, whatever the state is; its length.
-pub fn put(out: &mut [u8], field_tag: usize, content: &[u8]) -> usize
-    requires is_tag { field_tag < 256 }
+pub fn put(out: &mut [u8], field_tag: u8, content: &[u8]) -> usize
     requires in_bounds { 3 + length content.now ≤ length out.old }
     requires len_bound { length content.now ≤ 32 }
     ensures { (s : ℕ) → Wrote (drawn (leaf field_tag content.now) s) result s out.old out.new }
 {
-    put_field(out, 0, field_tag as u8, content);
+    put_field(out, 0, field_tag, content);
     3 + content.len()
 }
 
@@ -95,7 +94,7 @@ pub fn put_leaf(out: &mut [u8], leaf: Leaf, draws: &mut Draws) -> usize
         Leaf::String => {
             let n = draws.draw(9);
             put_letters(&mut out[3..3 + n], draws);
-            put_head(out, 0, tag::STRING as u8, n);
+            put_head(out, 0, tag::STRING, n);
             3 + n
         }
     }

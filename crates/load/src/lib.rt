@@ -13,7 +13,7 @@ ghost use Rattle.load.specs.Load.{row_need, row_below, tree_of};
 ghost use Rattle.load.specs.Items.{need_of, part_of, parts};
 ghost use Rattle.load.specs.Writing.{Wrote, WroteAll};
 
-use definition::{Reason, Refusal, tag};
+use definition::{Reason, Refusal, refused, tag};
 use draw::Draws;
 use leaf::{INFIXES, LETTER, function_word, put, put_leaf};
 use row::Item::{
@@ -99,19 +99,12 @@ fn put_items(out: &mut [u8], items: &[Item], below: usize, draws: &mut Draws) ->
 
 // A field of items.
 #[cycle(items)]
-fn put_node(
-    out: &mut [u8],
-    field_tag: usize,
-    items: &[Item],
-    below: usize,
-    draws: &mut Draws,
-) -> usize
-    requires is_tag { field_tag < 256 }
-    requires in_bounds { 3 + sum_by need_of items.now ≤ length out.old }
+fn put_node(out: &mut [u8], field_tag: u8, items: &[Item], below: usize, draws: &mut Draws) -> usize
+    requires { 3 + sum_by need_of items.now ≤ length out.old }
     ensures { Wrote (field_of field_tag (parts below items.now) (length out.old) draws.old.state) result draws.new.state out.old out.new }
 {
     let n = put_items(&mut out[3..], items, below, draws);
-    session::write::put_head(out, 0, field_tag as u8, n);
+    session::write::put_head(out, 0, field_tag, n);
     3 + n
 }
 
@@ -292,10 +285,7 @@ pub fn make_tree(seed: u32, output: &mut [u8]) -> Result<usize, Refusal>
     let mut tree = [0u8; TREE_MOST];
     let n = put_program(&mut tree, &mut Draws { state: seed });
     if output.len() < n {
-        return Err(Refusal {
-            reason: Reason::OutputShort,
-            place: 0,
-        });
+        return refused(Reason::OutputShort, 0);
     }
     output[..n].copy_from_slice(&tree[..n]);
     Ok(n)

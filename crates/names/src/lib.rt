@@ -64,6 +64,7 @@ impl Slot for Record {
 }
 
 // Writes the first n records of a log over what the caller lends.
+// Kept: an index. Tried: `chunks_exact_mut`, where the proof did not close: nothing is known of what was written through its parts.
 fn fill<S: Slot>(slots: &mut [S], log: &[u8], n: usize)
     requires n_in_bounds { S.WIDTH * n ≤ length slots.old }
     requires n_in_bounds_2 { 4 * n ≤ length log.now }

@@ -7,7 +7,7 @@ use native.Mathlib.Omega.{arith}
 use lib.Bits.{bit_or}
 use lib.Dec.{leb}
 use lib.ListN.{length, get_or, get_or-eq_default}
-use borrow.Author.Tests.{lt-leb, le-leb, leb-false}
+use borrow.Author.Tests.{lt-leb, le-leb}
 use Rattle.std.specs.Prelude.{Option, Some, None}
 use Rattle.std.specs.Option.{option_copied}
 use Rattle.std.specs.Slice.{IsItemAt}
@@ -41,29 +41,9 @@ pub looked_up : (o : ℕ) (r : Option (Bor ℕ)) → IsItemAt (tabulate width 0 
 looked_up o None h = rw (lt-leb o op_last (omega (arith, h.3)))
 looked_up o (Some x) h = rw (le-leb o op_last (omega (arith, h.3.0))) (ap Some (h.4 (omega arith) 0 ∙ tabulated width 30 o h.3.0))
 
--- a known byte's entry is its width, and no other byte's entry is a width
-pub record Known (o w : ℕ) : Type 0 where
-  pub known : leb o op_last ≡ true
-  pub is : width o ≡ w
-  pub small : w ≤ 3
-
-pub known : (o : ℕ) {w : ℕ} → w ≡ entry o → (w ≡ no_instruction → ⊥) → Known o w
-known o {w} e n = go (leb o op_last) refl
-  where
-    go : (b : Bool) → leb o op_last ≡ b → Known o w
-    go true k = let i : width o ≡ w = sym (rw k at e) in record { known = k; is = i; small = rw (← i) (width_most o) }
-    go false k = absurd (n (rw k at e))
-
-pub unknown : (o : ℕ) {w : ℕ} → w ≡ entry o → w ≡ no_instruction → leb o op_last ≡ false
-unknown o {w} e n = go (leb o op_last) refl
-  where
-    go : (b : Bool) → leb o op_last ≡ b → leb o op_last ≡ false
-    go true k = let i : w ≡ width o = rw k at e in absurd (omega (arith, width_most o))
-    go false k = k
-
 -- a byte past the last instruction's has no operands
-pub no_operands : (o : ℕ) {w : ℕ} → w ≡ entry o → w ≡ no_instruction → width o ≡ 0
-no_operands o e n = let k : length widths ≤ o = omega (arith, leb-false o op_last (unknown o e n)) in get_or-eq_default widths 0 k
+pub no_operands : (o : ℕ) → length widths ≤ o → width o ≡ 0
+no_operands o h = get_or-eq_default widths 0 h
 
 -- The length of the instruction at an offset, by the table's entry
 module _ (byte : ℕ → ℕ) (at end : ℕ) where

@@ -8,18 +8,16 @@ use lib.ListN.{length, get_or, take, drop, length-append}
 use lib.Seq.{take-append_seam, drop-append-add}
 use native.Mathlib.Numerals.{add-one}
 use lib.Dec.{leb}
-use borrow.Author.Tests.{leb-true, le-leb}
+use borrow.Author.Tests.{le-leb}
 use mathlib.Core.Bool.{true}
 use Rattle.definition.specs.Basic.{Bytes}
-use Rattle.definition.specs.Number.{refusal, output_short, bad_instruction}
+use Rattle.definition.specs.Number.{refusal, output_short}
 use Rattle.definition.specs.Opcode.{op_last}
 use Rattle.std.specs.Prelude.{Ok, Err}
-use Rattle.opcode.specs.Table.{entry, no_instruction}
 use Rattle.definition.specs.Output.{over}
 use Rattle.definition.specs.Text.{ascii}
 use Rattle.definition.specs.Listing.{words, word}
 use Rattle.opcode.specs.Words.{joined, start_of, word_answer, word_into}
-use Rattle.opcode.proofs.Widths.{known, unknown}
 use Rattle.opcode.proofs.Encoding.{placing, refusing}
 
 -- the word of number o stands in all words from its start, and ends where the next one starts
@@ -52,13 +50,6 @@ pub record Word (op start next : ℕ) : Type 0 where
   pub size : length (word op) ≡ next - start
   pub is : take (next - start) (drop start (joined words)) ≡ word op
 
-below : {op w : ℕ} → w ≡ entry op → (w ≡ no_instruction → ⊥) → op < 30
-below {op} e n = let k = known op e n in omega (arith, leb-true op op_last k.known)
-
--- a known byte's number is below the number of words
-pub number : {op w o : ℕ} → w ≡ entry op → (w ≡ no_instruction → ⊥) → o ≡ op → o < 30
-number e n i = rw i (below e n)
-
 pub word_at : {op o start next : ℕ} → op < 30 → o ≡ op → start ≡ start_of words o → next ≡ start_of words (o + 1) → Word op start next
 word_at {op} {o} {start} {next} h i s t =
     let p = part words op h in
@@ -73,10 +64,6 @@ word_at {op} {o} {start} {next} h i s t =
       is = rw (← z, s') p.is;
     }
 
-pub found : {op w o start next : ℕ} → w ≡ entry op → (w ≡ no_instruction → ⊥) → o ≡ op → start ≡ start_of words o → next ≡ start_of words (o + 1)
-    → Word op start next
-found e n = word_at (below e n)
-
 module _ {op start next : ℕ} (out : Bytes) (h : Word op start next) where
   pub word_short : length out < next - start → (Err (refusal output_short 0) ≡ word_answer op (length out)) × (out ≡ word_into op out)
   word_short s = let p = refusing (word op) out (next - start) h.size s in (p.0 ∙ rw h.known, p.1 ∙ rw h.known)
@@ -86,7 +73,3 @@ module _ {op start next : ℕ} (out : Bytes) (h : Word op start next) where
   word-written s e =
       let p = placing (word op) out (next - start) h.size s in
       (p.0 ∙ rw h.known, e ∙ ap (λ (b : Bytes). over b out) h.is ∙ p.1 ∙ rw h.known)
-
-pub word_unknown : (op : ℕ) {w : ℕ} (out : Bytes) → w ≡ entry op → w ≡ no_instruction
-    → (Err (refusal bad_instruction 0) ≡ word_answer op (length out)) × (out ≡ word_into op out)
-word_unknown op out e n = let k = unknown op e n in (rw k, rw k)

@@ -17,9 +17,9 @@ ghost use Rattle.opcode.specs.Decoding.{size_at, instruction, instr_of, read_bef
 ghost use Rattle.opcode.specs.Words.{joined, start_of, word_answer, word_into};
 ghost use Rattle.opcode.specs.Encoding.{valid, encode_answer, encode_into, Ready};
 
-use definition::{Reason, Refusal};
+use definition::{Reason, Refusal, refused};
 use field::wide;
-use table::{INSTRUCTIONS, NO_INSTRUCTION, PACKED_WIDTHS, STARTS, UNKNOWN_WIDTH, WIDTHS, WORDS};
+use table::{INSTRUCTIONS, PACKED_WIDTHS, STARTS, UNKNOWN_WIDTH, WIDTHS, WORDS};
 
 // An instruction: its byte, its operand, and the captures of a Closure.
 #[derive(Clone, Copy)]
@@ -59,11 +59,10 @@ pub fn width(op: u8) -> u8
 pub fn operand_length(op: u8) -> usize
     ensures { result ≡ operandLength op }
 {
-    let w = width(op);
-    if w == NO_INSTRUCTION {
+    if INSTRUCTIONS <= wide(op) {
         return 0;
     }
-    wide(w)
+    wide(width(op))
 }
 
 // The length of the instruction at `at`, if it stands whole before `end`. A byte that begins no instruction is tested for by itself, so that the
@@ -117,10 +116,7 @@ fn decode_before(code: &[u8], at: usize, end: usize) -> Result<Decoded, Refusal>
             instruction: instruction_at(code, at, size),
             after: at + size,
         }),
-        None => Err(Refusal {
-            reason: Reason::BadInstruction,
-            place: at,
-        }),
+        None => refused(Reason::BadInstruction, at),
     }
 }
 
@@ -129,10 +125,7 @@ pub fn decode_at(code: &[u8], at: usize, end: usize) -> Result<Decoded, Refusal>
     ensures { result ≡ decode_answer (read_before code.now at end) }
 {
     if code.len() < end {
-        return Err(Refusal {
-            reason: Reason::BadInstruction,
-            place: at,
-        });
+        return refused(Reason::BadInstruction, at);
     }
     decode_before(code, at, end)
 }
@@ -195,17 +188,11 @@ pub fn encode(out: &mut [u8], i: Instruction) -> Result<usize, Refusal>
     ensures writes { out.new ≡ encode_into (instr_of i) out.old }
 {
     if !is_valid(i) {
-        return Err(Refusal {
-            reason: Reason::BadInstruction,
-            place: 0,
-        });
+        return refused(Reason::BadInstruction, 0);
     }
     let w = wide(width(i.op));
     if out.len() <= w {
-        return Err(Refusal {
-            reason: Reason::OutputShort,
-            place: 0,
-        });
+        return refused(Reason::OutputShort, 0);
     }
     put(out, i, w);
     Ok(1 + w)
@@ -234,20 +221,14 @@ pub fn write_word(out: &mut [u8], op: u8) -> Result<usize, Refusal>
     ensures answers { result ≡ word_answer op (length out.old) }
     ensures writes { out.new ≡ word_into op out.old }
 {
-    if width(op) == NO_INSTRUCTION {
-        return Err(Refusal {
-            reason: Reason::BadInstruction,
-            place: 0,
-        });
-    }
     let o = wide(op);
+    if INSTRUCTIONS <= o {
+        return refused(Reason::BadInstruction, 0);
+    }
     let start = word_start(o);
     let size = word_start(o + 1) - start;
     if out.len() < size {
-        return Err(Refusal {
-            reason: Reason::OutputShort,
-            place: 0,
-        });
+        return refused(Reason::OutputShort, 0);
     }
     put_word(out, start, size);
     Ok(size)

@@ -92,17 +92,12 @@ fn read_part<R: Read>(reader: &mut R, buffer: &mut [u8], length: usize) -> io::R
     Ok(())
 }
 
-// Whether all numbers are a value.
-fn all_numbers(numbers: &[u32; TABLE_SIZE], value: u32) -> bool {
-    numbers.iter().all(|n| *n == value)
+// Whether all numbers of an area are the same as one.
+fn all_are<T: Copy + PartialEq>(area: &[T], number: T) -> bool {
+    area.iter().all(|n| *n == number)
 }
 
-// Whether all bytes of the code area are a value.
-fn all_code(code: &[u8; CODE_SIZE], value: u8) -> bool {
-    *code == [value; CODE_SIZE]
-}
-
-// Compiles a tree in parts of these lengths.
+// Compiles a tree in parts of these lengths, if the buffers are as long.
 fn compile_in(
     session: &mut [u8],
     tree: &[u8],
@@ -111,49 +106,16 @@ fn compile_in(
     table: &mut [u32],
     sizes: Sizes,
 ) -> Result<usize, Refusal> {
-    let s = sizes.session;
-    let c = sizes.code;
-    let t = sizes.table;
-    if s <= session.len() {
-        if c <= code.len() {
-            if t <= table.len() {
-                return compiler::compile(
-                    &mut session[..s],
-                    tree,
-                    output,
-                    &mut code[..c],
-                    &mut table[..t],
-                );
-            }
-        }
+    if session.len() < sizes.session || code.len() < sizes.code || table.len() < sizes.table {
+        return Ok(0);
     }
-    Ok(0)
-}
-
-// Compiles the first bytes of a buffer into an output of so many bytes.
-fn compile(
-    session: &mut [u8],
-    tree: &[u8],
-    length: usize,
-    output: &mut [u8],
-    lend: usize,
-    code: &mut [u8],
-    table: &mut [u32],
-    sizes: Sizes,
-) -> Result<usize, Refusal> {
-    if length <= tree.len() {
-        if lend <= output.len() {
-            return compile_in(
-                session,
-                &tree[..length],
-                &mut output[..lend],
-                code,
-                table,
-                sizes,
-            );
-        }
-    }
-    Ok(0)
+    compiler::compile(
+        &mut session[..sizes.session],
+        tree,
+        output,
+        &mut code[..sizes.code],
+        &mut table[..sizes.table],
+    )
 }
 
 // A call: the output's length in three bytes, the tree, the outcome, the image of an accepted tree. Number 1 leaves the work areas as
@@ -180,21 +142,19 @@ fn run_call<R: Read>(
     let mut output = [0xA5u8; SESSION_SIZE];
     let mut code = [0x5Au8; CODE_SIZE];
     let mut table = [7u32; TABLE_SIZE];
-    let answer = compile(
+    let answer = compile_in(
         session,
-        &tree,
-        length,
-        &mut output,
-        lend,
+        &tree[..length],
+        &mut output[..lend],
         &mut code,
         &mut table,
         sizes,
     );
     let kept = (number == 0) | (before == *session);
     let areas = if number == 1 {
-        all_code(&code, 0x5A) & all_numbers(&table, 7)
+        all_are(&code, 0x5A) & all_are(&table, 7)
     } else {
-        all_code(&code, 0) & all_numbers(&table, 0)
+        all_are(&code, 0) & all_are(&table, 0)
     };
     Ok(as_recorded(answer, number, value) & (output == expected) & kept & areas)
 }
@@ -214,9 +174,9 @@ fn read_sizes<R: Read>(reader: &mut R) -> io::Result<Sizes> {
     let code = read_long(reader)?;
     let table = read_long(reader)?;
     Ok(Sizes {
-        session: session,
-        code: code,
-        table: table,
+        session,
+        code,
+        table,
     })
 }
 
@@ -236,17 +196,10 @@ fn run_make<R: Read>(reader: &mut R, session: &mut [u8; SESSION_SIZE]) -> io::Re
     Ok(as_recorded(make_in(session, size), number, value))
 }
 
-// Makes a session with words, the first bytes of a buffer, in a part of so many bytes.
-fn make_words_in(
-    session: &mut [u8],
-    size: usize,
-    names: &[u8],
-    length: usize,
-) -> Result<usize, Refusal> {
+// Makes a session with words in a part of so many bytes.
+fn make_words_in(session: &mut [u8], size: usize, names: &[u8]) -> Result<usize, Refusal> {
     if size <= session.len() {
-        if length <= names.len() {
-            return compiler::make_session_words(&mut session[..size], &names[..length]);
-        }
+        return compiler::make_session_words(&mut session[..size], names);
     }
     Ok(0)
 }
@@ -259,7 +212,11 @@ fn run_make_words<R: Read>(reader: &mut R, session: &mut [u8; SESSION_SIZE]) -> 
     read_part(reader, &mut names, length)?;
     let number = read_byte(reader)?;
     let value = read_long(reader)?;
-    Ok(as_recorded(make_words_in(session, size, &names, length), number, value))
+    Ok(as_recorded(
+        make_words_in(session, size, &names[..length]),
+        number,
+        value,
+    ))
 }
 
 // The session's first bytes, and zeros after them.
@@ -332,23 +289,31 @@ fn run_topic<R: Files + Print + Eprint + Alloc>(rt: &R, topic: &str) -> io::Resu
     println!(rt; "{counts}")
 }
 
+// The topics, in the order of their lines.
+const TOPICS: [&str; 18] = [
+    "hand",
+    "wrong-turns",
+    "symbols",
+    "enclosing-names",
+    "branches",
+    "operators",
+    "series",
+    "output-short",
+    "refused-in-the-middle",
+    "random-series",
+    "random-damage",
+    "damaged",
+    "session-broken",
+    "boundary",
+    "short-buffers",
+    "alike",
+    "words",
+    "compared",
+];
+
 fn main(rt: HostRuntime) -> io::Result<()> {
-    run_topic(&rt, "hand")?;
-    run_topic(&rt, "wrong-turns")?;
-    run_topic(&rt, "symbols")?;
-    run_topic(&rt, "enclosing-names")?;
-    run_topic(&rt, "branches")?;
-    run_topic(&rt, "operators")?;
-    run_topic(&rt, "series")?;
-    run_topic(&rt, "output-short")?;
-    run_topic(&rt, "refused-in-the-middle")?;
-    run_topic(&rt, "random-series")?;
-    run_topic(&rt, "random-damage")?;
-    run_topic(&rt, "damaged")?;
-    run_topic(&rt, "session-broken")?;
-    run_topic(&rt, "boundary")?;
-    run_topic(&rt, "short-buffers")?;
-    run_topic(&rt, "alike")?;
-    run_topic(&rt, "words")?;
-    run_topic(&rt, "compared")
+    for topic in TOPICS {
+        run_topic(&rt, topic)?;
+    }
+    Ok(())
 }

@@ -14,6 +14,7 @@ use std::io;
 use std::io::Read;
 
 // Reads until the buffer is full or the input ends: how many bytes then stand at its front.
+// Kept: the programs call it alike in a `main` of three lines: one for all would take the buffer's length and, as a closure, the rest.
 pub fn read_full<R: Read>(reader: &mut R, buffer: &mut [u8]) -> io::Result<usize>
     ensures bound { IfOk result (λ n. n ≤ length buffer.new) }
     ensures same_length { length buffer.new ≡ length buffer.old }

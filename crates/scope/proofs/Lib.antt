@@ -1,4 +1,4 @@
 pub mod Tables
 pub mod Written
-pub mod ByValue
+pub mod OnChunk
 pub mod Leaves

@@ -1,11 +1,10 @@
 -- What the leaves on the code area are said with, beside the machine's steps.
-use Rattle.std.specs.Prelude.{ℕ, ◌≡◌, Ok, Err, Option, Some, None}
+use Rattle.std.specs.Prelude.{ℕ, ◌≡◌, Option, Some, None}
 use Rattle.std.proofs.Math.Option as maybe
 use Rattle.definition.specs.Opcode.{op_jump, width}
 use Rattle.definition.specs.Walk.{Res, on, bind}
 use Rattle.scope.specs.View.{View}
 use Rattle.scope.specs.Machine.{jump, patch}
-use Rattle.scope.specs.Walked.{Walked}
 
 -- the instruction of an answer, if it has one
 abbrev pub opcode_of : Option ℕ → maybe.Option ℕ
@@ -16,11 +15,6 @@ opcode_of None = maybe.none
 abbrev pub Alone : Option ℕ → Type 0
 Alone (Some o) = 0 ≡ width o
 Alone None = Unit {0}
-
--- the length of the chunk in work
-abbrev pub length_of : Walked → ℕ
-length_of (Ok s) = s.chunk.len
-length_of (Err z) = z.state.chunk.len
 
 -- a Jump, and the jump at a position patched behind it
 abbrev pub jump_and_patch : ℕ → ℕ → View → Res View ℕ

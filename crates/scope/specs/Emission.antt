@@ -6,7 +6,6 @@ use Rattle.definition.specs.Limit.{code_size}
 use Rattle.definition.specs.Opcode.{Instr, instr, width, size, bytes_of}
 use Rattle.scope.specs.Machine.{chunk}
 use Rattle.scope.specs.declared.Chunk.{Chunk}
-use Rattle.scope.specs.declared.emission.Emitted.{Emitted}
 use Rattle.scope.specs.declared.instruction.Instruction.{Instruction}
 
 -- the instruction that the code's record stands for
@@ -16,10 +15,6 @@ instr_of i = instr i.op i.a i.b
 -- the code's record has the right number of operand bytes
 pub record Sized (i : Instruction) : Type 0 where
   pub is : i.operands ≡ width i.op
-
--- an answer: the chunk afterwards, and whether there was room
-abbrev pub emitted : Chunk → Bool → Emitted
-emitted c b = record { chunk = c; room = b }
 
 -- a chunk within a code area of full size
 pub record Within (ys : Bytes) (c : Chunk) : Type 0 where
@@ -35,9 +30,9 @@ abbrev pub room_for : Instr → Chunk → Bool
 room_for i c = leb (c.start + c.len + size i) code_size
 
 -- an instruction added to a chunk, where there is room for it
-pub record Adds (ys : Bytes) (c : Chunk) (i : Instruction) (r : Emitted) (zs : Bytes) : Type 0 where
-  pub chunk : r.chunk ≡ pick (room_for (instr_of i) c) (longer_chunk (size (instr_of i)) c) c
-  pub room : r.room ≡ room_for (instr_of i) c
+pub record Adds (ys : Bytes) (c : Chunk) (i : Instruction) (k : Chunk) (fits : Bool) (zs : Bytes) : Type 0 where
+  pub chunk : k ≡ pick (room_for (instr_of i) c) (longer_chunk (size (instr_of i)) c) c
+  pub room : fits ≡ room_for (instr_of i) c
   pub code : zs ≡ pick (room_for (instr_of i) c) (sets ys (c.start + c.len) (bytes_of (instr_of i))) ys
 
 -- the operand of the jump at a position of a chunk is within the code area
@@ -45,7 +40,6 @@ abbrev pub holds_operand : ℕ → Chunk → Bool
 holds_operand at c = ltb (c.start + at + 2) code_size
 
 -- the operand of the jump at a position becomes the chunk's length, where it is within the code area
-pub record Changes (ys : Bytes) (c : Chunk) (at : ℕ) (r : Emitted) (zs : Bytes) : Type 0 where
-  pub chunk : r.chunk ≡ c
-  pub room : r.room ≡ holds_operand at c
+pub record Changes (ys : Bytes) (c : Chunk) (at : ℕ) (k : Chunk) (zs : Bytes) : Type 0 where
+  pub chunk : k ≡ c
   pub code : zs ≡ pick (holds_operand at c) (sets ys (c.start + at + 1) (c.len / 256 % 256 ∷ c.len % 256 ∷ [])) ys

@@ -3,3 +3,4 @@ pub mod View
 pub mod Machine
 pub mod Emission
 pub mod Code
+pub mod Lent

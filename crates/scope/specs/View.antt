@@ -1,13 +1,12 @@
 -- What the lent memory stands for during the walk: a view of it, with symbol tables as the definition has them, and code and constants as bytes.
-use Rattle.std.specs.Prelude.{ℕ, ◌+◌, ◌≤◌, ◌≡◌, List, length, Ok, Err}
+use Rattle.std.specs.Prelude.{ℕ, ◌+◌, ◌≤◌, ◌≡◌, List, length, Ok, Err, Result}
 use Rattle.definition.specs.Basic.{Bytes}
 use Rattle.definition.specs.Limit.{code_size}
 use Rattle.definition.specs.SymbolTable.{Table}
-use Rattle.definition.specs.Walk.{Res, on, stop, refuse, bind, Go}
+use Rattle.definition.specs.Walk.{Res, on, stop, bind, Go}
 use Rattle.scope.specs.declared.State.{State}
-use Rattle.scope.specs.Walked.{Walked}
-use Rattle.scope.specs.declared.Jumped.{Jumped}
-use Rattle.definition.specs.declared.reason.Reason.{Reason}
+use Rattle.scope.specs.Walked.{Walked, walked}
+use Rattle.definition.specs.declared.reason.Refusal.{Refusal}
 
 -- the global names, the latest first, and the tables of the open functions, the innermost first
 pub record Symbols : Type 0 where
@@ -28,10 +27,10 @@ abbrev pub ended : Bytes → Bytes → Symbols → Walked → Res View (Unit {0}
 ended c e y (Ok s) = on tt (view c e y s)
 ended c e y (Err z) = stop z.refusal (view c e y z.state)
 
--- a jump that was emitted, with its position
-abbrev pub ended_at : Bytes → Bytes → Symbols → Walked → ℕ → Res View ℕ
-ended_at c e y (Ok s) at = on at (view c e y s)
-ended_at c e y (Err z) at = stop z.refusal (view c e y z.state)
+-- an answer with a value, in the state after it
+abbrev pub ended_at : {A : Type 0} → Bytes → Bytes → Symbols → Result A Refusal → State → Res View A
+ended_at c e y (Ok a) s = on a (view c e y s)
+ended_at c e y (Err r) s = stop r (view c e y s)
 
 -- a step after what there is
 abbrev pub then : Res View (Unit {0}) → Go View → Res View (Unit {0})
@@ -72,14 +71,8 @@ pub record Done (c c' : Bytes) (w r : Walked) (k : Go View) : Type 0 where
   pub ready : Ready c' r
   pub same : outline_of r ≡ outline_of w
 
--- a jump so
-pub record Jumps (c c' : Bytes) (w : Walked) (r : Jumped) (k : View → Res View ℕ) : Type 0 where
-  pub step : (e : Bytes) (y : Symbols) → ended_at c' e y r.walked r.at ≡ bind (ended c e y w) (λ _. k)
-  pub ready : Ready c' r.walked
-  pub same : outline_of r.walked ≡ outline_of w
-
--- a refusal, whatever the memory stands for
-pub record Refuses (w r : Walked) (reason : Reason) (place : ℕ) : Type 0 where
-  pub step : (c e : Bytes) (y : Symbols) → ended c e y r ≡ then (ended c e y w) (refuse reason place)
-  pub sound : Sound r
-  pub same : outline_of r ≡ outline_of w
+-- a jump so, which answers its position and leaves a state
+pub record Jumped (c c' : Bytes) (w : Walked) (r : Result ℕ Refusal) (s : State) (k : View → Res View ℕ) : Type 0 where
+  pub step : (e : Bytes) (y : Symbols) → ended_at c' e y r s ≡ bind (ended c e y w) (λ _. k)
+  pub ready : Ready c' (walked r s)
+  pub same : outline_of (walked r s) ≡ outline_of w

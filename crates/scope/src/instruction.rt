@@ -16,7 +16,8 @@ pub struct Instruction {
 fn low(x: usize) -> u8
     ensures { result ≡ x % 256 }
 {
-    (x % 256) as u8
+    let [.., low] = x.to_be_bytes();
+    low
 }
 
 // Writes a number as two bytes, the high one first.
@@ -24,36 +25,36 @@ pub fn write_word(code: &mut [u8], at: usize, x: usize)
     requires { at + 1 < length code.old }
     ensures { code.new ≡ sets code.old at (x / 256 % 256 ∷ x % 256 ∷ []) }
 {
-    let [high, low] = ((x % 65536) as u16).to_be_bytes();
+    let [.., high, low] = x.to_be_bytes();
     code[at] = high;
     code[at + 1] = low;
 }
 
-// Writes the operands of an instruction that has `n` operand bytes.
-fn write_operands(code: &mut [u8], at: usize, n: usize, a: usize, b: usize)
-    requires { at + n ≤ length code.old }
-    ensures { code.new ≡ sets code.old at (operands n a b) }
+// Writes an instruction's operands.
+fn write_operands(code: &mut [u8], at: usize, i: Instruction)
+    requires { at + i.operands ≤ length code.old }
+    ensures { code.new ≡ sets code.old at (operands i.operands i.a i.b) }
 {
-    match n {
+    match i.operands {
         0 => {}
         1 => {
-            code[at] = low(a);
+            code[at] = low(i.a);
         }
         2 => {
-            write_word(code, at, a);
+            write_word(code, at, i.a);
         }
         _ => {
-            write_word(code, at, a);
-            code[at + 2] = low(b);
+            write_word(code, at, i.a);
+            code[at + 2] = low(i.b);
         }
     }
 }
 
-// Writes an instruction, with the `n` operand bytes that its first byte has.
-pub fn write_instruction(code: &mut [u8], at: usize, op: u8, n: usize, a: usize, b: usize)
-    requires { (at + size (instr op a b) ≤ length code.old) × (n ≡ width op) }
-    ensures { code.new ≡ sets code.old at (bytes_of (instr op a b)) }
+// Writes an instruction, with the number of operand bytes that its first byte has.
+pub fn write_instruction(code: &mut [u8], at: usize, i: Instruction)
+    requires { (at + size (instr i.op i.a i.b) ≤ length code.old) × (i.operands ≡ width i.op) }
+    ensures { code.new ≡ sets code.old at (bytes_of (instr i.op i.a i.b)) }
 {
-    code[at] = op;
-    write_operands(code, at + 1, n, a, b);
+    code[at] = i.op;
+    write_operands(code, at + 1, i);
 }

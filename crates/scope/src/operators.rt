@@ -30,8 +30,7 @@ pub fn prefix_opcode(o: u8) -> Option<u8>
     ensures is { opcode_of result ≡ get_or prefixes o none }
     ensures alone { Alone result }
 {
-    let i = o as usize;
-    if i < 4 { PREFIXES[i] } else { None }
+    PREFIXES.get(usize::from(o)).copied().flatten()
 }
 
 // The instruction of an infix operator, if it has one.
@@ -39,8 +38,7 @@ pub fn infix_opcode(o: u8) -> Option<u8>
     ensures is { opcode_of result ≡ get_or infixes o none }
     ensures alone { Alone result }
 {
-    let i = o as usize;
-    if i < 10 { INFIXES[i] } else { None }
+    INFIXES.get(usize::from(o)).copied().flatten()
 }
 
 // The instruction of a boolean.

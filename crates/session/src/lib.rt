@@ -12,7 +12,7 @@ ghost use Rattle.definition.specs.Session.{Words, words_field};
 ghost use Rattle.session.specs.Write.{finished, written_back};
 
 use definition::limit::SESSION_SIZE;
-use definition::{Reason, Refusal, tag};
+use definition::{Reason, Refusal, refused, tag};
 use words::raise;
 
 // Writes a fresh session of two fields to the first 65,536 bytes, and leaves the others; a shorter buffer is refused, and nothing in it touched.
@@ -20,10 +20,7 @@ pub fn write_fresh(session: &mut [u8]) -> Result<usize, Refusal>
     ensures { made session.old ≡ record { answer = result; session = session.new } }
 {
     if session.len() < SESSION_SIZE {
-        return Err(Refusal {
-            reason: Reason::ShortBuffer,
-            place: 0,
-        });
+        return refused(Reason::ShortBuffer, 0);
     }
     zero::restore(session, 0, SESSION_SIZE);
     write::put_head(session, 0, tag::NAMES, 0);

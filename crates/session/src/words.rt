@@ -8,6 +8,7 @@ ghost use Rattle.session.specs.Write.{raised};
 
 use crate::write;
 use crate::zero::restore;
+use definition::builtins::SIX_WORDS;
 use definition::limit::SESSION_SIZE;
 use definition::tag;
 
@@ -16,10 +17,8 @@ pub fn raise(session: &mut [u8], end: usize)
     requires { end + 45 ≤ length session.old }
     ensures { session.new ≡ raised end session.old }
 {
-    let six =
-        b"\x42\x00\x2a\x30\x00\x03len\x30\x00\x04puts\x30\x00\x05first\x30\x00\x04last\x30\x00\x04rest\x30\x00\x04push";
     session.copy_within(..end, 45);
-    write::copy(session, 0, six);
+    write::copy(session, 0, SIX_WORDS);
 }
 
 // Writes a session of three fields to the first 65,536 bytes: words as name fields, no names and no constants.

@@ -19,7 +19,7 @@ pub fn put_head(out: &mut [u8], at: usize, tag: u8, len: usize)
     requires { at + 3 ≤ length out.old }
     ensures { out.new ≡ sets out.old at (heading tag len) }
 {
-    let [high, low] = ((len % 65536) as u16).to_be_bytes();
+    let [.., high, low] = len.to_be_bytes();
     out[at..at + 3].copy_from_slice(&[tag, high, low]);
 }
 

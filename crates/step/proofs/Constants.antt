@@ -9,23 +9,23 @@ use lib.ListN.{length}
 use lib.Seq.{sets, length-sets}
 use borrow.Author.Tests.{le-leb, lt-leb, leb-true, leb-false}
 use Rattle.definition.specs.Basic.{Bytes, pick}
-use Rattle.definition.specs.Limit.{constants_limit, pool_limit, session_size}
+use Rattle.definition.specs.Limit.{code_size, constants_limit, pool_limit, session_size}
 use Rattle.definition.specs.Number
 use Rattle.definition.specs.Field.{field}
 use Rattle.definition.specs.Opcode.{instr, op_constant}
-use Rattle.definition.specs.Walk.{Res, on, refuse}
+use Rattle.definition.specs.Walk.{on, refuse}
 use Rattle.field.specs.Layout.{content}
 use Rattle.scope.specs.declared.State.{State}
-use Rattle.scope.specs.Walked.{Walked}
+use Rattle.definition.specs.Number.{refusal}
+use Rattle.definition.specs.declared.reason.Refusal.{Refusal}
+use Rattle.scope.specs.Walked.{Walked, stopped}
 use Rattle.std.specs.Prelude.{Ok, Err}
-use Rattle.scope.specs.View.{View, view, Refuses, Done}
+use Rattle.scope.specs.View.{View, view, Done}
 use Rattle.scope.specs.Machine.{with_constant, add_constant, emit, literal}
 use Rattle.session.proofs.Stores.{take_sets}
-use Rattle.step.specs.declared.Added.{Added}
-use Rattle.step.specs.Memory.{rest, symbols_of, memory, Roomy, FineState, Fine}
+use Rattle.step.specs.Memory.{rest, symbols_of, memory, RoomyState, FineState}
 use Rattle.step.specs.Contract.{Steps, StepsBeside, has_room, Adds}
-use Rattle.step.proofs.Memory.{follow, with_value, stop_deeper, on_deeper, keeps_refl, deeper_keeps, done_steps, refuses_is}
-use Rattle.scope.specs.declared.Stopped.{Stopped}
+use Rattle.step.proofs.Memory.{follow, stop_deeper, on_deeper, deeper_keeps, done_steps}
 
 -- two tests of one order
 leb_iff : (a b c d : ℕ) → (a ≤ b → c ≤ d) → (c ≤ d → a ≤ b) → leb a b ≡ leb c d
@@ -63,19 +63,15 @@ module _ (n : ℕ) (s : State) where
       go false e r = (leb-false constants_limit s.constants e, leb-true (s.pool_end + (3 + n)) (s.names_end + 3 + pool_limit) r)
 
 -- What the code needs on the way
-module _ {e : Bytes} {w : Walked} {s : State} (q : w ≡ Ok s) (m : Roomy e w) where
-  pub roomy_start : s.names_end + 3 ≤ s.pool_end
-  roomy_start = (m.pool s q).start
+module _ {e : Bytes} {s : State} (m : RoomyState e s) (n : ℕ) {t : Bool} (h : t ≡ has_room n s) (y : t ≡ true) where
+  pub roomy_write : s.pool_end + (3 + n) ≤ length e
+  roomy_write = let r = room_true n s h y in omega (arith, m)
 
-  module _ (n : ℕ) {t : Bool} (h : t ≡ has_room n s) (y : t ≡ true) where
-    pub roomy_write : s.pool_end + (3 + n) ≤ length e
-    roomy_write = let r = room_true n s h y in omega (arith, m.pool s q)
+  pub roomy_count : s.constants < constants_limit
+  roomy_count = (room_true n s h y).0
 
-    pub roomy_count : s.constants < constants_limit
-    roomy_count = (room_true n s h y).0
-
-    pub roomy_size : s.pool_end + (3 + n) ≤ session_size
-    roomy_size = let r = room_true n s h y in omega (arith, m.pool s q)
+  pub roomy_size : s.pool_end + (3 + n) ≤ session_size
+  roomy_size = let r = room_true n s h y in omega (arith, m)
 
 -- The machine's step by that test
 module _ (p tag : ℕ) (b : Bytes) (v : View) where
@@ -109,47 +105,52 @@ module _ (p tag : ℕ) (b e : Bytes) where
         pool = record { area = simp length-sets f.pool.area; room = f.pool.room; start = omega (arith, f.pool.start); end = h };
       }
 
-  module _ {w : Walked} {s : State} (q : w ≡ Ok s) where
-    pub adds_on : (n : ℕ) {t : Bool} {e' : Bytes} {a : Added} → Roomy e w → n ≡ length b → t ≡ has_room n s → t ≡ true → e' ≡ sets e s.pool_end (field tag b) → a ≡ record { walked = Ok (with_constant n s); index = s.constants }
-        → Adds (add_constant p tag b) e e' w a
-    adds_on n m l o y st i =
+  module _ {s : State} where
+    pub adds_on : (n : ℕ) {t : Bool} {e' : Bytes} {s' : State} → RoomyState e s → n ≡ length b → t ≡ has_room n s → t ≡ true → e' ≡ sets e s.pool_end (field tag b) → s' ≡ with_constant n s
+        → Adds (add_constant p tag b) e e' s s' (Ok s.constants)
+    adds_on n k l o y st i =
         let y' : has_room (length b) s ≡ true = rw (sym l) (sym o ∙ y) in
         let r = room_true (length b) s refl y' in
-        let k = m.pool s q in
-        rw (q, st, i, l)
+        rw (st, i, l)
         (record {
           step = λ tree c u. rw (add_room p tag b (view c e (symbols_of tree (rest e u) s) s) y', take_sets e s.pool_end s.names_end (field tag b) (omega (arith, k.start)));
-          ready = λ c h. record { area = h.area; sound = record { room = h.sound.room; last = h.sound.last; prev = h.sound.prev } };
           fine = λ tree u f. constant_fine r.1 f;
           keeps = on_deeper (omega arith) refl;
+          chunk = refl;
         })
 
-    pub adds_full : (n : ℕ) {i : ℕ} {t : Bool} {r : Walked} → n ≡ length b → t ≡ has_room n s → t ≡ false → Refuses (Ok s) r Number.pool p → Adds (add_constant p tag b) e e w (record { walked = r; index = i })
-    adds_full n l o y d =
+    pub adds_full : (n : ℕ) {t : Bool} → n ≡ length b → t ≡ has_room n s → t ≡ false → Adds (add_constant p tag b) e e s s (Err (refusal Number.pool p))
+    adds_full n l o y =
         let y' : has_room (length b) s ≡ false = rw (sym l) (sym o ∙ y) in
-        rw (q, refuses_is d)
-        (record {
+        record {
           step = λ tree c u. rw (add_full p tag b (view c e (symbols_of tree (rest e u) s) s) y');
-          ready = λ c h. record { area = h.area; sound = tt };
           fine = λ tree u f. tt;
           keeps = stop_deeper;
-        })
-
--- a walk that has stopped stays as it is
-pub adds_stop : {k : View → Res View ℕ} {e : Bytes} {w : Walked} {z : Stopped} {i : ℕ} → w ≡ Err z → Adds k e e w (record { walked = w; index = i })
-adds_stop q = rw q (record { step = λ tree c t. refl; ready = λ c h. h; fine = λ tree t f. f; keeps = keeps_refl _ })
+          chunk = refl;
+        }
 
 -- Constant after its constant
-pub literal-beside : (at tag : ℕ) {tree c c' e e' : Bytes} {w r : Walked} {a : Added} → Adds (add_constant at tag (content tree at)) e e' w a → Done c c' a.walked r (emit at (instr op_constant a.index 0))
-    → StepsBeside tree (literal at tag (content tree at)) c c' e e' w r
-literal-beside at tag {tree} {c} {c'} {e} {e'} {w} {r} {a} x d = record { steps = λ t f. go t f (done_steps (x.fine tree t f) d) }
-  where
-    go : (t : List ℕ) → Fine tree (rest e t) w → Steps tree (emit at (instr op_constant a.index 0)) c c' (rest e' t) (rest e' t) a.walked r → Steps tree (literal at tag (content tree at)) c c' (rest e t) (rest e' t) w r
-    go t f g =
-        record {
-          step = λ _ _. follow (memory tree c (rest e t) w) (λ _. add_constant at tag (content tree at)) (λ k. emit at (instr op_constant k 0)) (x.step tree c t)
-              (g.step tt tt ∙ with_value tree c (rest e' t) a.walked a.index (λ k. emit at (instr op_constant k 0)));
-          ready = g.ready;
-          fine = g.fine;
-          keeps = deeper_keeps x.keeps g.keeps;
-        }
+module _ (at tag : ℕ) {tree c e e' : Bytes} {s s₁ : State} where
+  pub literal_goes : {k : ℕ} {c' : Bytes} {r : Walked} → Adds (add_constant at tag (content tree at)) e e' s s₁ (Ok k) → Done c c' (Ok s₁) r (emit at (instr op_constant k 0)) → StepsBeside tree (literal at tag (content tree at)) c c' e e' (Ok s) r
+  literal_goes {k} {c'} {r} x d = record { steps = λ t f. go t f (done_steps (x.fine tree t f) d) }
+    where
+      go : (t : List ℕ) → FineState tree (rest e t) s → Steps tree (emit at (instr op_constant k 0)) c c' (rest e' t) (rest e' t) (Ok s₁) r → Steps tree (literal at tag (content tree at)) c c' (rest e t) (rest e' t) (Ok s) r
+      go t f g =
+          record {
+            step = λ _ _. follow (memory tree c (rest e t) (Ok s)) (λ _. add_constant at tag (content tree at)) (λ k. emit at (instr op_constant k 0)) (x.step tree c t) (g.step tt tt);
+            ready = g.ready;
+            fine = g.fine;
+            keeps = deeper_keeps x.keeps g.keeps;
+          }
+
+  pub literal_stops : {z : Refusal} → code_size ≤ length c → Adds (add_constant at tag (content tree at)) e e' s s₁ (Err z) → StepsBeside tree (literal at tag (content tree at)) c c e e' (Ok s) (Err (stopped z s₁))
+  literal_stops a x =
+      record {
+        steps = λ t f.
+            record {
+              step = λ _ _. follow (memory tree c (rest e t) (Ok s)) (λ _. add_constant at tag (content tree at)) (λ k. emit at (instr op_constant k 0)) (x.step tree c t) refl;
+              ready = record { area = a; sound = tt };
+              fine = tt;
+              keeps = stop_deeper;
+            };
+      }

@@ -19,12 +19,13 @@ use Rattle.definition.specs.Walk.{Res, on, stop, bind, refuse}
 use Rattle.definition.proofs.Basic.{both_left}
 use Rattle.definition.proofs.Instructions.{size-bytes}
 use Rattle.scope.specs.declared.State.{State}
-use Rattle.scope.specs.Walked.{Walked}
-use Rattle.std.specs.Prelude.{Ok, Err}
+use Rattle.definition.specs.declared.reason.Refusal.{Refusal}
+use Rattle.scope.specs.Walked.{Walked, walked}
+use Rattle.std.specs.Prelude.{Ok, Err, Result}
 use Rattle.scope.specs.View.{View, view, outline}
 use Rattle.scope.specs.Machine.{here, put, emit, last_is, returned, with_constant, add_constant, outside, chunk_bytes, function_content, loads_size, loads, close_over, leave}
-use Rattle.step.specs.Memory.{Rest, rest, state_of, symbols_of, no_symbols, settled, memory}
-use Rattle.step.specs.Contract.{FineFor, LeavesBeside}
+use Rattle.step.specs.Memory.{Rest, rest, state_of, symbols_of, no_symbols, settled, memory, FineState}
+use Rattle.step.specs.Contract.{FineFor, Leaves}
 use Rattle.step.specs.Frame.{Range, range, in_range, in_ranges, Unchanged, view_in, completed, outside_end, code_ranges, session_ranges, LeavesAlone}
 
 -- Bytes outside a range
@@ -277,33 +278,25 @@ module _ {A : Type 0} where
   settled_state (on a v) = refl
   settled_state (stop r v) = refl
 
--- the same bytes, whatever could have changed
-same_alone : (tree c c' e e' : Bytes) (t : List ℕ) (o w r : Walked) → memory tree c' (rest e' t) r ≡ memory tree c (rest e t) w → LeavesAlone c c' e e' o w r
-same_alone tree c c' e e' t o w r h =
-    record {
-      code = same_unchanged _ (sym (shows_code tree c' (rest e' t) r) ∙ ap (λ x. (view_in x).code) h ∙ shows_code tree c (rest e t) w);
-      session = same_unchanged _ (sym (shows_session tree c' (rest e' t) r) ∙ ap (λ x. (view_in x).session) h ∙ shows_session tree c (rest e t) w);
-    }
-
 -- the promise says which bytes there are: no others have changed
-leaves_alone : {p n : ℕ} {c c' e e' : Bytes} {t : List ℕ} (o w r : Walked) → FineFor (rest e t) w → LeavesBeside p n c c' e e' t o w r → LeavesAlone c c' e e' o w r
-leaves_alone {p} {n} {c} {c'} {e} {e'} {t} (Ok q) (Ok s) r f h =
+pub leaves_alone : {p n : ℕ} {c c' e e' : Bytes} {t : List ℕ} {o s u : State} {r : Walked} → state_of r ≡ u → FineFor (rest e t) s
+    → ((tree : Bytes) → FineState tree (rest e t) s → Leaves tree p n c c' (rest e t) (rest e' t) o (Ok s) r) → LeavesAlone c c' e e' o s u
+leaves_alone {p} {n} {c} {c'} {e} {e'} {t} {o} {s} {u} {r} q f h =
     let a = f.tree in
-    let o = view c e no_symbols q in
+    let outer = view c e no_symbols o in
     let v = view c e (symbols_of a (rest e t) s) s in
-    let x = leave p n o v in
-    let g = leave_framed p n o v in
-    let z = (h.leaves a f.fine).step o refl in
+    let x = leave p n outer v in
+    let g = leave_framed p n outer v in
+    let z = (h a f.fine).step outer refl in
     let k : (view_in x).code ≡ c' = sym (settled-code x) ∙ sym (ap (λ x. (view_in x).code) z) ∙ shows_code a c' (rest e' t) r in
     let j : (view_in x).session ≡ e' = sym (settled_session x) ∙ sym (ap (λ x. (view_in x).session) z) ∙ shows_session a c' (rest e' t) r in
-    let i : (view_in x).state ≡ state_of r = sym (settled_state x) ∙ sym (ap (λ x. (view_in x).state) z) ∙ shows_state a c' (rest e' t) r in
+    let i : (view_in x).state ≡ u = sym (settled_state x) ∙ sym (ap (λ x. (view_in x).state) z) ∙ shows_state a c' (rest e' t) r ∙ q in
     record {
-      code = subst (λ y. Unchanged (code_ranges c (Ok q) (Ok s) (state_of r)) c y) k (subst (λ u. Unchanged (code_ranges c (Ok q) (Ok s) u) c (view_in x).code) i g.code);
-      session = subst (λ y. Unchanged (session_ranges (Ok s) (state_of r)) e y) j (subst (λ u. Unchanged (session_ranges (Ok s) u) e (view_in x).session) i g.session);
+      code = subst (λ y. Unchanged (code_ranges c o s u) c y) k (subst (λ u. Unchanged (code_ranges c o s u) c (view_in x).code) i g.code);
+      session = subst (λ y. Unchanged (session_ranges s u) e y) j (subst (λ u. Unchanged (session_ranges s u) e (view_in x).session) i g.session);
     }
-leaves_alone {c = c} {c'} {e} {e'} {t} (Ok q) (Err z) r f h = same_alone f.tree c c' e e' t (Ok q) (Err z) r ((h.leaves f.tree f.fine).step (view c e no_symbols q) refl)
-leaves_alone {c = c} {c'} {e} {e'} {t} (Err z) w r f h = same_alone f.tree c c' e e' t (Err z) w r ((h.leaves f.tree f.fine).stopped z.refusal z.state refl)
 
--- both promises
-pub and_alone : {p n : ℕ} {c c' e e' : Bytes} {t : List ℕ} {o w r : Walked} → FineFor (rest e t) w → LeavesBeside p n c c' e e' t o w r → LeavesBeside p n c c' e e' t o w r × LeavesAlone c c' e e' o w r
-and_alone {o = o} {w = w} {r = r} f h = (h, leaves_alone o w r f h)
+-- the state after an answer
+pub state_walked : (r : Result (Unit {0}) Refusal) (s : State) → state_of (walked r s) ≡ s
+state_walked (Ok x) s = refl
+state_walked (Err z) s = refl

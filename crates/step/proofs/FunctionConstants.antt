@@ -9,17 +9,16 @@ use lib.Seq.{sets, length-take-le}
 use Rattle.definition.specs.Basic.{Bytes}
 use Rattle.definition.specs.Limit.{code_size}
 use Rattle.definition.specs.Number
+use Rattle.definition.specs.Number.{refusal}
 use Rattle.definition.specs.Tag.{tag_function_const}
 use Rattle.definition.specs.Field.{field}
 use Rattle.scope.specs.declared.State.{State}
-use Rattle.scope.specs.Walked.{Walked}
-use Rattle.std.specs.Prelude.{Ok}
-use Rattle.scope.specs.View.{Fits, Refuses}
+use Rattle.std.specs.Prelude.{Ok, Err}
+use Rattle.scope.specs.View.{Fits}
 use Rattle.scope.specs.Machine.{with_constant, add_constant, function_content}
 use Rattle.session.specs.Write.{heading}
 use Rattle.session.proofs.Stores.{sets_append}
-use Rattle.step.specs.declared.Added.{Added}
-use Rattle.step.specs.Memory.{Roomy}
+use Rattle.step.specs.Memory.{RoomyState}
 use Rattle.step.specs.Contract.{has_room, Adds}
 use Rattle.step.proofs.Constants.{roomy_write, adds_on, adds_full}
 
@@ -46,17 +45,16 @@ module _ (c : Bytes) (s : State) (f : Fits s) (a : code_size ≤ length c) where
   part_length : length (take (s.chunk.start + s.chunk.len - s.chunk.start) (drop s.chunk.start c)) ≡ s.chunk.len
   part_length = ap length part_bytes ∙ chunk-length
 
-  module _ {e : Bytes} {t : Bool} (m : Roomy e (Ok s)) (o : t ≡ has_room (3 + s.chunk.len) s) (y : t ≡ true) where
+  module _ {e : Bytes} {t : Bool} (m : RoomyState e s) (o : t ≡ has_room (3 + s.chunk.len) s) (y : t ≡ true) where
     pub function_within : s.pool_end + (3 + (3 + length (take (s.chunk.start + s.chunk.len - s.chunk.start) (drop s.chunk.start c)))) ≤ length e
-    function_within = rw part_length (roomy_write refl m (3 + s.chunk.len) o y)
+    function_within = rw part_length (roomy_write m (3 + s.chunk.len) o y)
 
-    pub function_on : (p locals params : ℕ) {e' : Bytes} {r : Added} → e' ≡ sets e s.pool_end (field tag_function_const (function_content locals params (take (s.chunk.start + s.chunk.len - s.chunk.start) (drop s.chunk.start c))))
-        → r ≡ record { walked = Ok (with_constant (3 + s.chunk.len) s); index = s.constants }
-        → Adds (add_constant p tag_function_const (function_content locals params (take s.chunk.len (drop s.chunk.start c)))) e e' (Ok s) r
+    pub function_on : (p locals params : ℕ) {e' : Bytes} {s' : State} → e' ≡ sets e s.pool_end (field tag_function_const (function_content locals params (take (s.chunk.start + s.chunk.len - s.chunk.start) (drop s.chunk.start c))))
+        → s' ≡ with_constant (3 + s.chunk.len) s → Adds (add_constant p tag_function_const (function_content locals params (take s.chunk.len (drop s.chunk.start c)))) e e' s s' (Ok s.constants)
     function_on p locals params st i =
-        adds_on p tag_function_const (function_content locals params (take s.chunk.len (drop s.chunk.start c))) e refl (3 + s.chunk.len) m (omega (arith, chunk-length)) o y (rw part_bytes at st) i
+        adds_on p tag_function_const (function_content locals params (take s.chunk.len (drop s.chunk.start c))) e (3 + s.chunk.len) m (omega (arith, chunk-length)) o y (rw part_bytes at st) i
 
-  pub function_full : (p locals params : ℕ) {e : Bytes} {t : Bool} {i : ℕ} {r : Walked} → t ≡ has_room (3 + s.chunk.len) s → t ≡ false → Refuses (Ok s) r Number.pool p
-      → Adds (add_constant p tag_function_const (function_content locals params (take s.chunk.len (drop s.chunk.start c)))) e e (Ok s) (record { walked = r; index = i })
-  function_full p locals params {e} o y d =
-      adds_full p tag_function_const (function_content locals params (take s.chunk.len (drop s.chunk.start c))) e refl (3 + s.chunk.len) (omega (arith, chunk-length)) o y d
+  pub function_full : (p locals params : ℕ) {e : Bytes} {t : Bool} → t ≡ has_room (3 + s.chunk.len) s → t ≡ false
+      → Adds (add_constant p tag_function_const (function_content locals params (take s.chunk.len (drop s.chunk.start c)))) e e s s (Err (refusal Number.pool p))
+  function_full p locals params {e} o y =
+      adds_full p tag_function_const (function_content locals params (take s.chunk.len (drop s.chunk.start c))) e (3 + s.chunk.len) (omega (arith, chunk-length)) o y

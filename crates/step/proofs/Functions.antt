@@ -7,7 +7,7 @@ use mathlib.Core.Path.{◌≡◌, refl, sym, ap, ◌∙◌}
 use lib.ListN.{length}
 use borrow.Author.Tests.{le-leb, lt-leb, lt-ltb, le-ltb}
 use Rattle.definition.specs.Basic.{Bytes}
-use Rattle.definition.specs.Limit.{nesting_limit, arguments_limit}
+use Rattle.definition.specs.Limit.{code_size, nesting_limit, arguments_limit}
 use Rattle.definition.specs.Number
 use Rattle.definition.specs.SymbolTable.{named, with_params}
 use Rattle.definition.specs.Walk.{on, refuse}
@@ -17,21 +17,16 @@ use Rattle.symbol_table.specs.Name as Name
 use Rattle.symbol_table.specs.Layout.{globals_of, tables_of}
 use Rattle.symbol_table.specs.Contract as Symbol
 use Rattle.scope.specs.declared.State.{State}
-use Rattle.scope.specs.Walked.{Walked}
+use Rattle.definition.specs.Number.{refusal}
+use Rattle.scope.specs.declared.lent.Scope.{Scope}
 use Rattle.std.specs.Prelude.{Ok, Err}
-use Rattle.scope.specs.View.{view, Fits, Sound, Refuses}
+use Rattle.scope.specs.View.{view, Fits}
 use Rattle.scope.specs.Machine.{inside, enter}
 use Rattle.step.specs.Memory.{rest, names_of, symbols_of, settled, FineState}
-use Rattle.step.specs.Contract.{HeadAt, EntersBeside}
-use Rattle.step.proofs.Memory.{stop_deeper, on_deeper, refuses_is}
+use Rattle.step.specs.Contract.{HeadAt, Enters}
+use Rattle.step.specs.Lent.{EntersOn}
+use Rattle.step.proofs.Memory.{stop_deeper, on_deeper}
 use Rattle.definition.specs.declared.reason.Reason.{Reason}
-use Rattle.scope.specs.declared.Stopped.{Stopped}
-use Rattle.std.specs.Result.{IsErrAnd}
-use Rattle.definition.proofs.Basic.{passed_on}
-
--- a walk that goes on has its chunk within the code area
-pub sound_on : {w : Walked} {s : State} → w ≡ Ok s → Sound w → Fits s
-sound_on q h = rw q at h
 
 -- Parameters in a row
 
@@ -56,62 +51,55 @@ module _ {tree : Bytes} {p n : ℕ} (h : HeadAt tree p n) where
       rw (e, params_count x) (row_stands tree (after tree (p + 3) + 3) (after tree (after tree (p + 3))) h.params.0 x.names.row)
 
   -- a test that refuses
-  module _ {t : List ℕ} {w : Walked} {s : State} (q : w ≡ Ok s) where
-    refused_enters : {k : Reason} {r : Walked} → ((c e : Bytes) (ps : List Bytes) → n ≡ length ps → refuse k p (view c e (symbols_of tree (rest e t) s) s) ≡ enter p (content tree (p + 3)) ps (view c e (symbols_of tree (rest e t) s) s))
-        → Refuses (Ok s) r k p → EntersBeside tree p t t w r
-    refused_enters m d =
-        rw (q, refuses_is d)
-        (record {
-          enters = λ c e a f.
-              record { step = λ ps x. ap settled (m c e ps (params_count x)); ready = record { area = a.area; sound = tt }; fine = tt; inside = stop_deeper };
-        })
+  module _ {t : List ℕ} {s : Scope} where
+    refused_enters : {k : Reason} → ((c e : Bytes) (ps : List Bytes) → n ≡ length ps → refuse k p (view c e (symbols_of tree (rest e t) s.state) s.state) ≡ enter p (content tree (p + 3)) ps (view c e (symbols_of tree (rest e t) s.state) s.state))
+        → EntersOn tree p t t s s (Err (refusal k p))
+    refused_enters m =
+        record {
+          enters = λ e f. record { step = λ ps x. ap settled (m s.code.now e ps (params_count x)); ready = record { area = s.area; sound = tt }; fine = tt; inside = stop_deeper };
+          code = refl;
+          same = refl;
+        }
 
-    pub enter-nested : {r : Walked} → nesting_limit ≤ s.level → Refuses (Ok s) r Number.nesting p → EntersBeside tree p t t w r
+    pub enter-nested : nesting_limit ≤ s.state.level → EntersOn tree p t t s s (Err (refusal Number.nesting p))
     unfolding enter
-    enter-nested l d = refused_enters (λ c e ps _. rw (le-leb nesting_limit s.level l)) d
+    enter-nested l = refused_enters (λ c e ps _. rw (le-leb nesting_limit s.state.level l))
 
-    module _ (l : s.level < nesting_limit) where
-      pub enter-many : {r : Walked} → arguments_limit < n → Refuses (Ok s) r Number.too_many p → EntersBeside tree p t t w r
+    module _ (l : s.state.level < nesting_limit) where
+      pub enter-many : arguments_limit < n → EntersOn tree p t t s s (Err (refusal Number.too_many p))
       unfolding enter
-      enter-many g d = refused_enters (λ c e ps m. rw (lt-leb nesting_limit s.level l, lt-ltb arguments_limit (length ps) (rw m at g))) d
+      enter-many g = refused_enters (λ c e ps m. rw (lt-leb nesting_limit s.state.level l, lt-ltb arguments_limit (length ps) (rw m at g)))
 
-      module _ (g : n ≤ arguments_limit) {m : ℕ} (o : m ≡ after tree (p + 3)) {t' : List ℕ} (x : Symbol.Enters tree s.level (p + 3) (m + 3) n t t') where
-        -- the table is that of the parameters
-        entered_tables : (ps : List Bytes) → ParamsAt tree (after tree (p + 3)) ps → tables_of tree (s.level + 1) t' ≡ with_params ps (named (content tree (p + 3))) ∷ tables_of tree s.level t
-        entered_tables ps y =
-            let j : Name.fields tree n (m + 3) ≡ ps = rw (o, params_count y) (row-fields tree (after tree (p + 3) + 3) (after tree (after tree (p + 3))) ps y.names.row) in
-            ap (λ l. tables_of tree l t') (add-one s.level) ∙ x.tables ∙ ap (λ ps. with_params ps (named (content tree (p + 3))) ∷ tables_of tree s.level t) j
+  module _ {t : List ℕ} (s : State) (l : s.level < nesting_limit) (g : n ≤ arguments_limit) {m : ℕ} (o : m ≡ after tree (p + 3)) {t' : List ℕ} (x : Symbol.Enters tree s.level (p + 3) (m + 3) n t t') where
+    -- the table is that of the parameters
+    entered_tables : (ps : List Bytes) → ParamsAt tree (after tree (p + 3)) ps → tables_of tree (s.level + 1) t' ≡ with_params ps (named (content tree (p + 3))) ∷ tables_of tree s.level t
+    entered_tables ps y =
+        let j : Name.fields tree n (m + 3) ≡ ps = rw (o, params_count y) (row-fields tree (after tree (p + 3) + 3) (after tree (after tree (p + 3))) ps y.names.row) in
+        ap (λ l. tables_of tree l t') (add-one s.level) ∙ x.tables ∙ ap (λ ps. with_params ps (named (content tree (p + 3))) ∷ tables_of tree s.level t) j
 
-        entered_step : (c e : Bytes) (ps : List Bytes) → ParamsAt tree (after tree (p + 3)) ps
-            → on tt (view c e (symbols_of tree (rest e t') (inside s)) (inside s)) ≡ enter p (content tree (p + 3)) ps (view c e (symbols_of tree (rest e t) s) s)
-        unfolding enter
-        entered_step c e ps y =
-            rw (lt-leb nesting_limit s.level l, le-ltb arguments_limit (length ps) (rw (params_count y) at g))
-            (λ u. on tt (view c e (record { globals = globals_of tree (names_of e s) (x.globals u); tables = entered_tables ps y u }) (inside s)))
+    entered_step : (c e : Bytes) (ps : List Bytes) → ParamsAt tree (after tree (p + 3)) ps
+        → on tt (view c e (symbols_of tree (rest e t') (inside s)) (inside s)) ≡ enter p (content tree (p + 3)) ps (view c e (symbols_of tree (rest e t) s) s)
+    unfolding enter
+    entered_step c e ps y =
+        rw (lt-leb nesting_limit s.level l, le-ltb arguments_limit (length ps) (rw (params_count y) at g))
+        (λ u. on tt (view c e (record { globals = globals_of tree (names_of e s) (x.globals u); tables = entered_tables ps y u }) (inside s)))
 
-        entered_fine : {e : Bytes} → length t' ≡ length t → FineState tree (rest e t) s → FineState tree (rest e t') (inside s)
-        entered_fine {e} k f =
-            record {
-              words = f.words;
-              symbols = rw (add-one s.level) (x.good (names_of e s) f.symbols);
-              level = omega arith;
-              area = rw k f.area;
-              pool = record { area = f.pool.area; room = f.pool.room; start = f.pool.start; end = f.pool.end };
-            }
+    entered_fine : {e : Bytes} → length t' ≡ length t → FineState tree (rest e t) s → FineState tree (rest e t') (inside s)
+    entered_fine {e} k f =
+        record {
+          words = f.words;
+          symbols = rw (add-one s.level) (x.good (names_of e s) f.symbols);
+          level = omega arith;
+          area = rw k f.area;
+          pool = record { area = f.pool.area; room = f.pool.room; start = f.pool.start; end = f.pool.end };
+        }
 
-        pub enter-on : {s' : State} → length t' ≡ length t → s' ≡ inside s → EntersBeside tree p t t' w (Ok s')
-        enter-on k i =
-            rw (q, i)
-            (record {
-              enters = λ c e a f.
-                  record {
-                    step = λ ps y. ap settled (entered_step c e ps y);
-                    ready = record { area = a.area; sound = record { room = omega (arith, a.sound); last = omega arith; prev = omega arith } };
-                    fine = entered_fine k f;
-                    inside = on_deeper refl refl;
-                  };
-            })
-
--- a walk that has stopped stays as it is
-pub enter_stop : {tree : Bytes} {p : ℕ} {t : List ℕ} {w r : Walked} {z : Stopped} → w ≡ Err z → IsErrAnd r (λ y. y ≡ z) → EntersBeside tree p t t w r
-enter_stop q h = rw (q, passed_on h) (record { enters = λ c e a f. record { step = λ ps y. refl; ready = a; fine = f; inside = stop_deeper } })
+    pub enter-on : {c : Bytes} {s' : State} → code_size ≤ length c → Fits s → length t' ≡ length t → s' ≡ inside s → (e : Bytes) → FineState tree (rest e t) s → Enters tree p c (rest e t) (rest e t') (Ok s) (Ok s')
+    enter-on {c} a h k i e f =
+        rw i
+        (record {
+          step = λ ps y. ap settled (entered_step c e ps y);
+          ready = record { area = a; sound = record { room = omega (arith, h); last = omega arith; prev = omega arith } };
+          fine = entered_fine k f;
+          inside = on_deeper refl refl;
+        })

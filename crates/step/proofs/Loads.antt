@@ -1,24 +1,27 @@
 -- The loads of captured originals.
-use Prim.Native.Nat.{ℕ, zero, suc, ◌+◌, ◌*◌, ◌≤◌, ◌<◌}
+use Prim.Native.Nat.{ℕ, zero, suc, ◌+◌, ◌-◌, ◌*◌, ◌≤◌, ◌<◌}
 use native.Mathlib.Omega.{arith}
 use native.Mathlib.Numerals.{add-one}
 use mathlib.Core.List.{List, [], ◌∷◌, map}
 use mathlib.Core.Path.{◌≡◌, refl, sym, ap, subst, ◌∙◌}
-use lib.ListN.{length, get_or}
+use lib.ListN.{get_or}
 use Rattle.definition.specs.Basic.{Bytes}
 use Rattle.definition.specs.Opcode.{instr, width, size}
 use Rattle.definition.specs.SymbolTable.{Symbol, load_of}
-use Rattle.definition.specs.Walk.{on}
 use Rattle.definition.proofs.Instructions.{width_most}
 use Rattle.symbol_table.specs.Layout.{part, symbol_of, originals_at, originals_of}
 use Rattle.symbol_table.proofs.Back.{back_none, back_next}
-use Rattle.scope.specs.Walked.{Walked}
+use Rattle.definition.specs.declared.reason.Refusal.{Refusal}
+use Rattle.scope.specs.Lent.{Emits}
+use Rattle.scope.specs.Walked.{Walked, Stopped, stopped}
+use Rattle.scope.specs.declared.State.{State}
+use Rattle.scope.specs.declared.lent.Scope.{Scope}
 use Rattle.std.specs.Prelude.{Ok, Err}
 use Rattle.std.specs.List.{sum, range_with_len}
 use Rattle.std.proofs.lemmas.List.FromFn.{sum_by-map-range_with_len_more}
-use Rattle.scope.specs.View.{Symbols, ended, then, Ready, Done}
+use Rattle.scope.specs.View.{Ready, Done}
 use Rattle.scope.specs.Machine.{emit, loads_size, loads}
-use Rattle.step.proofs.Memory.{done_done}
+use Rattle.step.proofs.Memory.{done_done, done_stops}
 
 -- the originals of the function at a level
 abbrev pub captured : List ℕ → ℕ → List Symbol
@@ -57,34 +60,47 @@ sizes_small r zero = omega arith
 sizes_small r (suc i) = omega (arith, sizes_more r i, sizes_small r i, width_most (load_of (symbol_of (get_or r (originals_at + i) 0))).op)
 
 -- nothing to load
-pub loads_none : (p : ℕ) (r : List ℕ) {c : Bytes} {w : Walked} → Ready c w → Done c c w w (loads p (originals_of r 0))
+pub loads_none : (p : ℕ) (r : List ℕ) {c : Bytes} {s : State} → Ready c (Ok s) → Done c c (Ok s) (Ok s) (loads p (originals_of r 0))
 unfolding loads
-loads_none p r {c} {w} h = rw (originals_none r) (record { step = λ e y. same e y w; ready = h; same = refl })
-  where
-    same : (e : Bytes) (y : Symbols) (w : Walked) → ended c e y w ≡ then (ended c e y w) (λ v. on tt v)
-    same e y (Ok s) = refl
-    same e y (Err z) = refl
+loads_none p r h = rw (originals_none r) (record { step = λ e y. refl; ready = h; same = refl })
 
 pub loads_more : (p : ℕ) (r : List ℕ) (i : ℕ) {k o a : ℕ} {c c₁ c₂ : Bytes} {w v u : Walked} → Done c c₁ w v (loads p (originals_of r i)) → k ≡ get_or r (originals_at + i) 0 → instr o a 0 ≡ load_of (symbol_of k) → Done c₁ c₂ v u (emit p (instr o a 0))
     → Done c c₂ w u (loads p (originals_of r (i + 1)))
 unfolding loads
 loads_more p r i {c₁ = c₁} {c₂ = c₂} {v = v} {u = u} d q j h = rw (originals_more r i) (done_done d (subst (λ x. Done c₁ c₂ v u (emit p x)) (j ∙ ap (λ k. load_of (symbol_of k)) q) h))
 
+-- a walk that has stopped at one of them loads no more
+loads_stopped : (p : ℕ) (r : List ℕ) (i k : ℕ) {c c' : Bytes} {w : Walked} {z : Stopped} → Done c c' w (Err z) (loads p (originals_of r i)) → Done c c' w (Err z) (loads p (originals_of r (i + k)))
+unfolding loads
+loads_stopped p r i zero {c} {c'} {w} {z} d = let e : i + 0 ≡ i = omega arith in subst (λ n. Done c c' w (Err z) (loads p (originals_of r n))) (sym e) d
+loads_stopped p r i (suc k) {c} {c'} {w} {z} d =
+    let e : i + suc k ≡ i + k + 1 = omega arith in
+    subst (λ n. Done c c' w (Err z) (loads p (originals_of r n))) (sym e)
+    (rw (originals_more r (i + k)) (done_stops (emit p (load_of (symbol_of (get_or r (originals_at + (i + k)) 0)))) (loads_stopped p r i k d)))
+
 -- The loop: so many of the n originals are loaded
 
-pub record LoadTurn (p : ℕ) (r : List ℕ) (n : ℕ) (c c' : Bytes) (w v : Walked) (i : ℕ) : Type 0 where
+pub record LoadTurn (p : ℕ) (r : List ℕ) (n : ℕ) (s t : Scope) (i : ℕ) : Type 0 where
   pub within : i ≤ n
-  pub done : Done c c' w v (loads p (originals_of r i))
-  pub same : length c' ≡ length c
+  pub done : Done s.code.now t.code.now (Ok s.state) (Ok t.state) (loads p (originals_of r i))
+  pub same : t.code.ghost_name ≡ s.code.ghost_name
 
-module _ (p : ℕ) (r : List ℕ) (n : ℕ) {c : Bytes} {w : Walked} where
-  pub load_holds : Ready c w → LoadTurn p r n c c w w 0
-  load_holds h = record { within = omega arith; done = loads_none p r h; same = refl }
+module _ (p : ℕ) (r : List ℕ) (n : ℕ) {s : Scope} where
+  pub load_holds : LoadTurn p r n s s 0
+  load_holds = record { within = omega arith; done = loads_none p r (record { area = s.area; sound = s.fits }); same = refl }
 
-  module _ {c' : Bytes} {v : Walked} {i : ℕ} (h : LoadTurn p r n c c' w v i) where
-    pub load_again : {k o a : ℕ} {c'' : Bytes} {u : Walked} → i < n → k ≡ get_or r (originals_at + i) 0 → instr o a 0 ≡ load_of (symbol_of k) → Done c' c'' v u (emit p (instr o a 0)) → length c'' ≡ length c'
-        → LoadTurn p r n c c'' w u (i + 1)
-    load_again l q j d s = record { within = omega arith; done = loads_more p r i h.done q j d; same = s ∙ h.same }
+  module _ {t : Scope} {i : ℕ} (h : LoadTurn p r n s t i) {k o a : ℕ} (q : k ≡ get_or r (originals_at + i) 0) (j : instr o a 0 ≡ load_of (symbol_of k)) (l : i < n) where
+    pub load_again : {u : Scope} → Emits t u (Ok tt) (emit p (instr o a 0)) → LoadTurn p r n s u (i + 1)
+    load_again d = record { within = omega arith; done = loads_more p r i h.done q j d.done; same = d.same ∙ h.same }
 
-    pub load_ends : n ≤ i → Done c c' w v (loads p (originals_of r n))
-    load_ends l = let e : i ≡ n = omega (arith, h.within) in rw (← e) h.done
+    pub load_stops : {u : Scope} {z : Refusal} → Emits t u (Err z) (emit p (instr o a 0)) → Emits s u (Err z) (loads p (originals_of r n))
+    load_stops {u} {z} d =
+        let m = n - (i + 1) in
+        let e : i + 1 + m ≡ n = omega arith in
+        record {
+          done = subst (λ x. Done s.code.now u.code.now (Ok s.state) (Err (stopped z u.state)) (loads p (originals_of r x))) e (loads_stopped p r (i + 1) m (loads_more p r i h.done q j d.done));
+          same = d.same ∙ h.same;
+        }
+
+  pub load_ends : {t : Scope} {i : ℕ} → LoadTurn p r n s t i → n ≤ i → Emits s t (Ok tt) (loads p (originals_of r n))
+  load_ends h l = let e : _ ≡ n = omega (arith, h.within) in record { done = rw (← e) h.done; same = h.same }

@@ -1,23 +1,20 @@
 -- Steps on the lent memory in a row, and steps on the code area alone.
-use Prim.Native.Nat.{ℕ, ◌+◌}
+use Prim.Native.Nat.{ℕ, ◌+◌, ◌≤◌}
 use native.Mathlib.Omega.{arith}
 use mathlib.Core.List.{[]}
+use lib.ListN.{length}
 use mathlib.Core.Path.{◌≡◌, refl, sym, ap, ◌∙◌}
 use Rattle.definition.specs.Basic.{Bytes}
+use Rattle.definition.specs.Limit.{code_size}
 use Rattle.definition.specs.Walk.{Res, on, stop, bind, Go}
-use Rattle.definition.specs.Number.{refusal}
 use Rattle.definition.specs.declared.reason.Refusal.{Refusal}
 use Rattle.scope.specs.declared.State.{State}
-use Rattle.scope.specs.Walked.{Walked}
-use Rattle.std.specs.Prelude.{Ok, Err}
-use Rattle.scope.specs.Walked.{stopped}
-use Rattle.scope.specs.View.{View, view, ended, then, outline, outline_of, Ready, Done, Refuses}
-use Rattle.step.specs.Memory.{Rest, state_of, symbols_of, no_symbols, settled, result, memory, Roomy, FineState, Fine, Deeper, Keeps}
+use Rattle.scope.specs.declared.lent.Scope.{Scope}
+use Rattle.scope.specs.Walked.{Walked, Stopped, stopped, walked}
+use Rattle.std.specs.Prelude.{Ok, Err, Result}
+use Rattle.scope.specs.View.{View, ended, then, outline, outline_of, Ready, Done}
+use Rattle.step.specs.Memory.{Rest, state_of, symbols_of, no_symbols, settled, memory, FineState, Fine, Deeper, Keeps}
 use Rattle.step.specs.Contract.{Steps}
-use Rattle.definition.specs.declared.reason.Reason.{Reason}
-use Rattle.scope.specs.declared.Stopped.{Stopped}
-use Rattle.std.specs.Result.{IsErrAnd}
-use Rattle.definition.proofs.Basic.{passed_on}
 
 -- Steps in a row
 
@@ -42,11 +39,6 @@ pub chain : (x : Res View (Unit {0})) {y z : Res View (Unit {0})} (f g : Go View
 chain x f g p q = follow x (λ _. f) (λ _. g) p q
 
 module _ (tree c : Bytes) (m : Rest) where
-  -- a value that the next step uses
-  pub with_value : {A B : Type 0} (w : Walked) (a : A) (g : A → View → Res View B) → settled (bind (memory tree c m w) (λ _. g a)) ≡ settled (bind (result tree c m w a) g)
-  with_value (Ok s) a g = refl
-  with_value (Err z) a g = refl
-
   -- the symbols are those of the state
   memory-ended : (w : Walked) → memory tree c m w ≡ settled (ended c m.session (symbols_of tree m (state_of w)) w)
   memory-ended (Ok s) = refl
@@ -130,22 +122,15 @@ pub done_done : {c c₁ c₂ : Bytes} {w v r : Walked} {f g : Go View} → Done 
 done_done {c = c} {w = w} {f = f} {g = g} d h =
     record { step = λ e y. h.step e y ∙ ap (λ x. then x g) (d.step e y) ∙ assoc (ended c e y w) (λ _. f) (λ _. g); ready = h.ready; same = h.same ∙ d.same }
 
+-- after a step that is refused nothing more is done
+pub done_stops : {c c' : Bytes} {w : Walked} {z : Stopped} {f : Go View} (g : Go View) → Done c c' w (Err z) f → Done c c' w (Err z) (λ s. then (f s) g)
+done_stops g d = done_done {g = g} d (record { step = λ _ _. refl; ready = d.ready; same = refl })
+
 -- a walk that has stopped stays as it is
-pub stays : {tree c : Bytes} {m : Rest} {k : Go View} {w r : Walked} {z : Stopped} → w ≡ Err z → IsErrAnd r (λ y. y ≡ z) → Ready c w → Steps tree k c c m m w r
-stays {z = z} q p h = rw (q, passed_on p) (record { step = λ _ _. refl; ready = record { area = h.area; sound = tt }; fine = tt; keeps = keeps_refl (Err z) })
+pub stays : {tree c : Bytes} {m : Rest} {k : Go View} {z : Stopped} → code_size ≤ length c → Steps tree k c c m m (Err z) (Err z)
+stays {z = z} h = record { step = λ _ _. refl; ready = record { area = h; sound = tt }; fine = tt; keeps = keeps_refl (Err z) }
 
--- a refusal is one
-pub refuses_is : {s : State} {r : Walked} {n : Reason} {p : ℕ} → Refuses (Ok s) r n p → r ≡ Err (stopped (refusal n p) s)
-refuses_is {s} {r} {n} {p} d = go r (d.step [] [] no_symbols)
-  where
-    state_in : Res View (Unit {0}) → State
-    state_in (on a v) = v.state
-    state_in (stop x v) = v.state
-
-    go : (r : Walked) → ended [] [] no_symbols r ≡ stop (refusal n p) (view [] [] no_symbols s) → r ≡ Err (stopped (refusal n p) s)
-    go (Ok t) e = absurd (no_way e)
-    go (Err z) e = let q : z.refusal ≡ refusal n p = cc in λ i. Err (stopped (q i) (state_in (e i)))
-
--- a session in which all stands well has room for its pool
-pub fine_roomy : (tree : Bytes) (m : Rest) {w : Walked} → Fine tree m w → Roomy m.session w
-fine_roomy tree m {w} f = record { pool = λ s q. let g : Fine tree m (Ok s) = rw q at f in g.pool }
+-- what a scope that is lent is always: ready, whatever a step on it answered
+pub always_ready : {A : Type 0} (r : Result A Refusal) (s : Scope) → Ready s.code.now (walked r s.state)
+always_ready (Ok a) s = record { area = s.area; sound = s.fits }
+always_ready (Err z) s = record { area = s.area; sound = tt }

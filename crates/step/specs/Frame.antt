@@ -1,12 +1,11 @@
 -- What closing a function leaves as it was.
-use Rattle.std.specs.Prelude.{ℕ, ◌≡◌, Bool, true, false, List, [], ◌∷◌, leb, ltb, eqb, length, Ok, Err}
+use Rattle.std.specs.Prelude.{ℕ, ◌≡◌, Bool, true, false, List, [], ◌∷◌, leb, ltb, eqb, length}
 use Rattle.definition.specs.Basic.{Bytes, byte_at, pick, both}
 use Rattle.definition.specs.Walk.{Res, on, stop}
 use Rattle.scope.specs.View.{View, view}
 use Rattle.scope.specs.Machine.{here, returned}
 use Rattle.scope.specs.declared.State.{State}
-use Rattle.scope.specs.Walked.{Walked}
-use Rattle.step.specs.Memory.{state_of, no_symbols}
+use Rattle.step.specs.Memory.{no_symbols}
 
 -- the offsets from one up to another, which is not among them
 pub record Range : Type 0 where
@@ -42,19 +41,17 @@ completed c s = (view_in (returned 0 (view c [] no_symbols s))).state
 abbrev pub outside_end : State → State → ℕ
 outside_end o u = pick (eqb u.level o.level) (here u) (here o)
 
--- the ranges of the code area: the closed chunk, and what the chunk outside gains; none where the walk had stopped
-abbrev pub code_ranges : Bytes → Walked → Walked → State → List Range
-code_ranges c (Ok o) (Ok s) u = range s.chunk.start (here (completed c s)) ∷ range (here o) (outside_end o u) ∷ []
-code_ranges c (Ok o) (Err z) u = []
-code_ranges c (Err z) w u = []
+-- the ranges of the code area: the closed chunk, and what the chunk outside gains
+abbrev pub code_ranges : Bytes → State → State → State → List Range
+code_ranges c o s u = range s.chunk.start (here (completed c s)) ∷ range (here o) (outside_end o u) ∷ []
 
 -- the range of the session: the constant, its head counted
-abbrev pub session_ranges : Walked → State → List Range
-session_ranges (Ok s) u = range s.pool_end u.pool_end ∷ []
-session_ranges (Err z) u = []
+abbrev pub session_ranges : State → State → List Range
+session_ranges s u = range s.pool_end u.pool_end ∷ []
 
 -- Closing changes the bytes of the closed chunk, those that the chunk outside gains and the constant's, and no others, also where it is refused. The pool's
 -- length is not among them: it is written with the session, once the whole tree is accepted. The output is not lent to this step, so it can't change.
-pub record LeavesAlone (c c' e e' : Bytes) (o w r : Walked) : Type 0 where
-  pub code : Unchanged (code_ranges c o w (state_of r)) c c'
-  pub session : Unchanged (session_ranges w (state_of r)) e e'
+-- `o` is the state outside, `s` the one inside, `u` the one after it.
+pub record LeavesAlone (c c' e e' : Bytes) (o s u : State) : Type 0 where
+  pub code : Unchanged (code_ranges c o s u) c c'
+  pub session : Unchanged (session_ranges s u) e e'

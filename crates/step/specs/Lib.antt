@@ -1,3 +1,4 @@
 pub mod Memory
 pub mod Contract
 pub mod Frame
+pub mod Lent

@@ -1,11 +1,12 @@
 -- The lent memory during the walk: what it stands for, and what the steps need of it.
-use Rattle.std.specs.Prelude.{ℕ, ◌+◌, ◌≤◌, ◌≡◌, List, [], length, take, Ok, Err}
+use Rattle.std.specs.Prelude.{ℕ, ◌+◌, ◌≤◌, ◌≡◌, List, [], length, take, Ok, Err, Result}
 use Rattle.definition.specs.Basic.{Bytes}
 use Rattle.definition.specs.Limit.{session_size, table_size, pool_limit, nesting_limit}
 use Rattle.definition.specs.Walk.{Res, on, stop, Go}
 use Rattle.symbol_table.specs.Layout.{globals_in, tables_of, Good}
 use Rattle.symbol_table.specs.Contract.{HasWords}
 use Rattle.scope.specs.View.{Symbols, View, view, then, Ready}
+use Rattle.definition.specs.declared.reason.Refusal.{Refusal}
 use Rattle.scope.specs.declared.State.{State}
 use Rattle.scope.specs.Walked.{Walked}
 
@@ -41,6 +42,11 @@ abbrev pub result : {A : Type 0} → Bytes → Bytes → Rest → Walked → A �
 result tree c m (Ok s) a = on a (view c m.session (symbols_of tree m s) s)
 result tree c m (Err z) a = stop z.refusal (view c m.session no_symbols z.state)
 
+-- an answer, and the state after it, on the lent memory
+abbrev pub answered : {A : Type 0} → Bytes → Bytes → Rest → Result A Refusal → State → Res View A
+answered tree c m (Ok a) s = on a (view c m.session (symbols_of tree m s) s)
+answered tree c m (Err r) s = stop r (view c m.session no_symbols s)
+
 -- the walk so far
 abbrev pub memory : Bytes → Bytes → Rest → Walked → Res View (Unit {0})
 memory tree c m w = result tree c m w tt
@@ -51,9 +57,6 @@ pub record RoomyState (e : Bytes) (s : State) : Type 0 where
   pub room : s.names_end + 3 + pool_limit ≤ session_size
   pub start : s.names_end + 3 ≤ s.pool_end
   pub end : s.pool_end ≤ s.names_end + 3 + pool_limit
-
-pub record Roomy (e : Bytes) (w : Walked) : Type 0 where
-  pub pool : (s : State) → w ≡ Ok s → RoomyState e s
 
 -- the names have words in front, and the table area stands well
 pub record FineState (tree : Bytes) (m : Rest) (s : State) : Type 0 where

@@ -52,6 +52,21 @@ module _ (c : ℕ) where
       go false true = refl
       go false false = refl
 
+  -- and back: by the symbol, whether the code is a builtin's or a global's
+  pub far_code : 768 ≤ code_of (symbol_of c) → 768 ≤ c
+  far_code h = go (ltb c 768) refl
+    where
+      go : (t : Bool) → ltb c 768 ≡ t → 768 ≤ c
+      go true p = absurd (omega (arith, h, code_near (ltb-true c 768 p)))
+      go false p = ltb-false c 768 p
+
+  pub near_code : code_of (symbol_of c) ≡ 0 → c < 768
+  near_code h = go (ltb c 768) refl
+    where
+      go : (t : Bool) → ltb c 768 ≡ t → c < 768
+      go true p = ltb-true c 768 p
+      go false p = let f = ltb-false c 768 p in absurd (omega (arith, h, f, code_far f))
+
 -- An entry as a number
 
 module _ (name code hash : ℕ) (n : name < 32768) (c : code < 1024) where

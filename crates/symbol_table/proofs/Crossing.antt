@@ -1,6 +1,6 @@
 -- A lookup comes back through a function's part.
 use Prim.Native.Nat.{ℕ, ◌+◌, ◌-◌, ◌≤◌, ◌<◌}
-use mathlib.Core.Path.{◌≡◌, refl, sym, ◌∙◌}
+use mathlib.Core.Path.{◌≡◌, refl, sym, ap, ◌∙◌}
 use mathlib.Core.Bool.{Bool, true, false}
 use mathlib.Core.List.{List, ◌∷◌}
 use native.Mathlib.Omega.{arith}
@@ -12,15 +12,33 @@ use Rattle.definition.specs.Basic.{pick}
 use Rattle.definition.specs.Limit.{free_limit}
 use Rattle.definition.specs.SymbolTable.{Symbol, Table, Resolved, capture, cross}
 use Rattle.field.specs.Layout.{content}
-use Rattle.symbol_table.specs.Layout.{originals_at, symbol_of, Sized, table_of}
+use Rattle.symbol_table.specs.Layout.{originals_at, symbol_of, code_of, Sized, table_of}
 use Rattle.symbol_table.specs.Store.{free_in}
 use Rattle.symbol_table.specs.Contract.{Crosses}
 use Rattle.std.specs.Prelude.{Ok, Err}
 use Rattle.symbol_table.specs.declared.Found.{Found}
 use Rattle.symbol_table.specs.declared.LookupError.TheVariants.{Full}
 use Rattle.symbol_table.proofs.Back.{length_back}
-use Rattle.symbol_table.proofs.Codes.{symbol_free}
+use Rattle.symbol_table.proofs.Codes.{symbol_free, far_code, near_code}
+use Rattle.symbol_table.specs.Symbols.{meant_by}
+use Rattle.symbol_table.specs.declared.Symbol as met
+use Rattle.symbol_table.specs.declared.Symbol.TheVariants.{Function, Local, Free, Builtin, Global}
 use Rattle.symbol_table.proofs.Tables.{free-table, free_part}
+
+-- the symbol of a code tells whether it is a builtin or a global
+module _ {c : ℕ} where
+  pub is_builtin : {s : met.Symbol} {k : ℕ} → s ≡ Builtin k → meant_by s ≡ symbol_of c → 768 ≤ c
+  is_builtin {k = k} p e = far_code c (omega (arith, ap code_of (ap meant_by (sym p) ∙ e)))
+
+  pub is_global : {s : met.Symbol} {k : ℕ} → s ≡ Global k → meant_by s ≡ symbol_of c → 768 ≤ c
+  is_global {k = k} p e = far_code c (omega (arith, ap code_of (ap meant_by (sym p) ∙ e)))
+
+  pub is_near : (s : met.Symbol) → ((k : ℕ) → s ≡ Builtin k → ⊥) → ((k : ℕ) → s ≡ Global k → ⊥) → meant_by s ≡ symbol_of c → c < 768
+  is_near Function b g e = near_code c (sym (ap code_of e))
+  is_near (Local k) b g e = near_code c (sym (ap code_of e))
+  is_near (Free k) b g e = near_code c (sym (ap code_of e))
+  is_near (Builtin k) b g e = absurd (b k refl)
+  is_near (Global k) b g e = absurd (g k refl)
 
 module _ (n : Bytes) (t : Table) (ts : List Table) (x y : ℕ) where
   far : (b : Bool) → cross n t (Resolved.found (pick b (Symbol.builtin x) (Symbol.global y)) ts) ≡ Resolved.found (pick b (Symbol.builtin x) (Symbol.global y)) (t ∷ ts)

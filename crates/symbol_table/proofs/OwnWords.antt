@@ -12,7 +12,7 @@ use Rattle.definition.specs.Basic.{Bytes, byte_at, pick}
 use Rattle.definition.specs.Limit.{words_limit}
 use Rattle.definition.specs.Tag.{tag_words}
 use Rattle.definition.specs.SymbolTable.{Symbol, same, builtins, find_builtin, distinct}
-use Rattle.definition.specs.Session.{Words, six, listed, in_order}
+use Rattle.definition.specs.Session.{Words, six, listed, words_field}
 use Rattle.definition.specs.Decode.{Decoded, decoded, malformed, then, as_words, read_name_fields, read_words, list_in, words_in}
 use Rattle.field.specs.Layout.{after}
 use Rattle.field.specs.Row.{RowTo, HasRow, found_of}
@@ -46,7 +46,7 @@ pub few_names : {b : Bytes} {from to n : ℕ} (g : HasRow b from to) → length 
 few_names g l h = omega (arith, ap length (row_same h.row g.row))
 
 -- document 01's builtins
-abbrev pub six_row : HasRow (in_order builtins) 0 42
+abbrev pub six_row : HasRow (words_field (listed builtins)) 3 45
 six_row = record { names = builtins; row = RowTo.more refl (lit≤ tt) (RowTo.more refl (lit≤ tt) (RowTo.more refl (lit≤ tt) (RowTo.more refl (lit≤ tt) (RowTo.more refl (lit≤ tt) (RowTo.more refl (lit≤ tt) (RowTo.end refl)))))); within = lit≤ tt }
 
 module _ (b : Bytes) where

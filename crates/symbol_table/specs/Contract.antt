@@ -99,6 +99,11 @@ pub record IsName (tree : Bytes) (name hash : ℕ) : Type 0 where
   pub stands : Stands tree name
   pub is : hash ≡ hash_of (content tree name)
 
+-- a global as it stands in a node: by its index and 1, or 0 for none
+abbrev pub standing_as : Option ℕ → ℕ
+standing_as (Some k) = k + 1
+standing_as None = 0
+
 -- of the first entries of a function's part, those behind the k-th have other tags
 pub record PassedOver (r : List ℕ) (from tag k : ℕ) : Type 0 where
   pub order : k ≤ from

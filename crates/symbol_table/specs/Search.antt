@@ -8,11 +8,18 @@ use Rattle.field.specs.Layout.{content}
 use Rattle.symbol_table.specs.Name.{Stands, hash_of}
 use Rattle.symbol_table.specs.declared.globals.Side.{Side}
 use Rattle.symbol_table.specs.declared.globals.Side.TheVariants.{Session, Tree}
+use Rattle.symbol_table.specs.declared.globals.Turn.{Turn}
+use Rattle.symbol_table.specs.declared.globals.Turn.TheVariants.{Left, Right}
 
 -- the session's globals are on side 0, the tree's on side 1
 abbrev pub side_number : Side → ℕ
 side_number Session = 0
 side_number Tree = 1
+
+-- the sides on which a search goes on from a node
+abbrev pub turn_number : Turn → ℕ
+turn_number Left = 0
+turn_number Right = 1
 
 -- where the nodes are
 abbrev pub nodes_at : ℕ

@@ -1,7 +1,7 @@
 // The table of an open function, in its part of the area.
 // Kept: a part is a slice, whose length the clauses state. Tried: `&mut [u32; PART_SIZE]` by `first_chunk_mut`, where the proof
 // of what comes back to the area did not close.
-ghost use Rattle.std.specs.Prelude.{◌≡◌, ◌+◌, ◌<◌, ◌≤◌, min, length, get_or};
+ghost use Rattle.std.specs.Prelude.{◌≡◌, ◌+◌, ◌^◌, ◌<◌, ◌≤◌, min, length, get_or};
 ghost use Rattle.definition.specs.Limit.{tree_limit, locals_limit, free_limit, arguments_limit};
 ghost use Rattle.definition.specs.SymbolTable.{find};
 ghost use Rattle.field.specs.Layout.{len};
@@ -11,13 +11,24 @@ ghost use Rattle.symbol_table.specs.Store.{entered_in, local_in, free_in};
 ghost use Rattle.symbol_table.specs.Contract.{hit_of, PassedOver, Few, Crosses, DefinesLocal, Params, Opens};
 
 use super::layout::{
-    BUILTIN, CAPTURES, CODE_UNIT, CODES, ENTRIES_AT, FREE, FUNCTION, GLOBALS_SIZE, LOCAL, LOCALS,
-    MARKED_AT, ORIGINALS_AT, PART_SIZE, TAG_UNIT,
+    CAPTURES, CODE_UNIT, CODES, ENTRIES_AT, FREE, FUNCTION, GLOBALS_SIZE, LOCAL, LOCALS, MARKED_AT,
+    ORIGINALS_AT, PART_SIZE, TAG_UNIT,
 };
 use super::name::{Key, Label, Name};
-use super::{DefineError, Found, LookupError, Slot};
+use super::{DefineError, Found, LookupError, Slot, Symbol};
 use field::names::same_name;
 use field::{after_at, content_at};
+use std::ops::Range;
+
+// Where the part of the function at a level stands.
+pub fn part_range(level: usize) -> Range<usize>
+    requires { base level + part_size < 2 ^ 64 }
+    ensures start { result.start ≡ base level }
+    ensures end { result.end ≡ base level + part_size }
+{
+    let start = GLOBALS_SIZE + PART_SIZE * level;
+    start..start + PART_SIZE
+}
 
 // The part of the function at a level.
 // Kept: where a part is written, its range stands at the call. Tried: `part_mut(table, level) -> &mut [u32]`, whose clause on what
@@ -26,9 +37,7 @@ pub fn part(table: &[u32], level: usize) -> &[u32]
     requires { base level + part_size ≤ length table.now }
     ensures { result.now ≡ part level table.now }
 {
-    let start = GLOBALS_SIZE + PART_SIZE * level;
-    let end = start + PART_SIZE;
-    &table[start..end]
+    &table[part_range(level)]
 }
 
 // A number of the part of the function at a level.
@@ -49,7 +58,8 @@ pub fn count(part: &[u32]) -> usize
 }
 
 // How many of the first so many entries are left once those behind the latest with a tag are passed over: 0 where none has it.
-// Kept: with `for k in (0..from).rev()` a call on chosen names takes up to 7 % more instructions, and the bar is 3 %.
+// Kept: with `for k in (0..from).rev()` a call on chosen names takes up to 7 % more instructions, and with the index as an `Option` a
+// call on nested functions 3.4 %, where the bar is 3 %.
 fn tagged_below(part: &[u32], from: usize, tag: usize) -> usize
     requires { entries_at + from ≤ length part.now }
     ensures { PassedOver part.now from tag result }
@@ -67,6 +77,7 @@ fn tagged_below(part: &[u32], from: usize, tag: usize) -> usize
 
 // The latest entry of a name, in a table of n entries. Those whose tag is another are passed over in a loop of their own, which looks at no name.
 // Kept: each turn goes on where a search ended; as an iterator the same search would stand in a struct with its invariant.
+// Never inlined: its loop has the registers to itself.
 #[inline(never)]
 pub fn find_in(name: &Name, tree: &[u8], part: &[u32], n: usize) -> Option<u32>
     requires good_table { GoodTable tree.now part.now }
@@ -144,7 +155,7 @@ pub fn cross_in(
 {
     let found = outer?;
     let crossed = found.crossed + 1;
-    if BUILTIN <= found.code {
+    if let Symbol::Builtin(_) | Symbol::Global(_) = Symbol::from(found.code) {
         return Ok(Found {
             code: found.code,
             crossed,

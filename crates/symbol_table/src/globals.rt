@@ -6,10 +6,10 @@ ghost use Rattle.definition.specs.Basic.{Bytes};
 ghost use Rattle.definition.specs.Limit.{session_size, globals_limit};
 ghost use Rattle.definition.specs.SymbolTable.{Symbol, same, find_global};
 ghost use Rattle.symbol_table.specs.Name.{buckets, hash_of};
-ghost use Rattle.symbol_table.specs.Search.{side_number, side_of, child_of, with_child, Way, Goes};
+ghost use Rattle.symbol_table.specs.Search.{side_number, turn_number, side_of, child_of, with_child, Way, Goes};
 ghost use Rattle.symbol_table.specs.Layout.{globals_size, heads_at, global_name, globals_of, GlobalStands, Finds, found_on, GoodGlobals};
 ghost use Rattle.symbol_table.specs.Store.{global_in};
-ghost use Rattle.symbol_table.specs.Contract.{hit_of, as_symbol, Addable, Adds, DefinesGlobal, HasItems, StartsGlobals};
+ghost use Rattle.symbol_table.specs.Contract.{hit_of, standing_as, as_symbol, Addable, Adds, DefinesGlobal, HasItems, StartsGlobals};
 
 use super::layout::{
     BUCKET_BITS, BUCKETS, GLOBAL, GLOBALS, GLOBALS_SIZE, HEADS_AT, IN_TREE, LATEST_UNIT, NODES_AT,
@@ -24,24 +24,46 @@ use field::names::same_name;
 // Whose a global is, and so the side of its bucket's heads: the session's or the tree's.
 #[derive(Clone, Copy)]
 enum Side {
-    Session = 0,
-    Tree = 1,
+    Session,
+    Tree,
+}
+
+// Where a search goes on from a node: to the global on its left or on its right.
+#[derive(Clone, Copy)]
+enum Turn {
+    Left,
+    Right,
+}
+
+impl Turn {
+    // By the lowest bit.
+    fn by(bits: usize) -> Turn
+        ensures { turn_number result ≡ bits % 2 }
+    {
+        if bits % 2 == 0 {
+            Turn::Left
+        } else {
+            Turn::Right
+        }
+    }
 }
 
 impl Side {
-    // The side's number.
-    fn number(self) -> usize
-        ensures is { result ≡ side_number self }
-        ensures small { result < 2 }
+    // Where the first of its globals stands among a bucket's heads, which are kept as a node is.
+    fn turn(self) -> Turn
+        ensures { turn_number result ≡ side_number self }
     {
-        self as usize
+        match self {
+            Side::Session => Turn::Left,
+            Side::Tree => Turn::Right,
+        }
     }
 
     // The first of its globals, of a bucket's heads.
-    fn head(self, heads: u32) -> u32
-        ensures { result ≡ child_of heads (side_number self) }
+    fn head(self, heads: u32) -> Option<usize>
+        ensures { standing_as result ≡ child_of heads (side_number self) }
     {
-        child(heads, self.number())
+        child(heads, self.turn())
     }
 
     // The number of a global of its own, whose name is at an offset.
@@ -49,7 +71,10 @@ impl Side {
         requires { name < 65536 }
         ensures { result ≡ 65536 * side_number self + name }
     {
-        (IN_TREE * self.number() + name) as u32
+        match self {
+            Side::Session => name as u32,
+            Side::Tree => (IN_TREE + name) as u32,
+        }
     }
 }
 
@@ -61,39 +86,46 @@ struct Place {
 }
 
 // The side of a node on which a name is sought further, at a depth: by the bits of its hash that its bucket leaves, then by its own.
-fn side_of(name: &[u8], hash: usize, depth: usize) -> usize
-    ensures { result ≡ side_of name.now hash depth }
+fn side_of(name: &[u8], hash: usize, depth: usize) -> Turn
+    ensures { turn_number result ≡ side_of name.now hash depth }
 {
     if depth < SIDE_BITS {
-        return (hash >> (BUCKET_BITS + depth)) % 2;
+        return Turn::by(hash >> (BUCKET_BITS + depth));
     }
     let i = (depth - SIDE_BITS) / 8;
     if name.len() <= i {
-        return 0;
+        return Turn::Left;
     }
-    (usize::from(name[i]) >> ((depth - SIDE_BITS) % 8)) % 2
+    Turn::by(usize::from(name[i]) >> ((depth - SIDE_BITS) % 8))
+}
+
+// The global that stands by its index and 1, if one does.
+fn standing(n: u32) -> Option<usize>
+    ensures { standing_as result ≡ n }
+{
+    (n as usize).checked_sub(1)
 }
 
 // The global on a side of a node, or of a bucket's heads.
-fn child(node: u32, side: usize) -> u32
-    ensures { result ≡ child_of node side }
+fn child(node: u32, turn: Turn) -> Option<usize>
+    ensures { standing_as result ≡ child_of node (turn_number turn) }
 {
-    if side == 0 {
-        return node % SIDE_UNIT;
+    match turn {
+        Turn::Left => standing(node % SIDE_UNIT),
+        Turn::Right => standing(node / SIDE_UNIT % SIDE_UNIT),
     }
-    node / SIDE_UNIT % SIDE_UNIT
 }
 
 // A node with a global on a side that had none.
-fn with_child(node: u32, side: usize, k: u32) -> u32
-    requires side_value { child_of node side ≡ 0 }
+fn with_child(node: u32, turn: Turn, k: u32) -> u32
+    requires side_value { child_of node (turn_number turn) ≡ 0 }
     requires k_le_globals_limit { k ≤ globals_limit }
-    ensures { result ≡ with_child node side k }
+    ensures { result ≡ with_child node (turn_number turn) k }
 {
-    if side == 0 {
-        return node + k;
+    match turn {
+        Turn::Left => node + k,
+        Turn::Right => node + SIDE_UNIT * k,
     }
-    node + SIDE_UNIT * k
 }
 
 // Whether a name is that of a global.
@@ -116,15 +148,15 @@ fn find_side(name: &Name, tree: &[u8], names: &[u8], side: Side, globals: &[u32]
     requires good_globals { GoodGlobals tree.now names.now globals.now }
     ensures { (x : Finds tree.now names.now globals.now name.now.bytes.now) → hit_of result ≡ as_symbol Symbol.global (found_on x (side_number side)) }
 {
-    let mut k = side.head(globals[HEADS_AT + name.hash % BUCKETS]);
+    let mut next = side.head(globals[HEADS_AT + name.hash % BUCKETS]);
     let mut depth = 0;
-    while k > 0 {
-        let i = k as usize;
+    while let Some(k) = next {
+        let i = k + 1;
         let node = globals[NODES_AT + i];
         if same_global(tree, names, globals[i], name.bytes) {
             return Some(GLOBAL + node / LATEST_UNIT);
         }
-        k = child(node, side_of(name.bytes, name.hash, depth));
+        next = child(node, side_of(name.bytes, name.hash, depth));
         depth += 1;
     }
     None
@@ -158,11 +190,11 @@ fn find_place(
 {
     let new = globals[0];
     let mut at = HEADS_AT + hash % BUCKETS;
-    let mut on = side.number();
-    let mut k = child(globals[at], on);
+    let mut on = side.turn();
+    let mut next = child(globals[at], on);
     let mut depth = 0;
-    while k > 0 {
-        let i = k as usize;
+    while let Some(k) = next {
+        let i = k + 1;
         at = NODES_AT + i;
         if same_name(name, content_at(bytes, globals[i] as usize % IN_TREE)) {
             return Place {
@@ -171,7 +203,7 @@ fn find_place(
             };
         }
         on = side_of(name, hash, depth);
-        k = child(globals[at], on);
+        next = child(globals[at], on);
         depth += 1;
     }
     Place {
@@ -202,7 +234,7 @@ fn add_first(globals: &mut [u32; GLOBALS_SIZE], side: Side, v: u32, hash: usize)
     ensures { globals.new ≡ global_in globals.old v (heads_at + hash % buckets) (with_child (get_or globals.old (heads_at + hash % buckets) 0) (side_number side) (get_or globals.old 0 0 + 1)) }
 {
     let at = HEADS_AT + hash % BUCKETS;
-    let number = with_child(globals[at], side.number(), globals[0] + 1);
+    let number = with_child(globals[at], side.turn(), globals[0] + 1);
     push_global(globals, v, at, number);
 }
 
@@ -221,11 +253,10 @@ fn add_global(bytes: &[u8], side: Side, globals: &mut [u32; GLOBALS_SIZE], name:
     requires addable { Addable bytes.now (side_number side) globals.old name hash }
     ensures { Adds bytes.now (side_number side) name globals.old globals.new }
 {
-    if side.head(globals[HEADS_AT + hash % BUCKETS]) == 0 {
-        add_first(globals, side, side.global(name), hash);
-        return;
+    match side.head(globals[HEADS_AT + hash % BUCKETS]) {
+        None => add_first(globals, side, side.global(name), hash),
+        Some(_) => add_below(bytes, side, globals, name, hash),
     }
-    add_below(bytes, side, globals, name, hash);
 }
 
 // A global of the tree more, if there is room.

@@ -43,6 +43,7 @@ pub const LOCALS: u32 = limit::LOCALS_LIMIT as u32;
 pub const CAPTURES: u32 = limit::FREE_LIMIT as u32;
 
 // The codes of symbols: a function's own name is below LOCAL, a local from there on, and so on.
+// Kept: numbers, since the entries and originals of the lent area hold them; `Symbol::from` tells what each stands for.
 pub const FUNCTION: u32 = 0;
 
 pub const LOCAL: u32 = 256;

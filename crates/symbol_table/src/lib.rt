@@ -24,14 +24,15 @@ ghost use Rattle.symbol_table.specs.Symbols.{meant_by};
 ghost use Rattle.symbol_table.specs.Contract.{lookup_reason, define_reason, Inside, Resolves, DefinesLocal, Defines, Enters, HasWords, HasNames, HasItems, StartsFrom, Starts};
 
 use definition::Reason;
-use enclosed::{open_in, place_in};
+use enclosed::{open_in, part_range, place_in};
 use globals::{place_global, start_in};
-use layout::{BUILTIN, FREE, GLOBAL, GLOBALS_SIZE, LOCAL, PART_SIZE};
+use layout::{BUILTIN, FREE, GLOBAL, LOCAL};
 use name::{Key, Label};
 use opcode::opcodes;
 use query::{Known, Query};
 
 // A symbol that a lookup found: its code, and the functions crossed.
+// Kept: the code, since it goes from the lent area into an original, a mark or a log as it stands; `Symbol::from` tells what it is.
 #[derive(Clone, Copy, PartialEq, Eq, Debug)]
 pub struct Found {
     pub code: u32,
@@ -144,9 +145,7 @@ fn place_at(table: &mut [u32], level: usize, label: Label) -> Result<Slot, Defin
     requires sized { Sized (part level table.old) }
     ensures { Inside (DefinesLocal label.at label.hash result) level table.old table.new }
 {
-    let start = GLOBALS_SIZE + PART_SIZE * level;
-    let end = start + PART_SIZE;
-    place_in(&mut table[start..end], label)
+    place_in(&mut table[part_range(level)], label)
 }
 
 // A definition more, in the innermost of so many open functions, or among the globals.
@@ -181,9 +180,7 @@ pub fn enter(tree: &[u8], table: &mut [u32], level: usize, name: usize, row: usi
     requires n_le_arguments_limit { n ≤ arguments_limit }
     ensures { Enters tree.now level name row n table.old table.new }
 {
-    let start = GLOBALS_SIZE + PART_SIZE * level;
-    let end = start + PART_SIZE;
-    open_in(&mut table[start..end], &Key::new(tree, name), row, n);
+    open_in(&mut table[part_range(level)], &Key::new(tree, name), row, n);
 }
 
 // The table area as a walk starts: the names from an offset up to an end are the globals, and no function is open.

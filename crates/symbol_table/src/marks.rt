@@ -6,10 +6,8 @@ ghost use Rattle.symbol_table.specs.Store.{mark_in};
 ghost use Rattle.symbol_table.specs.Lookups.{Opened, IsKnown, MarksEntries, Lacks};
 ghost use Rattle.symbol_table.specs.Contract.{Inside, SameBelow, BeginsMarks, MarksNext, code_or};
 
-use super::enclosed::{count, number_at, part};
-use super::layout::{
-    CODE_UNIT, ENTRIES_AT, GLOBALS_SIZE, MARKED_AT, MARKS, MARKS_AT, PART_SIZE, SHORT,
-};
+use super::enclosed::{count, number_at, part, part_range};
+use super::layout::{CODE_UNIT, ENTRIES_AT, MARKED_AT, MARKS, MARKS_AT, SHORT};
 use super::name::Key;
 use super::query::{Known, Query};
 
@@ -76,9 +74,7 @@ fn next_at(table: &mut [u32], level: usize, code: Option<u32>)
     requires marked_at_bound { get_or (part level table.old) marked_at 0 < 1024 }
     ensures { Inside (MarksNext (code_or code)) level table.old table.new }
 {
-    let start = GLOBALS_SIZE + PART_SIZE * level;
-    let end = start + PART_SIZE;
-    mark_next(&mut table[start..end], code);
+    mark_next(&mut table[part_range(level)], code);
 }
 
 // Whether the mark of a code is set in the part of the function at a level.

@@ -4,7 +4,7 @@ ghost use Rattle.symbol_table.specs.Layout.{part_size, base, part, Sized};
 ghost use Rattle.symbol_table.specs.Contract.{Few, Inside, Crosses};
 ghost use Rattle.symbol_table.specs.Lookups.{Outside, Opened, Standing, IsKnown, HasCode, IsOutermost, IsEntry, Remarks, IsResolved};
 
-use super::enclosed::{cross_in, find_in, part};
+use super::enclosed::{cross_in, find_in, part, part_range};
 use super::globals::find_global;
 use super::layout::{GLOBALS_SIZE, PART_SIZE, SHORT};
 use super::marks::{count_at, is_absent};
@@ -20,6 +20,7 @@ pub struct Query<'a> {
 }
 
 // What is known of a name outside all functions: it was not looked for, it is not there, or the code of its builtin or global.
+// Kept: the code, since a mark of the lent area is found by it.
 #[derive(Clone, Copy)]
 pub enum Known {
     Unasked,
@@ -39,9 +40,7 @@ fn cross_at(
     requires few { Few outer }
     ensures { Inside (Crosses label.at label.hash outer result) level table.old table.new }
 {
-    let start = GLOBALS_SIZE + PART_SIZE * level;
-    let end = start + PART_SIZE;
-    cross_in(&mut table[start..end], label, outer)
+    cross_in(&mut table[part_range(level)], label, outer)
 }
 
 // What its methods need of the area is said once, in `Outside`, `Opened` and `Standing`.
@@ -92,10 +91,7 @@ impl<'a> Query<'a> {
         requires { Outside self.now table.now }
         ensures { HasCode self.now table.now result }
     {
-        match self.find_outermost(table) {
-            Ok(found) => Some(found.code),
-            Err(_) => None,
-        }
+        self.find_outermost(table).ok().map(|found| found.code)
     }
 
     // What is known of the name outside all functions, which is asked where it is of use in a table of n entries.

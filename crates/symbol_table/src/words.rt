@@ -7,6 +7,7 @@ ghost use Rattle.field.specs.Row.{HasRow};
 ghost use Rattle.symbol_table.specs.Contract.{hit_of, as_symbol, HasWords};
 
 use super::layout::BUILTIN;
+use definition::builtins::SIX_WORDS;
 use definition::tag;
 use field::after_at;
 use field::names::find_name;
@@ -26,9 +27,7 @@ fn find_word(words: &[u8], from: usize, to: usize, name: &[u8]) -> Option<u32>
 fn find_six(name: &[u8]) -> Option<u32>
     ensures { hit_of result ≡ as_symbol Symbol.builtin (find_builtin name.now builtins 0) }
 {
-    let six =
-        b"\x30\x00\x03len\x30\x00\x04puts\x30\x00\x05first\x30\x00\x04last\x30\x00\x04rest\x30\x00\x04push";
-    find_word(six, 0, 42, name)
+    find_word(SIX_WORDS, 3, 45, name)
 }
 
 // The builtin of a name, among a session's words.

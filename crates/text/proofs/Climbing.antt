@@ -8,7 +8,7 @@ use borrow.Author.Tests.{eqb-false, ltb-true, ltb-false, ne_eqb}
 use Rattle.definition.specs.Basic.{Bytes}
 use Rattle.text.specs.Kind.{open_paren, number_of}
 use Rattle.text.specs.Token.{Row, kind_of, behind}
-use Rattle.text.specs.Node.{Node, node, ◌then◌, written, levels, levels_all}
+use Rattle.definition.specs.Node.{Node, node, ◌then◌, written, levels, levels_all}
 use Rattle.text.specs.Shape.{tight_of, closes_group, ends_at, continued_tag}
 use Rattle.text.specs.Parse.{ExpressionRow, ClimbRow, OperandRow, InsideRow}
 use Rattle.text.specs.Parts.{end_of, row_at, Sees, Put, PutNode, Bounds, Spares, WritesNode, Skips, Continues, moved_on}

@@ -6,7 +6,7 @@ use mathlib.Core.Path.{◌≡◌, refl}
 use lib.Dec.{leb}
 use borrow.Author.Tests.{leb-true, leb-false}
 use Rattle.definition.specs.Basic.{pick}
-use Rattle.text.specs.Node.{Node, leaf, node, larger, levels}
+use Rattle.definition.specs.Node.{Node, leaf, node, larger, levels}
 
 -- what it is
 pub record Larger (m n k : ℕ) : Type 0 where

@@ -13,7 +13,7 @@ use Rattle.definition.specs.Field.{field}
 use Rattle.definition.specs.Tag.{tag_name}
 use Rattle.text.specs.Kind.{a_name, comma, number_of}
 use Rattle.text.specs.Token.{Row, kind_of, bytes_of, behind}
-use Rattle.text.specs.Node.{leaf, Nodes, written, written_all, levels, levels_all, larger}
+use Rattle.definition.specs.Node.{leaf, Nodes, written, written_all, levels, levels_all, larger}
 use Rattle.text.specs.Shape.{closing, separating, ending}
 use Rattle.text.specs.Parse.{item_row, NamesRow, ExpressionRow, ListRow, StatementsRow, StatementRow}
 use Rattle.text.specs.Parts.{end_of, row_at, denoted, content_of, Sees, Put, PutToken, Bounds, WritesNode, Writes, joined_of, moved_on}

@@ -15,7 +15,7 @@ use Rattle.definition.specs.Tag.{tag_operator}
 use Rattle.definition.proofs.Basic.{chosen, both_true}
 use Rattle.text.specs.Kind.{a_name, false_word, if_word, fn_word, ended, number_of}
 use Rattle.text.specs.Token.{Row, kind_of, bytes_of}
-use Rattle.text.specs.Node.{Node, node, Nodes, ◌then◌, written, written_all, levels, levels_all, larger}
+use Rattle.definition.specs.Node.{Node, node, Nodes, ◌then◌, written, written_all, levels, levels_all, larger}
 use Rattle.text.specs.Shape.{tight_of, is_leaf, is_list, operator_of, continued_tag, operand_tag, leaf_bytes}
 use Rattle.text.specs.Parse.{ExpressionRow, OperandRow, InsideRow, ListRow}
 use Rattle.text.specs.Parts.{end_of, head_of, moved_by, row_at, denoted, content_of, Sees, Put, PutNode, PutToken, Bounds, Spares, WritesNode, Writes, Continues, joined_of, closed_of}

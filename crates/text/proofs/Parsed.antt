@@ -10,7 +10,7 @@ use Rattle.definition.specs.Basic.{Bytes}
 use Rattle.definition.specs.Tag.{tag_expr_stmt, tag_infix}
 use Rattle.text.specs.Kind.{let_word, return_word, a_name, open_paren, else_word, close_paren, comma, semicolon}
 use Rattle.text.specs.Token.{token, Row, kind_of, behind}
-use Rattle.text.specs.Node.{Node, node, Nodes, ◌then◌, one, operator}
+use Rattle.definition.specs.Node.{Node, node, Nodes, ◌then◌, one, operator}
 use Rattle.text.specs.Grammar.{Is, Prefixed, Names, Parameters, Statements, More, Statement, Block, Expression, Binary, Prefix, Postfix, Primary, Branches, Items, SomeItems, Pairs, SomePairs}
 use Rattle.text.specs.Shape.{tight_of, closes_group, closing, separating, ending, is_leaf, is_list, operator_of, continued_tag, operand_tag, statement_tag, leaf_bytes}
 use Rattle.text.specs.Parse.{item_row, past_semicolon, NamesRow, ParametersRow, LetRow, ExpressionRow, ClimbRow, OperandRow, InsideRow, ListRow, IfRow, ElseRow, FunctionRow, BlockRow, StatementsRow, StatementRow, ClauseRow}

@@ -9,7 +9,7 @@ use Rattle.definition.specs.Basic.{Bytes}
 use Rattle.definition.specs.Field.{field}
 use Rattle.session.proofs.Stores.{sets_append, sets_before}
 use Rattle.text.specs.Token.{Row}
-use Rattle.text.specs.Node.{Node, Nodes, none, ◌then◌, one, written, written_all, levels, levels_all, larger}
+use Rattle.definition.specs.Node.{Node, Nodes, none, ◌then◌, one, written, written_all, levels, levels_all, larger}
 use Rattle.text.specs.Parts.{row_at, head_of, Put, joined_of, moved_on, closed_of}
 use Rattle.text.specs.declared.part.Part.{Part}
 use Rattle.text.proofs.Larger.{larger_is, larger_assoc, larger_zero, zero_larger}

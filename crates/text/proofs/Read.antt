@@ -16,7 +16,7 @@ use Rattle.std.specs.Prelude.{Ok, Err}
 use Rattle.definition.specs.declared.reason.Refusal.{Refusal}
 use Rattle.session.proofs.Stores.{sets_over}
 use Rattle.text.specs.Token.{Row}
-use Rattle.text.specs.Node.{Node, node, Nodes, written, levels}
+use Rattle.definition.specs.Node.{Node, node, Nodes, written, levels}
 use Rattle.text.specs.Grammar.{Script as ScriptRow}
 use Rattle.text.specs.Reader.{Result, ok, bad}
 use Rattle.text.specs.Scan.{Next, next_at, Tail, whole, cut, Scanned, scan_next, scan, scan_text, smaller}

@@ -16,7 +16,7 @@ use Rattle.std.specs.Prelude.{Ok, Err}
 use Rattle.definition.proofs.Basic.{chosen}
 use Rattle.text.specs.Kind.{bang, assign}
 use Rattle.text.specs.Token.{Token, token}
-use Rattle.text.specs.Node.{Node, written, levels}
+use Rattle.definition.specs.Node.{Node, written, levels}
 use Rattle.text.specs.Reader.{Result, ok, bad, starved}
 use Rattle.text.specs.Scan.{Next, next_at, marks, kind_in, value, no_mark, ending, either, is_blank, is_letter, is_digit, is_inside, smaller, skip, up_to, word_at, integer_at, string_at, mark_at, text_limit, integer_limit, whole, stopped, scan_text}
 use Rattle.text.specs.Machine.{Mode, Stack, Step, go, stuck, step, at_row_end}

@@ -17,7 +17,8 @@ use Rattle.definition.proofs.Basic.{chosen}
 use Rattle.definition.proofs.Bytes.{length-bytes}
 use Rattle.text.specs.Kind.{let_word, return_word, a_name, fn_word, if_word, open_paren, open_bracket, number_of}
 use Rattle.text.specs.Token.{Row, kind_of, bytes_of}
-use Rattle.text.specs.Node.{Node, leaf, node, Nodes, ◌then◌, one, named, written, written_all, levels, levels_all}
+use Rattle.definition.specs.Node.{Node, leaf, node, Nodes, ◌then◌, one, written, written_all, levels, levels_all}
+use Rattle.text.specs.Named.{named}
 use Rattle.text.specs.Shape.{continued_tag, operand_tag}
 use Rattle.text.specs.Parse.{ExpressionRow, ClimbRow, OperandRow, InsideRow, FunctionRow, LetRow, ClauseRow}
 use Rattle.text.specs.Parts.{head_of, moved_by, row_at, content_of, Sees, Shaped, Put, PutToken, tag_of, Bounds, Spares, WritesNode, Writes, Named, joined_of}

@@ -12,7 +12,7 @@ use Rattle.definition.specs.Field.{field}
 use Rattle.definition.specs.Tag.{tag_block, tag_name, tag_params}
 use Rattle.text.specs.Kind.{else_word, number_of}
 use Rattle.text.specs.Token.{Row, kind_of, behind}
-use Rattle.text.specs.Node.{Node, Nodes, written, written_all, levels, levels_all}
+use Rattle.definition.specs.Node.{Node, Nodes, written, written_all, levels, levels_all}
 use Rattle.text.specs.Shape.{statement_tag}
 use Rattle.text.specs.Parse.{past_semicolon, NamesRow, ParametersRow, ExpressionRow, IfRow, ElseRow, FunctionRow, BlockRow, StatementsRow, StatementRow, ClauseRow}
 use Rattle.text.specs.Parts.{end_of, head_of, row_at, Sees, Put, PutNode, Bounds, Spares, WritesNode, Writes, Passes, joined_of, moved_on, closed_of}

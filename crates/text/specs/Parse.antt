@@ -4,7 +4,8 @@ use Rattle.definition.specs.Basic.{pick}
 use Rattle.definition.specs.Tag.{tag_block, tag_name, tag_params}
 use Rattle.text.specs.Kind.{let_word, return_word, a_name as nameKind, if_word, fn_word, open_paren, else_word, comma, semicolon, ended}
 use Rattle.text.specs.Token.{Row, kind_of, bytes_of, behind}
-use Rattle.text.specs.Node.{Node, leaf, node, Nodes, none, ◌then◌, one, operator, named}
+use Rattle.definition.specs.Node.{Node, leaf, node, Nodes, none, ◌then◌, one, operator}
+use Rattle.text.specs.Named.{named}
 use Rattle.text.specs.Shape.{tight_of, closes_group, ends_at, closing, separating, ending, is_leaf, is_list, operator_of, continued_tag, operand_tag, statement_tag, leaf_bytes}
 
 -- behind what stands between two items; behind a `;`

@@ -6,8 +6,9 @@ use Rattle.definition.specs.Field.{bytes, field}
 use Rattle.text.specs.Kind.{a_name, a_string, an_integer, true_word, false_word, open_paren, number_of}
 use Rattle.text.specs.Token.{Row, kind_of, bytes_of, behind}
 use Rattle.definition.specs.Tag.{tag_program, tag_function, tag_name}
-use Rattle.text.specs.Node
-use Rattle.text.specs.Node.{Node, leaf, node, Nodes, ◌then◌, named, written, written_all, levels, levels_all, larger}
+use Rattle.definition.specs.Node
+use Rattle.definition.specs.Node.{Node, leaf, node, Nodes, ◌then◌, written, written_all, levels, levels_all, larger}
+use Rattle.text.specs.Named.{named}
 use Rattle.text.specs.Shape.{tight_of, continued_tag}
 use Rattle.text.specs.Parse.{past_semicolon, ExpressionRow, InsideRow, StatementsRow}
 use Rattle.text.specs.Scan.{Next, found, large, broken, finished, next_at, text_limit, smaller, value, eight}

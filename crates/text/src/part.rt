@@ -4,7 +4,7 @@ ghost use Rattle.std.proofs.lemmas.List.Edits.{sets};
 ghost use Rattle.definition.specs.Basic.{pick};
 ghost use Rattle.definition.specs.Field.{field};
 ghost use Rattle.definition.specs.Tag.{tag_name, tag_operator};
-ghost use Rattle.text.specs.Node.{larger as largerOf};
+ghost use Rattle.definition.specs.Node.{larger as largerOf};
 ghost use Rattle.text.specs.Parse.{NamesRow, ParametersRow};
 ghost use Rattle.text.specs.Shape.{separating as separatingOf, operand_tag};
 ghost use Rattle.text.specs.Kind.{number_of};
@@ -205,7 +205,7 @@ pub fn put_name(text: &[u8], output: &mut [u8], token: Token, to: usize) -> Part
     requires { Holds text.now token × (to < 1000000) }
     ensures { PutToken tag_name text.now token to output.old output.new result }
 {
-    put_field(text, output, tag::NAME as u8, token, to)
+    put_field(text, output, tag::NAME, token, to)
 }
 
 // A name of no bytes.
@@ -214,7 +214,7 @@ pub fn put_empty_name(output: &mut [u8], at: usize, to: usize) -> Part
     ensures part { result ≡ record { at = at; to = to + 3; levels = 1; tag = Some tag_name } }
     ensures stored { output.new ≡ sets output.old to (field tag_name []) }
 {
-    close(output, to, tag::NAME as u8, Part::empty(at, to + 3))
+    close(output, to, tag::NAME, Part::empty(at, to + 3))
 }
 
 // An operator's field.
@@ -224,7 +224,7 @@ pub fn put_operator(output: &mut [u8], at: usize, to: usize, b: u8) -> Part
     ensures stored { output.new ≡ sets output.old to (field tag_operator (b ∷ [])) }
 {
     put(output, to + 3, b);
-    close(output, to, tag::OPERATOR as u8, Part::empty(at, to + 4))
+    close(output, to, tag::OPERATOR, Part::empty(at, to + 4))
 }
 
 // Names, and the token behind them.
@@ -252,7 +252,7 @@ pub fn put_parameters(text: &[u8], output: &mut [u8], at: usize, to: usize) -> P
 {
     let token = token_at(text, at);
     let names = put_names(text, output, token.end, to + 3);
-    close(output, to, tag::PARAMS as u8, names)
+    close(output, to, tag::PARAMS, names)
 }
 
 // A value as it is, but a function with the name instead of its empty one.
@@ -261,7 +261,7 @@ pub fn named(text: &[u8], output: &mut [u8], name: Token, to: usize, value: Part
     requires { Holds text.now name × (value.to < 1000000) × (to ≤ value.to) }
     ensures { Named text.now name to value output.old output.new result }
 {
-    if value.tag != Some(tag::FUNCTION as u8) {
+    if value.tag != Some(tag::FUNCTION) {
         return value;
     }
     if value.to < to + 6 {
@@ -270,7 +270,7 @@ pub fn named(text: &[u8], output: &mut [u8], name: Token, to: usize, value: Part
     let by = name.end - name.start;
     make_room(output, to + 6, value.to, by);
     put_name(text, output, name, to + 3);
-    put_head(output, to, tag::FUNCTION as u8, value.to + by);
+    put_head(output, to, tag::FUNCTION, value.to + by);
     Part {
         to: value.to + by,
         ..value

@@ -29,7 +29,7 @@ pub fn put_head(output: &mut [u8], to: usize, tag: u8, end: usize)
     requires { (to + 3 ≤ end) × (end < 1048576) }
     ensures { output.new ≡ sets output.old to (head_of tag (end - to - 3)) }
 {
-    let [high, low] = (((end - to - 3) % 65536) as u16).to_be_bytes();
+    let [.., high, low] = (end - to - 3).to_be_bytes();
     put_bytes(output, to, &[tag, high, low]);
 }
 

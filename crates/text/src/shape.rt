@@ -111,9 +111,9 @@ impl Kind {
         ensures { result ≡ shape.continued_tag (number_of self) }
     {
         match self {
-            Kind::OpenParen => tag::CALL as u8,
-            Kind::OpenBracket => tag::INDEX as u8,
-            _ => tag::INFIX as u8,
+            Kind::OpenParen => tag::CALL,
+            Kind::OpenBracket => tag::INDEX,
+            _ => tag::INFIX,
         }
     }
 
@@ -123,15 +123,15 @@ impl Kind {
         ensures { result ≡ shape.operand_tag (number_of self) }
     {
         match self {
-            Kind::Name => tag::IDENTIFIER as u8,
-            Kind::Integer => tag::INTEGER as u8,
-            Kind::String => tag::STRING as u8,
-            Kind::True | Kind::False => tag::BOOLEAN as u8,
-            Kind::OpenBracket => tag::ARRAY as u8,
-            Kind::OpenBrace => tag::HASH as u8,
-            Kind::If => tag::IF as u8,
-            Kind::Fn => tag::FUNCTION as u8,
-            _ => tag::PREFIX as u8,
+            Kind::Name => tag::IDENTIFIER,
+            Kind::Integer => tag::INTEGER,
+            Kind::String => tag::STRING,
+            Kind::True | Kind::False => tag::BOOLEAN,
+            Kind::OpenBracket => tag::ARRAY,
+            Kind::OpenBrace => tag::HASH,
+            Kind::If => tag::IF,
+            Kind::Fn => tag::FUNCTION,
+            _ => tag::PREFIX,
         }
     }
 
@@ -141,9 +141,9 @@ impl Kind {
         ensures { result ≡ shape.statement_tag (number_of self) }
     {
         match self {
-            Kind::Let => tag::LET as u8,
-            Kind::Return => tag::RETURN as u8,
-            _ => tag::EXPR_STMT as u8,
+            Kind::Let => tag::LET,
+            Kind::Return => tag::RETURN,
+            _ => tag::EXPR_STMT,
         }
     }
 }

@@ -229,7 +229,7 @@ fn write_block(text: &[u8], output: &mut [u8], from: Place) -> Part
     };
     let inside = write_statements(text, output, behind);
     let token2 = token_at(text, inside.at);
-    close(output, to, tag::BLOCK as u8, inside.moved_on(token2.end))
+    close(output, to, tag::BLOCK, inside.moved_on(token2.end))
 }
 
 // Statements up to `}` or the text's end.
@@ -315,5 +315,5 @@ pub fn write_script(text: &[u8], output: &mut [u8]) -> Part
         left: 63,
     };
     let inside = write_statements(text, output, start);
-    close(output, 0, tag::PROGRAM as u8, inside)
+    close(output, 0, tag::PROGRAM, inside)
 }

@@ -16,7 +16,7 @@ use Rattle.definition.specs.Walk.{Res, walk_stmts}
 use Rattle.definition.specs.Compiler.{State, machine}
 use Rattle.definition.specs.Session.{six, Session, word_list}
 use Rattle.definition.specs.Decode.{Decoded, decoded, malformed, read_session}
-use Rattle.definition.specs.Compile.{Outcome, Step, start, turned_down, finish, translate, enough, compile}
+use Rattle.definition.specs.Compile.{Outcome, Step, start, turned_down, finish, translate, enough}
 use Rattle.definition.specs.Call.{Lent, cleared, refused_call, answered, in_session, request, call}
 use Rattle.definition.specs.declared.reason.Refusal.{Refusal}
 use Rattle.std.specs.Prelude.{Err}
@@ -147,13 +147,6 @@ module _ (tree : Bytes) (l : Lent) (c₁ : Bytes) (t₁ : List ℕ) (lc : length
 
   same_request : request used tree ≡ request l tree
   same_request = λ i. record { code = lc i; table = lt i; session = length l.session; output = length l.output; tree = tree }
-
-  pub used_call : enough (request l tree) ≡ true → call tree used ≡ call tree l
-  used_call big = call-enough tree used (subst (λ c. enough c ≡ true) (sym same_request) big) ∙ go (read_session (take session_size l.session)) ∙ sym (call-enough tree l big)
-    where
-      go : (d : Decoded Session) → in_session used tree d ≡ in_session l tree d
-      go (decoded z n) = ap (λ c. answered used (compile z c).session (compile z c).outcome) same_request ∙ step_same (compile z (request l tree))
-      go (malformed p) = step_same (turned_down (record { words = six; globals = []; pool = [] }) (refusal Number.no_session 0))
 
   recorded_same : (rs : List Record) (x : Traced) → recorded used rs x ≡ recorded l rs x
   recorded_same rs x = λ i. record { called = step_same x.step i; count = length x.records; records = over_records x.records rs }

@@ -16,7 +16,7 @@ ghost use Rattle.trace.specs.Promise.{few_of, LooksAhead, HasOlder, Used, Traces
 use bytecode::read_layout;
 use compiler::{clear_table, compile, long_enough};
 use definition::limit::{CODE_SIZE, SESSION_SIZE, TABLE_SIZE};
-use definition::{Reason, Refusal};
+use definition::{Reason, Refusal, refused};
 use field::after_at;
 use pass::name_tree;
 
@@ -56,6 +56,7 @@ fn look_ahead(session: &[u8], tree: &[u8], code: &mut [u8], table: &mut [u32]) -
 }
 
 // The pass over the names of a tree that was accepted, from the first `names` bytes of the session's names.
+// Kept: that the tree is sound, here, at `log_lent` and `name_tree`: a struct of a checked tree would be made once and taken apart at once.
 fn log_names(session: &[u8], tree: &[u8], code: &mut [u8], table: &mut [u32], names: usize) -> usize
     requires lengths { Lengths session.now code.old table.old }
     requires has_older { HasOlder session.now names }
@@ -187,8 +188,5 @@ pub fn compile_log(
     if long_enough(session, code, table) {
         return trace_lent(session, tree, output, code, table, room);
     }
-    Err(Refusal {
-        reason: Reason::ShortBuffer,
-        place: 0,
-    })
+    refused(Reason::ShortBuffer, 0)
 }

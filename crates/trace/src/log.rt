@@ -5,7 +5,6 @@ ghost use Rattle.symbol_table.specs.Layout.{symbol_of};
 ghost use Rattle.records.specs.Records.{record_of};
 ghost use Rattle.trace.specs.Log.{record_at, log_of};
 
-use field::{wide, word};
 use records::{Kind, Record};
 use symbol_table::Symbol;
 
@@ -47,8 +46,8 @@ pub fn record_at(log: &[u8], k: usize) -> Record
     ensures { result ≡ record_at log.now k }
 {
     let i = 4 * k;
-    let offset = word(log[i], log[i + 1]);
-    let packed = wide(log[i + 2]);
-    let low = wide(log[i + 3]);
-    record_of(offset, (packed % 8 * 256 + low) as u32, packed / 8)
+    let entry = u32::from_be_bytes([log[i], log[i + 1], log[i + 2], log[i + 3]]);
+    let code = entry % 2048;
+    let crossed = entry / 2048 % 32;
+    record_of((entry / 65536) as usize, code, crossed as usize)
 }

@@ -22,7 +22,7 @@ use symbol_table::{define, enter, resolve_name, start_from};
 use tree::count_fields;
 
 // Whether the names of a field of a tag are those of its children, in order.
-fn has_children(t: usize) -> bool
+fn has_children(t: u8) -> bool
     ensures { result ≡ is_parent t }
 {
     matches!(
@@ -67,7 +67,7 @@ impl<'a> Namer<'a> {
         requires standing { Stands tree.now names.now level self.old (3 + len tree.now at) }
         ensures { Names tree.now names.now level (ReadsNode tree.now at) walk_node (3 + len tree.now at) self.old self.new }
     {
-        match tree[at] as usize {
+        match tree[at] {
             tag::IDENTIFIER => self.log_identifier(tree, names, level, at),
             tag::LET => self.name_let(tree, names, level, at),
             tag::FUNCTION => self.name_function(tree, names, level, at),

@@ -10,8 +10,8 @@ use definition::{operator, tag};
 // What a child must be: its lowest and its highest tag, the fewest bytes of a name, and whether the content may end before it.
 #[derive(Clone, Copy)]
 pub struct Wanted {
-    pub low: usize,
-    pub high: usize,
+    pub low: u8,
+    pub high: u8,
     pub least: usize,
     pub ends: bool,
 }
@@ -129,25 +129,25 @@ fn within(low: usize, x: usize, high: usize) -> bool
 }
 
 // Whether a field may have this tag.
-pub fn good_tag(wanted: Wanted, t: usize) -> bool
+pub fn good_tag(wanted: Wanted, t: u8) -> bool
     ensures { result ≡ good_tag wanted t }
 {
-    within(wanted.low, t, wanted.high)
+    (wanted.low <= t) & (t <= wanted.high)
 }
 
 // Whether the content at `from` is one byte, and at most so much.
-fn good_byte(tree: &[u8], from: usize, len: usize, most: usize) -> bool
+fn good_byte(tree: &[u8], from: usize, len: usize, most: u8) -> bool
     requires { from + len ≤ length tree.now }
     ensures { result ≡ good_byte len (byte_at tree.now from) most }
 {
     if len != 1 {
         return false;
     }
-    usize::from(tree[from]) <= most
+    tree[from] <= most
 }
 
 // Whether a field of a tag may have the content at `from`: its length, and a boolean's or an operator's byte.
-pub fn good_content(tree: &[u8], wanted: Wanted, t: usize, from: usize, len: usize) -> bool
+pub fn good_content(tree: &[u8], wanted: Wanted, t: u8, from: usize, len: usize) -> bool
     requires { from + len ≤ length tree.now }
     ensures { result ≡ good_content wanted t len (byte_at tree.now from) }
 {
@@ -156,13 +156,13 @@ pub fn good_content(tree: &[u8], wanted: Wanted, t: usize, from: usize, len: usi
         tag::INTEGER => len == 8,
         tag::BOOLEAN => good_byte(tree, from, len, 1),
         tag::NAME => within(wanted.least, len, NAME_LIMIT),
-        tag::OPERATOR => good_byte(tree, from, len, operator::GREATER_THAN as usize),
+        tag::OPERATOR => good_byte(tree, from, len, operator::GREATER_THAN),
         _ => true,
     }
 }
 
 // Whether all bytes of a field of a tag are its own: it has no children.
-pub fn is_leaf(t: usize) -> bool
+pub fn is_leaf(t: u8) -> bool
     ensures { result ≡ is_leaf t }
 {
     matches!(
@@ -173,7 +173,7 @@ pub fn is_leaf(t: usize) -> bool
 
 // What the first four children of a tag must be; that a call has one is tested on its own.
 #[tactic(auto, unfolding(crate::specs::Kinds::wanted, crate::specs::Kinds::kinds_of))]
-pub fn child_kinds(t: usize) -> &'static [Wanted; 4]
+pub fn child_kinds(t: u8) -> &'static [Wanted; 4]
     ensures { result.now ≡ kinds_of t }
 {
     match t {

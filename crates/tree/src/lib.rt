@@ -2,7 +2,7 @@
 #![tactic(auto)]
 
 use definition::limit::{LEVEL_LIMIT, TREE_LIMIT};
-use definition::{Reason, Refusal, tag};
+use definition::{Reason, Refusal, refused, tag};
 use field::fields::Fields;
 use field::{after_at, length_at};
 
@@ -16,13 +16,6 @@ ghost use Rattle.tree.specs.Reads.{Some, InRow, Counted};
 ghost use Rattle.tree.specs.Check.{verdict, bad_tree, too_deep, outcome_of, good_wanted, check_all};
 
 use grammar::{Wanted, child_kinds, good_content, good_tag, is_leaf};
-
-// A refusal for a reason at a place.
-fn refused(reason: Reason, place: usize) -> Result<(), Refusal>
-    ensures { result ≡ Err (record { reason = reason; place = place }) }
-{
-    Err(Refusal { reason, place })
-}
 
 // A refusal 3 at a place as a number; 0 stands for none.
 // Kept: a number comes back in a register; with Result and `?` the check of a tree takes 20 % more instructions, and a call on 30 KB
@@ -68,7 +61,7 @@ fn good_field(tree: &[u8], wanted: Wanted, at: usize, end: usize) -> bool
     if end < at + 3 + len {
         return false;
     }
-    let t = usize::from(tree[at]);
+    let t = tree[at];
     if !good_tag(wanted, t) {
         return false;
     }
@@ -81,7 +74,7 @@ fn check_children(tree: &[u8], levels: usize, parent: usize, end: usize) -> usiz
     requires { (parent + 3 ≤ end) × (end ≤ length tree.now) × (end ≤ tree_limit) }
     ensures { outcome_of result ≡ check_all (byte_at tree.now) levels parent end }
 {
-    let t = usize::from(tree[parent]);
+    let t = tree[parent];
     let mut at = parent + 3;
     if (at == end) && (t == tag::CALL) {
         return bad(parent);
@@ -96,7 +89,7 @@ fn check_children(tree: &[u8], levels: usize, parent: usize, end: usize) -> usiz
             return deep(at);
         }
         let next = after_at(tree, at);
-        if !is_leaf(usize::from(tree[at])) {
+        if !is_leaf(tree[at]) {
             let found = check_children(tree, levels - 1, at, next);
             if found != 0 {
                 return found;
@@ -119,7 +112,7 @@ pub fn check(tree: &[u8]) -> Result<(), Refusal>
     if TREE_LIMIT < n {
         return refused(Reason::BadTree, 0);
     }
-    if usize::from(tree[0]) != tag::PROGRAM {
+    if tree[0] != tag::PROGRAM {
         return refused(Reason::BadTree, 0);
     }
     if 3 + length_at(tree, 0) != n {

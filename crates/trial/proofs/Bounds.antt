@@ -119,7 +119,7 @@ run_small b a hs work room = chosen Small (ltb work work_size) (λ _. Small.refu
     go_judged m n q (Verdict.tops ns) j =
         let s = read_whole m n q in
         let k = parts b s refl in
-        let l = image_short b a s refl in
+        let l = image_short b a s in
         taken_small hs m j (omega (arith, k.size, k.code.within, l)) room
     go_judged m n q (Verdict.fails p) j =
         let l = refused-place (heights_within b a hs room) (ap (λ d. heights_answer d hs room) q ∙ ap (λ v. verdict_answer v room) j) in

@@ -7,15 +7,15 @@ use Rattle.definition.specs.Bytecode.{Code, size_of, Image}
 use Rattle.definition.specs.Decode.{decoded, read_instr}
 use Rattle.definition.specs.Trusted.{Stands}
 use Rattle.definition.specs.declared.reason.Refusal.{Refusal}
-use Rattle.opcode.specs.Decoding.{instr_of, decode_answer, read_before, found as instruction_found}
+use Rattle.opcode.specs.Decoding.{instr_of, decode_answer, read_before}
 use Rattle.opcode.specs.declared.Instruction.{Instruction}
-use Rattle.opcode.specs.declared.Decoded.{Decoded as ReadInstruction}
+use Rattle.opcode.proofs.EachInstruction.{ReadAt}
 use Rattle.listing.specs.Reads.{CodeAt, PoolAt, ImageAt}
 use Rattle.listing.proofs.Items.{Reading, begins, ends, Next, next, all_read}
 use Rattle.listing.proofs.Lines.{whole-read}
 use Rattle.listing.proofs.Images.{parts}
 use Rattle.opcode.proofs.Decoding.{before_within, answered, unanswered}
-use Rattle.std.specs.Prelude.{Result, Err}
+use Rattle.std.specs.Prelude.{Err}
 
 -- bytes read as one image
 pub one_image : {b : Bytes} {m n : Image} → ImageAt b m → ImageAt b n → m ≡ n
@@ -44,47 +44,45 @@ module _ (b : Bytes) (end : ℕ) {c : Code} (h : CodeAt b 3 end c) where
   pub code-begins : Behind [] 3
   code-begins = record { reading = begins (read_instr (byte_at b)) end (end - 3) 3; order = h.order; size_is = omega arith }
 
-  module _ {code : Code} {at : ℕ} (l : Behind code at) where
-    -- at the end all were read
-    pub code_ends : end ≤ at → code ≡ c
-    code_ends g = ends (read_instr (byte_at b)) end (end - 3) 3 l.reading h.reads (omega (arith, l.order))
+module _ {b : Bytes} {end : ℕ} {c : Code} {h : CodeAt b 3 end c} {code : Code} {at : ℕ} (l : Behind b end h code at) where
+  -- at the end all were read
+  pub code_ends : end ≤ at → code ≡ c
+  code_ends g = ends (read_instr (byte_at b)) end (end - 3) 3 l.reading h.reads (omega (arith, l.order))
 
-    module _ (before : at < end) {r : Result ReadInstruction Refusal} (t₀ : r ≡ decode_answer (read_before b at end)) where
-      e : r ≡ decode_answer (read_instr (byte_at b) at end)
-      e = t₀ ∙ ap decode_answer (before_within b at end h.within)
+  module _ (before : at < end) where
+    found : Next (read_instr (byte_at b)) end (end - 3) 3 l.reading h.reads
+    found = next (read_instr (byte_at b)) end (end - 3) 3 l.reading h.reads (λ i. omega arith)
 
-      found : Next (read_instr (byte_at b)) end (end - 3) 3 l.reading h.reads
-      found = next (read_instr (byte_at b)) end (end - 3) 3 l.reading h.reads (λ i. omega arith)
+    pub not_refused : {q : Refusal} → decode_answer (read_before b at end) ≡ Err q → ⊥
+    not_refused t = unanswered (ap decode_answer (before_within b at end h.within)) found.found t
 
-      pub not_refused : {q : Refusal} → r ≡ Err q → ⊥
-      not_refused t = unanswered e found.found t
+  module _ {i : Instruction} {after : ℕ} (r : ReadAt b end at i after) where
+    -- the instruction there
+    pub record Turn : Type 0 where
+      pub known : i.op < 30
+      pub sized : after ≡ at + size (instr_of i)
+      pub within : after ≤ end
+      pub behind : Behind b end h (instr_of i ∷ code) after
 
-      module _ {i : Instruction} {after : ℕ} (t : r ≡ instruction_found i after) where
-        -- the instruction there
-        pub record Turn : Type 0 where
-          pub known : i.op < 30
-          pub sized : after ≡ at + size (instr_of i)
-          pub within : after ≤ end
-          pub behind : Behind (instr_of i ∷ code) after
+    pub turn : Turn
+    turn =
+        let f = found r.before in
+        let w = whole-read (byte_at b) end at f.x f.next f.found in
+        let a = answered (ap decode_answer (before_within b at end h.within)) f.found r.read in
+        let s : after ≡ at + size (instr_of i) = a.1 ∙ w.after ∙ ap (λ (j : Instr). at + size j) (sym a.0) in
+        let g : Reading (read_instr (byte_at b)) end (end - 3) 3 (instr_of i ∷ code) after = subst (λ n. Reading (read_instr (byte_at b)) end (end - 3) 3 (instr_of i ∷ code) n) (sym a.1)
+        (subst (λ (j : Instr). Reading (read_instr (byte_at b)) end (end - 3) 3 (j ∷ code) f.next) (sym a.0) f.reading) in
+        record {
+          known = omega (arith, w.known, ap (λ (j : Instr). j.op) a.0);
+          sized = s;
+          within = omega (arith, w.within, a.1);
+          behind = record { reading = g; order = omega (arith, w.within, a.1); size_is = omega (arith, s, l.size_is) };
+        }
 
-        pub turn : Turn
-        turn =
-            let w = whole-read (byte_at b) end at found.x found.next found.found in
-            let a = answered e found.found t in
-            let s : after ≡ at + size (instr_of i) = a.1 ∙ w.after ∙ ap (λ (j : Instr). at + size j) (sym a.0) in
-            let g : Reading (read_instr (byte_at b)) end (end - 3) 3 (instr_of i ∷ code) after = subst (λ n. Reading (read_instr (byte_at b)) end (end - 3) 3 (instr_of i ∷ code) n) (sym a.1)
-            (subst (λ (j : Instr). Reading (read_instr (byte_at b)) end (end - 3) 3 (j ∷ code) found.next) (sym a.0) found.reading) in
-            record {
-              known = omega (arith, w.known, ap (λ (j : Instr). j.op) a.0);
-              sized = s;
-              within = omega (arith, w.within, a.1);
-              behind = record { reading = g; order = omega (arith, w.within, a.1); size_is = omega (arith, s, l.size_is) };
-            }
+    -- what holds behind it, and behind one more, holds of all
+    pub rest : (P : Code → Type 0) → ((x : Instr) (xs : Code) → P xs → P (x ∷ xs)) → P (instr_of i ∷ code) → P c
+    rest P f p = let g = turn.behind.reading in all_read (read_instr (byte_at b)) end (λ c _. P c) (λ xs _ x _ q _. f x xs q) g.rest (instr_of i ∷ code) after (sym g.same ∙ h.reads) p
 
-        -- what holds behind it, and behind one more, holds of all
-        pub rest : (P : Code → Type 0) → ((x : Instr) (xs : Code) → P xs → P (x ∷ xs)) → P (instr_of i ∷ code) → P c
-        rest P f p = let g = turn.behind.reading in all_read (read_instr (byte_at b)) end (λ c _. P c) (λ xs _ x _ q _. f x xs q) g.rest (instr_of i ∷ code) after (sym g.same ∙ h.reads) p
-
-        -- it stands in the code
-        pub stands : Stands (instr_of i) (size_of code) c
-        stands = rest (Stands (instr_of i) (size_of code)) (λ x xs p. Stands.before p) Stands.last
+    -- it stands in the code
+    pub stands : Stands (instr_of i) (size_of code) c
+    stands = rest (Stands (instr_of i) (size_of code)) (λ x xs p. Stands.before p) Stands.last

@@ -7,6 +7,9 @@ use Rattle.definition.specs.Bytecode.{Code, size_of, Const, Image}
 use Rattle.definition.specs.Trusted.{Stands}
 use Rattle.definition.specs.Effect.{takes, gives}
 use Rattle.definition.proofs.Instructions.{code-count}
+use Rattle.opcode.specs.Decoding.{instr_of}
+use Rattle.opcode.specs.declared.Instruction.{Instruction}
+use Rattle.opcode.proofs.EachInstruction.{ReadAt}
 use Rattle.listing.specs.Reads.{CodeAt, PoolAt}
 use Rattle.heights.specs.Judgement.{Reaches}
 use Rattle.heights.proofs.Positions.{Behind, behind_it}
@@ -133,93 +136,96 @@ module _ (b : Bytes) (end pool : ℕ) (m : Image) (h : CodeAt b 3 end m.code) (c
         reached = Reaches.start;
       }
 
-  module _ {w : List ℕ} {at : ℕ} {s : State} (l : RunLoop w at s) where
-    -- at the end
-    pub run_ends : end ≤ at → EndsAs w (Ok s.steps) (trial m)
-    run_ends g =
-        let q = CodeLoop.code_ends b end h l.behind g in
-        let t : trial m ≡ Trial.ran l.frame.globals s.steps = ap trial_of (ap (λ c. pass m.pool 0 c begin) (sym q) ∙ l.run) ∙ ap (Trial.ran l.frame.globals) (sym l.framed.steps) in
-        subst (EndsAs w (Ok s.steps)) (sym t) (EndsAs.ran l.framed.globals)
+module _ {b : Bytes} {end pool : ℕ} {m : Image} {h : CodeAt b 3 end m.code} {cs : PoolAt b pool (length b) m.pool} {safe : Safe m.pool m.code} {w : List ℕ} {at : ℕ} {s : State}
+    (l : RunLoop b end pool m h cs safe w at s) where
+  -- at the same offset
+  pub same : {at₁ : ℕ} → at ≡ at₁ → RunLoop b end pool m h cs safe w at₁ s
+  same e = subst (λ at. RunLoop b end pool m h cs safe w at s) e l
 
-    pub few_steps : end ≤ 65536 → s.steps ≤ 131072
-    few_steps g =
-        let n = within_on (pass_within {k = 0} m.pool 0 l.code (Within.on {f = frame 0 [] unset_globals 0} (omega arith))) l.run in
-        omega (arith, n, code-count l.code, l.behind.size_is, l.behind.order, l.framed.steps)
+  -- at the end
+  pub run_ends : end ≤ at → EndsAs w (Ok s.steps) (trial m)
+  run_ends g =
+      let q = CodeLoop.code_ends l.behind g in
+      let t : trial m ≡ Trial.ran l.frame.globals s.steps = ap trial_of (ap (λ c. pass m.pool 0 c begin) (sym q) ∙ l.run) ∙ ap (Trial.ran l.frame.globals) (sym l.framed.steps) in
+      subst (EndsAs w (Ok s.steps)) (sym t) (EndsAs.ran l.framed.globals)
 
-    module _ {i : Instr} {after : ℕ} (next : CodeLoop.Behind b end h (i ∷ l.code) after) where
-      -- an instruction that a jump left out
-      pub run-over : (at ≡ s.next → ⊥) → RunLoop w after s
-      run-over n =
-          record {
-            code = i ∷ l.code;
-            behind = next;
-            frame = l.frame;
-            run = pass_more m.pool i l.code begin ∙ ap (come_to m.pool (0 + size_of l.code) i) l.run ∙ leaves_out m.pool (0 + size_of l.code) i l.frame (λ e. n (omega (arith, l.behind.size_is, l.framed.stands)));
-            framed = l.framed;
-            reached = l.reached;
-          }
+  pub few_steps : end ≤ 65536 → s.steps ≤ 131072
+  few_steps g =
+      let n = within_on (pass_within {k = 0} m.pool 0 l.code (Within.on {f = frame 0 [] unset_globals 0} (omega arith))) l.run in
+      omega (arith, n, code-count l.code, l.behind.size_is, l.behind.order, l.framed.steps)
 
-      -- one that the run stands before
-      module _ (here : at ≡ s.next) (stands : Stands i (size_of l.code) m.code) where
-        position : size_of l.code ≡ l.frame.at
-        position = omega (arith, l.behind.size_is, l.framed.stands)
+  module _ {i : Instruction} {after : ℕ} (r : ReadAt b end at i after) where
+    -- an instruction that a jump left out
+    pub run-over : (at ≡ s.next → ⊥) → RunLoop b end pool m h cs safe w after s
+    run-over n =
+        record {
+          code = instr_of i ∷ l.code;
+          behind = (CodeLoop.turn l.behind r).behind;
+          frame = l.frame;
+          run = pass_more m.pool (instr_of i) l.code begin ∙ ap (come_to m.pool (0 + size_of l.code) (instr_of i)) l.run ∙ leaves_out m.pool (0 + size_of l.code) (instr_of i) l.frame (λ e. n (omega (arith, l.behind.size_is, l.framed.stands)));
+          framed = l.framed;
+          reached = l.reached;
+        }
 
-        stands_here : Stands i l.frame.at m.code
-        stands_here = subst (λ p. Stands i p m.code) position stands
+    -- one that the run stands before
+    module _ (here : at ≡ s.next) where
+      position : size_of l.code ≡ l.frame.at
+      position = omega (arith, l.behind.size_is, l.framed.stands)
 
-        executed : pass m.pool 0 (i ∷ l.code) begin ≡ execute m.pool i l.frame
-        executed = pass_more m.pool i l.code begin ∙ comes_run m.pool (0 + size_of l.code) i l.frame l.run (omega (arith, position))
+      stands_here : Stands (instr_of i) l.frame.at m.code
+      stands_here = subst (λ p. Stands (instr_of i) p m.code) position (CodeLoop.stands l.behind r)
 
-        pub run_next : (n : ℕ) → n ≡ at + size i → n ≡ 3 + (l.frame.at + size i)
-        run_next n e = omega (arith, e, position, l.behind.size_is)
+      executed : pass m.pool 0 (instr_of i ∷ l.code) begin ≡ execute m.pool (instr_of i) l.frame
+      executed = pass_more m.pool (instr_of i) l.code begin ∙ comes_run m.pool (0 + size_of l.code) (instr_of i) l.frame l.run (omega (arith, position))
 
-        module _ {w₁ : List ℕ} {r : Step} (a : After w₁ l.frame.at r (execute m.pool i l.frame)) where
-          pub run_again : {t : State} → r ≡ Ok (Continue t) → RunLoop w₁ after t
-          run_again e =
-              let g = went a e in
-              record {
-                code = i ∷ l.code;
-                behind = next;
-                frame = g.frame;
-                run = executed ∙ g.is;
-                framed = g.framed;
-                reached = keeps_on (execute_height m.pool (record { there = λ s r. safe.enough s r }) i l.frame stands_here l.reached) g.is;
-              }
+      pub run_next : after ≡ 3 + (l.frame.at + size (instr_of i))
+      run_next = omega (arith, (CodeLoop.turn l.behind r).sized, position, l.behind.size_is)
 
-          module _ (rest : (P : Code → Type 0) → ((x : Instr) (xs : Code) → P xs → P (x ∷ xs)) → P (i ∷ l.code) → P m.code) where
-            pub run_returns : {n : ℕ} → r ≡ Ok (Break n) → EndsAs w₁ (Ok n) (trial m)
-            run_returns {n} e =
-                let g = came a e in
-                let q = rest (λ c. pass m.pool 0 c begin ≡ Run.returned g.globals n) (λ x xs p. pass_more m.pool x xs begin ∙ ap (come_to m.pool (0 + size_of xs) x) p) (executed ∙ g.is) in
-                subst (EndsAs w₁ (Ok n)) (sym (ap trial_of q)) (EndsAs.ran g.keeping)
+      module _ {w₁ : List ℕ} {a : Step} (x : After w₁ l.frame.at a (execute m.pool (instr_of i) l.frame)) where
+        pub run_again : {t : State} → a ≡ Ok (Continue t) → RunLoop b end pool m h cs safe w₁ after t
+        run_again e =
+            let g = went x e in
+            record {
+              code = instr_of i ∷ l.code;
+              behind = (CodeLoop.turn l.behind r).behind;
+              frame = g.frame;
+              run = executed ∙ g.is;
+              framed = g.framed;
+              reached = keeps_on (execute_height m.pool (record { there = λ s r. safe.enough s r }) (instr_of i) l.frame stands_here l.reached) g.is;
+            }
 
-            pub run_stops : {q : Refusal} → r ≡ Err q → EndsAs w₁ (Err q) (trial m)
-            run_stops {q} e =
-                let g = halted a e in
-                let d = rest (λ c. pass m.pool 0 c begin ≡ Run.stopped g.reason l.frame.at) (λ x xs p. pass_more m.pool x xs begin ∙ ap (come_to m.pool (0 + size_of xs) x) p) (executed ∙ g.is) in
-                subst (λ q. EndsAs w₁ (Err q) (trial m)) (sym g.refusal_is) (subst (EndsAs w₁ (Err (refusal g.reason (3 + l.frame.at)))) (sym (ap trial_of d)) EndsAs.stopped)
+        pub run_returns : {n : ℕ} → a ≡ Ok (Break n) → EndsAs w₁ (Ok n) (trial m)
+        run_returns {n} e =
+            let g = came x e in
+            let q = CodeLoop.rest l.behind r (λ c. pass m.pool 0 c begin ≡ Run.returned g.globals n) (λ x xs p. pass_more m.pool x xs begin ∙ ap (come_to m.pool (0 + size_of xs) x) p) (executed ∙ g.is) in
+            subst (EndsAs w₁ (Ok n)) (sym (ap trial_of q)) (EndsAs.ran g.keeping)
 
-    -- the step can be made
-    pub step_ready : {op x y after : ℕ} → at ≡ s.next → Stands (instr op x y) (size_of l.code) m.code → after ≤ end → end ≤ 65536 → StepReady w b pool (instr op x y) after s × Runs op
-    step_ready {op} {x} {y} {after} here stands a g =
-        let p : size_of l.code ≡ l.frame.at = omega (arith, l.behind.size_is, l.framed.stands) in
-        let d : Stands (instr op x y) l.frame.at m.code = subst (λ p. Stands (instr op x y) p m.code) p stands in
-        let e = stacked_length l.framed.stack in
-        let r = safe.runs d in
-        let v = runs m.pool x op r in (
-          record {
-            room =
-                record {
-                  long = l.framed.globals.long;
-                  constants = record { pool = m.pool; is = cs };
-                  enough = omega (arith, e, safe.enough d l.reached);
-                  low = omega (arith, e, safe.low d l.reached);
-                  fits = omega (arith, e, fits safe x y v d l.reached);
-                  global = global_below safe op x r;
-                  global_set = set_below safe op x r;
-                };
-            near = omega arith;
-            few = few_steps g;
-          },
-          v,
-        )
+        pub run_stops : {q : Refusal} → a ≡ Err q → EndsAs w₁ (Err q) (trial m)
+        run_stops {q} e =
+            let g = halted x e in
+            let d = CodeLoop.rest l.behind r (λ c. pass m.pool 0 c begin ≡ Run.stopped g.reason l.frame.at) (λ x xs p. pass_more m.pool x xs begin ∙ ap (come_to m.pool (0 + size_of xs) x) p) (executed ∙ g.is) in
+            subst (λ q. EndsAs w₁ (Err q) (trial m)) (sym g.refusal_is) (subst (EndsAs w₁ (Err (refusal g.reason (3 + l.frame.at)))) (sym (ap trial_of d)) EndsAs.stopped)
+
+      -- the step can be made
+      pub step_ready : end ≤ 65536 → StepReady w b pool (instr_of i) after s × Runs i.op
+      step_ready g =
+          let e = stacked_length l.framed.stack in
+          let o = safe.runs stands_here in
+          let v = runs m.pool i.operand i.op o in
+          let t = (CodeLoop.turn l.behind r).within in (
+            record {
+              room =
+                  record {
+                    long = l.framed.globals.long;
+                    constants = record { pool = m.pool; is = cs };
+                    enough = omega (arith, e, safe.enough stands_here l.reached);
+                    low = omega (arith, e, safe.low stands_here l.reached);
+                    fits = omega (arith, e, fits safe i.operand i.captures v stands_here l.reached);
+                    global = global_below safe i.op i.operand o;
+                    global_set = set_below safe i.op i.operand o;
+                  };
+              near = omega arith;
+              few = few_steps g;
+            },
+            v,
+          )

@@ -1,6 +1,10 @@
 -- Going over main: number 27, and the globals named.
-use Rattle.std.proofs.Common.{◌≡◌, ℕ, ◌+◌, ◌<◌, ◌≤◌, Bool, true, false, ltb, leb, List, [], ◌∷◌, get_or, sym, refl, ap, ◌∙◌, arith, ltb-true, le-leb, leb-true}
-use Rattle.std.specs.Prelude.{Option, None as none, Some as some, Ok, Err}
+use Rattle.std.proofs.Common.{◌≡◌, ℕ, ◌+◌, ◌<◌, ◌≤◌, Bool, true, false, ltb, leb, List, [], ◌∷◌, get_or, sym, refl, ap, ◌∙◌, subst, arith, ltb-true, le-leb, leb-true}
+use Rattle.std.specs.Prelude.{Option, None as none, Some as some, Result, Ok, Err}
+use Rattle.definition.specs.declared.reason.Refusal.{Refusal}
+use Rattle.opcode.specs.Decoding.{instr_of}
+use Rattle.opcode.specs.declared.Instruction.{Instruction}
+use Rattle.opcode.proofs.EachInstruction.{ReadAt}
 use borrow.Author.Tests.{lt-leb}
 use Rattle.definition.specs.Basic.{Bytes, pick, both}
 use Rattle.definition.specs.Opcode.{Instr}
@@ -17,7 +21,7 @@ use Rattle.trial.specs.Cells.{stack_limit}
 use Rattle.trial.specs.Call.{taken, first_refused, scan_answer}
 use Rattle.definition.specs.Number.{refusal}
 use Rattle.definition.specs.Number
-use Rattle.trial.proofs.CodeLoop.{Behind, code-begins, code_ends}
+use Rattle.trial.proofs.CodeLoop.{Behind, code-begins, code_ends, turn, rest}
 
 module _ (pool : List Const) (f : Marks) where
   pub refused_more : (i : Instr) (c : Code) → first_refused pool f (i ∷ c) ≡ or_else (first_refused pool f c) (pick (taken pool f (size_of c) i) none (some (size_of c)))
@@ -87,6 +91,10 @@ named_small pool f c e = go c (λ i p s. taken_runs pool f p i (all_taken pool f
     go [] h = omega (arith, named_none)
     go (i ∷ d) h = let l = names-below pool (named_globals d) i.a (action_of i) (go d (λ j p s. h j p (Stands.before s))) (h i (size_of d) Stands.last) in omega (arith, named_more i d, l)
 
+-- what a scan answers of an image
+abbrev pub scanned : List ℕ → Image → Result ℕ Refusal
+scanned l m = scan_answer (first_refused m.pool (marks_from l 3) m.code) (named_globals m.code)
+
 -- the loop
 module _ (b : Bytes) (end : ℕ) (l : List ℕ) (m : Image) (h : CodeAt b 3 end m.code) where
   pub record ScanLoop (at names : ℕ) : Type 0 where
@@ -98,32 +106,36 @@ module _ (b : Bytes) (end : ℕ) (l : List ℕ) (m : Image) (h : CodeAt b 3 end 
   pub scan_begins : ScanLoop 3 0
   scan_begins = record { code = []; behind = code-begins b end h; clear = refused_none m.pool (marks_from l 3); names_are = sym named_none }
 
-  module _ {at names : ℕ} (s : ScanLoop at names) where
-    pub scan_ends : end ≤ at → Ok names ≡ scan_answer (first_refused m.pool (marks_from l 3) m.code) (named_globals m.code)
-    scan_ends g =
-        let q = code_ends b end h s.behind g in
-        ap Ok (s.names_are ∙ ap named_globals q) ∙ sym (ap (λ o. scan_answer o (named_globals m.code)) (ap (first_refused m.pool (marks_from l 3)) (sym q) ∙ s.clear))
+module _ {b : Bytes} {end : ℕ} {l : List ℕ} {m : Image} {h : CodeAt b 3 end m.code} {at names : ℕ} (s : ScanLoop b end l m h at names) where
+  -- at the same offset
+  pub same : {at₁ : ℕ} → at ≡ at₁ → ScanLoop b end l m h at₁ names
+  same e = subst (λ at. ScanLoop b end l m h at names) e s
 
-    marks-at : get_or l at 0 ≡ marks_from l 3 (size_of s.code)
-    marks-at = ap (λ n. get_or l n 0) (sym s.behind.size_is)
+  pub scan_ends : end ≤ at → Ok names ≡ scanned l m
+  scan_ends g =
+      let q = code_ends s.behind g in
+      ap Ok (s.names_are ∙ ap named_globals q) ∙ sym (ap (λ o. scan_answer o (named_globals m.code)) (ap (first_refused m.pool (marks_from l 3)) (sym q) ∙ s.clear))
 
-    module _ {i : Instr} (rest : (P : Code → Type 0) → ((x : Instr) (xs : Code) → P xs → P (x ∷ xs)) → P (i ∷ s.code) → P m.code) where
-      refuses : taken m.pool (marks_from l 3) (size_of s.code) i ≡ false → Err (refusal Number.not_runnable at) ≡ scan_answer (first_refused m.pool (marks_from l 3) m.code) (named_globals m.code)
-      refuses t =
-          let r = rest (λ c. first_refused m.pool (marks_from l 3) c ≡ some (size_of s.code)) (λ x xs p. refused_stays m.pool (marks_from l 3) x xs p) (refused_next m.pool (marks_from l 3) false i s.code s.clear t) in
-          ap (λ p. Err (refusal Number.not_runnable p)) (sym s.behind.size_is) ∙ sym (ap (λ o. scan_answer o (named_globals m.code)) r)
+  marks-at : get_or l at 0 ≡ marks_from l 3 (size_of s.code)
+  marks-at = ap (λ n. get_or l n 0) (sym s.behind.size_is)
 
-      pub not-runnable : runnable m.pool i ≡ false → Err (refusal Number.not_runnable at) ≡ scan_answer (first_refused m.pool (marks_from l 3) m.code) (named_globals m.code)
-      not-runnable e = refuses (ap (λ b. both b (leb (marks_from l 3 (size_of s.code)) (2 + stack_limit))) e)
+  module _ {i : Instruction} {after : ℕ} (r : ReadAt b end at i after) where
+    refuses : taken m.pool (marks_from l 3) (size_of s.code) (instr_of i) ≡ false → Err (refusal Number.not_runnable at) ≡ scanned l m
+    refuses t =
+        let o = rest s.behind r (λ c. first_refused m.pool (marks_from l 3) c ≡ some (size_of s.code)) (λ x xs p. refused_stays m.pool (marks_from l 3) x xs p) (refused_next m.pool (marks_from l 3) false (instr_of i) s.code s.clear t) in
+        ap (λ p. Err (refusal Number.not_runnable p)) (sym s.behind.size_is) ∙ sym (ap (λ o. scan_answer o (named_globals m.code)) o)
 
-      pub too_high : runnable m.pool i ≡ true → 1026 < get_or l at 0 → Err (refusal Number.not_runnable at) ≡ scan_answer (first_refused m.pool (marks_from l 3) m.code) (named_globals m.code)
-      too_high e g = refuses (λ j. both (e j) (lt-leb (marks_from l 3 (size_of s.code)) (2 + stack_limit) (omega (arith, marks-at)) j))
+    pub not-runnable : runnable m.pool (instr_of i) ≡ false → Err (refusal Number.not_runnable at) ≡ scanned l m
+    not-runnable e = refuses (ap (λ b. both b (leb (marks_from l 3 (size_of s.code)) (2 + stack_limit))) e)
 
-    pub scan_again : {i : Instr} {after names₁ : ℕ} → Behind b end h (i ∷ s.code) after → runnable m.pool i ≡ true → get_or l at 0 ≤ 1026 → names₁ ≡ names_as names i.a (action_of i) → ScanLoop after names₁
-    scan_again {i} g e k n =
+    pub too_high : runnable m.pool (instr_of i) ≡ true → 1026 < get_or l at 0 → Err (refusal Number.not_runnable at) ≡ scanned l m
+    too_high e g = refuses (λ j. both (e j) (lt-leb (marks_from l 3 (size_of s.code)) (2 + stack_limit) (omega (arith, marks-at)) j))
+
+    pub scan_again : {names₁ : ℕ} → runnable m.pool (instr_of i) ≡ true → get_or l at 0 ≤ 1026 → names₁ ≡ names_as names i.operand (action_of (instr_of i)) → ScanLoop b end l m h after names₁
+    scan_again e k n =
         record {
-          code = i ∷ s.code;
-          behind = g;
-          clear = refused_next m.pool (marks_from l 3) true i s.code s.clear (λ j. both (e j) (le-leb (marks_from l 3 (size_of s.code)) (2 + stack_limit) (omega (arith, marks-at)) j));
-          names_are = n ∙ ap (λ n. names_as n i.a (action_of i)) s.names_are ∙ sym (named_more i s.code);
+          code = instr_of i ∷ s.code;
+          behind = (turn s.behind r).behind;
+          clear = refused_next m.pool (marks_from l 3) true (instr_of i) s.code s.clear (λ j. both (e j) (le-leb (marks_from l 3 (size_of s.code)) (2 + stack_limit) (omega (arith, marks-at)) j));
+          names_are = n ∙ ap (λ n. names_as n i.operand (action_of (instr_of i))) s.names_are ∙ sym (named_more (instr_of i) s.code);
         }

@@ -34,6 +34,15 @@ const BOOLEAN: u64 = 2;
 // The kind of null.
 const NULL: u64 = 3;
 
+// Where the kinds of the globals start in the work area, behind their words: a kind stands so far behind its word, the stack's too.
+pub const KINDS: usize = 1024;
+
+// Where the words of the stack start.
+pub const STACK: usize = 2048;
+
+// The most values on a stack.
+pub const STACK_LIMIT: u32 = 1024;
+
 // The value that a kind and a word of the work area keep, or a cell of the output; none where none is set.
 pub fn value_in(kind: u64, word: u64) -> Option<Value>
     ensures { (v : Option Value) → Keeps kind word v → result ≡ v }

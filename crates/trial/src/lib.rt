@@ -10,15 +10,13 @@ mod scan;
 ghost use Rattle.std.specs.Prelude.{◌≡◌, length, replicate};
 ghost use Rattle.definition.specs.Bytecode.{Image};
 ghost use Rattle.definition.specs.Decode.{read_image};
-ghost use Rattle.definition.specs.Number.{refusal};
 ghost use Rattle.listing.specs.Reads.{ImageAt};
 ghost use Rattle.trial.specs.Cells.{work_size};
 ghost use Rattle.trial.specs.Call.{taken_outcome, refused_with, image_outcome, run_outcome, outcome_answer, outcome_into, work_after, ChunkToRun};
 
-use bytecode::check_image;
+use bytecode::{Parts, check_image};
 pub use cells::{Value, value_in};
-use definition::{Reason, Refusal};
-use field::length_at;
+use definition::{Reason, Refusal, refused};
 use heights::image::judge;
 use machine::run_main;
 use output::put_globals;
@@ -35,13 +33,6 @@ pub struct Ran {
     pub steps: usize,
 }
 
-// A refusal.
-fn refused(reason: Reason, place: usize) -> Result<Ran, Refusal>
-    ensures { result ≡ Err (refusal reason place) }
-{
-    Err(Refusal { reason, place })
-}
-
 // Main of a sound image that passes with its heights, on a cleared work area.
 fn run_chunk(
     image: &[u8],
@@ -53,9 +44,12 @@ fn run_chunk(
     ensures answers { (m : Image) → ImageAt image.now m → result ≡ outcome_answer (taken_outcome (refused_with heights.now m) m (length output.old)) }
     ensures writes { (m : Image) → ImageAt image.now m → output.new ≡ outcome_into (taken_outcome (refused_with heights.now m) m (length output.old)) output.old }
 {
-    let end = 3 + length_at(image, 0);
-    let pool = end + 3;
-    let program = Program { image, end, pool };
+    let parts = Parts::of(image);
+    let program = Program {
+        image,
+        end: parts.code.end,
+        pool: parts.pool.start,
+    };
     let globals = scan(program, heights)?;
     if output.len() < 9 * globals {
         return refused(Reason::OutputShort, 0);

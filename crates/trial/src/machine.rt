@@ -9,9 +9,9 @@ ghost use Rattle.trial.specs.Run.{actions, other, Frame, execute as executed, to
 ghost use Rattle.trial.specs.Cells.{Keeps, Stacked, Keeping, kinds_at, work_size};
 ghost use Rattle.trial.specs.Machine.{Produces, Runs, product, reason_of, KeptAt, Room, StepReady, goes_on, Framed, After, RunReady, EndsAs};
 
-use crate::cells::{Value, combine, negate, parts, truthy, value_in};
+use crate::cells::{KINDS, STACK, Value, combine, negate, parts, truthy, value_in};
 use crate::pool::{Program, integer_at};
-use definition::{Reason, Refusal};
+use definition::{Reason, Refusal, refused};
 use heights::effect::takes;
 use opcode::instructions::Instructions;
 use opcode::{Instruction, opcodes};
@@ -39,12 +39,12 @@ impl State {
     }
 }
 
-// The value that the work area keeps at a place: its word there, its kind 1,024 numbers behind.
+// The value that the work area keeps at a place: its word there, its kind KINDS numbers behind.
 fn kept(work: &[u64], at: usize) -> Option<Value>
     requires { (length work.now ≡ work_size) × (at < 3072) }
     ensures { (v : Option Value) → Keeps (slice_index work.now (kinds_at + at)) (slice_index work.now at) v → result ≡ v }
 {
-    value_in(work[1024 + at], work[at])
+    value_in(work[KINDS + at], work[at])
 }
 
 // Keeps a value at a place.
@@ -54,7 +54,7 @@ fn keep(work: &mut [u64], at: usize, x: Value)
 {
     let (kind, word) = parts(x);
     work[at] = word;
-    work[1024 + at] = kind;
+    work[KINDS + at] = kind;
 }
 
 // The top of a stack that is so high.
@@ -62,7 +62,7 @@ fn top(work: &[u64], height: usize) -> Value
     requires { (length work.now ≡ work_size) × (1 ≤ height) × (height ≤ 1024) }
     ensures { (st : List Value) → Stacked work.now height st → result ≡ topmost st }
 {
-    kept(work, 2048 + height - 1).unwrap_or(Value::Null)
+    kept(work, STACK + height - 1).unwrap_or(Value::Null)
 }
 
 // What an instruction puts on the stack; none where it stops the run.
@@ -105,13 +105,10 @@ fn produce(
     ensures { (cs : List Const) (f : Frame) → PoolAt program.entry.image.now program.entry.pool (length program.entry.image.now) cs → Framed work.old s f → next ≡ 3 + (f.at + size (instr_of i)) → After work.new f.at result (executed cs (instr_of i) f) }
 {
     let Some(x) = produced(work, program, i, s.height) else {
-        return Err(Refusal {
-            reason: reason(i.op),
-            place: s.next,
-        });
+        return refused(reason(i.op), s.next);
     };
     let left = s.height - takes(i) as usize;
-    keep(work, 2048 + left, x);
+    keep(work, STACK + left, x);
     Ok(s.step_to(next, left + 1))
 }
 

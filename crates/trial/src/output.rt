@@ -6,6 +6,8 @@ ghost use Rattle.trial.specs.Value.{Globals};
 ghost use Rattle.trial.specs.Output.{cell, shown};
 ghost use Rattle.trial.specs.Cells.{Keeping, KeepsGlobals};
 
+use crate::cells::KINDS;
+
 // Writes the nine bytes of a value, its kind and its word, the high byte first.
 fn put_cell(output: &mut [u8], at: usize, kind: u64, word: u64)
     requires { (at + 9 ≤ length output.old) × (kind < 256) }
@@ -22,6 +24,6 @@ pub fn put_globals(output: &mut [u8], work: &[u64], n: usize)
 {
     // Kept: an index, which goes over two parts of the work area and nine bytes a value of the output: `zip` and `enumerate` count too.
     for k in 0..n {
-        put_cell(output, 9 * k, work[1024 + k], work[k]);
+        put_cell(output, 9 * k, work[KINDS + k], work[k]);
     }
 }

@@ -8,7 +8,7 @@ ghost use Rattle.trial.specs.Run.{integer_in};
 use crate::cells::Value;
 use bytecode::constants::Constants;
 use definition::tag;
-use listing::text::eight_bytes;
+use listing::text::integer;
 
 // A sound image whose main code is run: the code stands from 3 up to `end`, the constants from `pool` on.
 #[derive(Clone, Copy)]
@@ -28,6 +28,5 @@ pub fn integer_at(program: Program<'_>, k: usize) -> Option<Value>
     if image[at] != tag::INTEGER_CONST {
         return None;
     }
-    let word = eight_bytes(image, at + 3) as u64;
-    Some(Value::Integer(word.cast_signed()))
+    Some(Value::Integer(integer(&image[at + 3..at + 11])))
 }

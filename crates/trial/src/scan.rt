@@ -9,10 +9,12 @@ ghost use Rattle.trial.specs.Run.{actions, other, runnable as takes};
 ghost use Rattle.trial.specs.Output.{names_as, named_globals};
 ghost use Rattle.trial.specs.Call.{ScanReady, first_refused, refused_with, scan_answer};
 
+use crate::cells::STACK_LIMIT;
 use crate::pool::{Program, integer_at};
 use bytecode::Span;
-use definition::{Reason, Refusal};
-use heights::chunk::pass;
+use definition::limit::GLOBALS_LIMIT;
+use definition::{Reason, Refusal, refused};
+use heights::chunk::{GROUND, pass};
 use opcode::instructions::Instructions;
 use opcode::{Instruction, opcodes};
 
@@ -23,7 +25,7 @@ fn runnable(program: Program<'_>, i: Instruction) -> bool
 {
     match i.op {
         opcodes::CONSTANT => integer_at(program, usize::from(i.operand)).is_some(),
-        opcodes::GET_GLOBAL | opcodes::SET_GLOBAL => i.operand < 1024,
+        opcodes::GET_GLOBAL | opcodes::SET_GLOBAL => usize::from(i.operand) < GLOBALS_LIMIT,
         opcodes::RETURN_VALUE => true,
         op => op < opcodes::ARRAY,
     }
@@ -46,11 +48,8 @@ fn scan_marked(marks: &[u32], program: Program<'_>) -> Result<usize, Refusal>
 {
     let mut names = 0;
     for (at, i, _) in Instructions::new(program.image, 3, program.end) {
-        if !runnable(program, i) || 1026 < marks[at] {
-            return Err(Refusal {
-                reason: Reason::NotRunnable,
-                place: at,
-            });
+        if !runnable(program, i) || GROUND + STACK_LIMIT < marks[at] {
+            return refused(Reason::NotRunnable, at);
         }
         names = named(names, i);
     }
@@ -63,7 +62,7 @@ pub fn scan(program: Program<'_>, heights: &[u32]) -> Result<usize, Refusal>
     ensures { (m : Image) → ImageAt program.entry.image.now m → (s : Passing) → passed heights.now 0 (size_of m.code) m.code ≡ Passed.passed s → result ≡ scan_answer (refused_with heights.now m) (named_globals m.code) }
 {
     let mut marks = [0u32; 65536];
-    marks[3] = 2;
+    marks[3] = GROUND;
     let code = Span {
         bytes: program.image,
         start: 3,

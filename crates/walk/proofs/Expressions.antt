@@ -10,9 +10,9 @@ use Rattle.definition.specs.Opcode.{plain, op_index}
 use Rattle.definition.specs.Number
 use Rattle.definition.specs.Tag.{tag_identifier, tag_integer, tag_boolean, tag_string, tag_macro, tag_integer_const, tag_string_const}
 use Rattle.definition.specs.Syntax.{Expr}
-use Rattle.definition.specs.Walk.{Go, walk_expr, operate, prefixes, infixes, less_than}
+use Rattle.definition.specs.Walk.{refuse, Go, walk_expr, operate, prefixes, infixes, less_than}
 use Rattle.field.specs.Layout.{tag, after, content}
-use Rattle.scope.specs.View.{View, then, Ready, Done, Refuses}
+use Rattle.scope.specs.View.{View, then, Done}
 use Rattle.scope.specs.Machine.{machine, emit, literal, load}
 use Rattle.scope.specs.Walked.{Walked}
 use Rattle.step.specs.Memory.{Rest, Fine, Walks}
@@ -21,7 +21,7 @@ use Rattle.tree.specs.At.{PrefixAt, InfixAt, IndexAt, expr_kind, ExprIs}
 use Rattle.tree.specs.Reads.{Some, ReadsExpr, ReadsBlock}
 use Rattle.step.proofs.Memory.{done_steps}
 use Rattle.tree.proofs.Parts.{expr_is}
-use Rattle.walk.proofs.Sequence.{walks_as, walk_walk, walk_done, refuses_steps}
+use Rattle.walk.proofs.Sequence.{walks_as, walk_walk, walk_done}
 
 module _ {tree : Bytes} {at : ℕ} {c c₁ : Bytes} {m m₁ : Rest} {w r : Walked} where
   -- the expression of a tag
@@ -56,9 +56,9 @@ module _ {tree : Bytes} {at : ℕ} {c : Bytes} {m : Rest} {w r : Walked} where
   boolean_walks h f d = step_walks tag_boolean (machine.boolean at (byte_at tree (at + 3))) h (λ e i. ap (walk_expr machine) i.is) (done_steps f d)
 
   -- a macro is refused
-  pub macro_walks : tag tree at ≡ tag_macro → Ready c w → Fine tree m w → Refuses w r Number.macro at → Walks tree (ReadsExpr tree at) (walk_expr machine) c c m m w r
+  pub macro_walks : {c₁ : Bytes} → tag tree at ≡ tag_macro → Fine tree m w → Done c c₁ w r (refuse Number.macro at) → Walks tree (ReadsExpr tree at) (walk_expr machine) c c₁ m m w r
   unfolding walk_expr
-  macro_walks h a f d = step_walks tag_macro _ h (λ e i. ap (walk_expr machine) i) (refuses_steps a f d)
+  macro_walks h f d = step_walks tag_macro _ h (λ e i. ap (walk_expr machine) i) (done_steps f d)
 
 -- a boolean has its byte
 pub boolean_byte : {tree : Bytes} {at : ℕ} → tag tree at ≡ tag_boolean → Some (ReadsExpr tree at) → at + 3 < length tree

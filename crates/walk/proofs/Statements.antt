@@ -1,22 +1,27 @@
 -- Statements: from what their parts did to what they did.
-use Prim.Native.Nat.{ℕ, ◌+◌}
+use Prim.Native.Nat.{ℕ, ◌+◌, ◌≤◌}
 use mathlib.Core.Path.{◌≡◌, refl, ap, ◌∙◌}
+use lib.ListN.{length}
 use Rattle.definition.specs.Basic.{Bytes}
-use Rattle.definition.specs.Opcode.{Instr, instr, plain, op_pop, op_return_value}
+use Rattle.definition.specs.Limit.{code_size}
+use Rattle.definition.specs.Opcode.{instr, plain, op_pop, op_return_value}
 use Rattle.definition.specs.Tag.{tag_expr_stmt, tag_block, tag_return}
 use Rattle.definition.specs.Syntax.{Stmt, Expr}
 use Rattle.definition.specs.Tree.{stmt_tag}
-use Rattle.definition.specs.Walk.{Go, walk_stmt, walk_stmts, walk_expr}
+use Rattle.definition.specs.Walk.{walk_stmt, walk_stmts, walk_expr}
 use Rattle.field.specs.Layout.{tag, after, content}
-use Rattle.scope.specs.View.{View, then, Done}
+use Rattle.scope.specs.View.{then, Done}
 use Rattle.scope.specs.Machine.{machine, emit, define}
-use Rattle.scope.specs.Walked.{Walked}
+use Rattle.definition.specs.declared.reason.Refusal.{Refusal}
+use Rattle.scope.specs.Walked.{Walked, stopped}
+use Rattle.scope.specs.declared.State.{State}
+use Rattle.std.specs.Prelude.{Ok, Err}
 use Rattle.step.specs.Memory.{Rest, memory, Walks}
 use Rattle.step.specs.Contract.{Defines}
-use Rattle.step.specs.declared.Defining.{Defining}
+use Rattle.step.specs.declared.Setting.{Setting}
 use Rattle.tree.specs.At.{ValueAt, LetAt, StmtIs}
 use Rattle.tree.specs.Reads.{ReadsStmt, ReadsExpr, ReadsStmts}
-use Rattle.step.proofs.Memory.{follow, with_value, deeper_keeps}
+use Rattle.step.proofs.Memory.{follow, stop_deeper}
 use Rattle.tree.proofs.Parts.{stmt_is}
 use Rattle.walk.proofs.Sequence.{walks_as, walk_done}
 
@@ -52,18 +57,29 @@ module _ {tree : Bytes} {at : ℕ} {c c₁ c₂ : Bytes} {m m₁ : Rest} {w v r 
   unfolding walk_stmt
   return_walks h d e = stmt_walks tag_return h (value_walks op_return_value (λ _. refl) d e)
 
--- a let: the name is defined, then its value walked, then it is set
-pub let_walks : {tree : Bytes} {at value : ℕ} {c c₁ c₂ : Bytes} {m m₁ m₂ : Rest} {w v r : Walked} {d : Defining} → value ≡ after tree (at + 3) → Defines tree at c m m₁ w d
-    → Walks tree (ReadsExpr tree value) (walk_expr machine) c c₁ m₁ m₂ d.walked v → Done c₁ c₂ v r (emit at (instr d.op d.operand 0))
-    → Walks tree (LetAt tree (ReadsExpr tree) at) (walk_stmt machine) c c₂ m m₂ w r
-unfolding walk_stmt
-let_walks {tree} {at} {value} {c} {c₁} {c₂} {m} {m₁} {m₂} {w} {v} {r} {d} q f g h =
-    record {
-      step = λ x i.
-          let set : Instr → Go View = λ j s. then (walk_expr machine i.value s) (emit at j) in
-          rw i.is (follow (memory tree c m w) (λ _. define at (content tree (at + 3))) set f.step
-          ((walk_done g h).step i.value (rw q i.on_value) ∙ with_value tree c m₁ d.walked (instr d.op d.operand 0) set));
-      ready = h.ready;
-      fine = (walk_done g h).fine;
-      keeps = deeper_keeps f.keeps (walk_done g h).keeps;
-    }
+module _ {tree : Bytes} {at : ℕ} {c : Bytes} {m m₁ : Rest} {s : State} where
+  -- a let: the name is defined, then its value walked, then it is set
+  pub let_walks : {value : ℕ} {c₁ c₂ : Bytes} {m₂ : Rest} {v r : Walked} {x : Setting} → value ≡ after tree (at + 3) → Defines tree at c m m₁ s (Ok x)
+      → Walks tree (ReadsExpr tree value) (walk_expr machine) c c₁ m₁ m₂ (Ok s) v → Done c₁ c₂ v r (emit at (instr x.op x.operand 0))
+      → Walks tree (LetAt tree (ReadsExpr tree) at) (walk_stmt machine) c c₂ m m₂ (Ok s) r
+  unfolding walk_stmt
+  let_walks q f g h =
+      record {
+        step = λ x i.
+            rw i.is (follow (memory tree c m (Ok s)) (λ _. define at (content tree (at + 3))) (λ j v. then (walk_expr machine i.value v) (emit at j)) f.step
+            ((walk_done g h).step i.value (rw q i.on_value)));
+        ready = h.ready;
+        fine = (walk_done g h).fine;
+        keeps = (walk_done g h).keeps;
+      }
+
+  -- the definition is refused
+  pub let_refused : {z : Refusal} → code_size ≤ length c → Defines tree at c m m₁ s (Err z) → Walks tree (LetAt tree (ReadsExpr tree) at) (walk_stmt machine) c c m m₁ (Ok s) (Err (stopped z s))
+  unfolding walk_stmt
+  let_refused h f =
+      record {
+        step = λ x i. rw i.is (follow (memory tree c m (Ok s)) (λ _. define at (content tree (at + 3))) (λ j v. then (walk_expr machine i.value v) (emit at j)) f.step refl);
+        ready = record { area = h; sound = tt };
+        fine = tt;
+        keeps = stop_deeper;
+      }

@@ -6,16 +6,15 @@ use Rattle.definition.specs.Opcode.{instr, op_jump}
 use Rattle.definition.specs.Syntax.{Stmts, Else, Exprs, count}
 use Rattle.definition.specs.Tree.{read_tree, Parsed}
 use Rattle.definition.specs.Walk.{on, bind, Go, walk_stmts, walk_else, walk_exprs}
-use Rattle.scope.specs.View.{View, then, Ready}
+use Rattle.scope.specs.View.{View, then}
 use Rattle.scope.specs.Machine.{machine, emit, jump, patch}
-use Rattle.scope.specs.Walked.{Walked}
-use Rattle.step.specs.Memory.{Rest, Fine}
+use Rattle.scope.specs.declared.State.{State}
+use Rattle.step.specs.Memory.{Rest, FineState}
 use Rattle.tree.specs.Reads.{Branches}
 
--- all stands well for a walk that goes on
-pub record Standing (tree c : Bytes) (m : Rest) (w : Walked) : Type 0 where
-  pub ready : Ready c w
-  pub fine : Fine tree m w
+-- all stands well for a walk on from a state
+pub record Standing (tree : Bytes) (m : Rest) (s : State) : Type 0 where
+  pub fine : FineState tree m s
   pub short : length tree ≤ tree_limit
 
 -- an array or a hash: its items, then their number

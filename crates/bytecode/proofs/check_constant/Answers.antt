@@ -14,34 +14,29 @@ use Rattle.bytecode.proofs.check_constant.Goals as goal
 pub returns-in_err-head : goal.returns-in_err-head
 returns-in_err-head c =
     let a = c.args in
-    let e = c.head_where.ensures (is_constant a.form) (λ h r q. search rules) in
-    rw (passed_on c.from_residual.ensures.1) (sym (ap item (unfitting (byte_at a.bytes.now) a.at a.end (is_constant a.form) e c.in_err-head.was (read_content (byte_at a.bytes.now)))))
+    rw (passed_on c.from_residual.ensures.1) (sym (ap item (unfitting a.bytes.now a.at a.end (is_constant a.form) c.head_where.ensures (λ h r q. search rules) c.in_err-head.was (read_content (byte_at a.bytes.now)))))
 
 pub overflow_add-next-2 : goal.overflow_add-next-2
 overflow_add-next-2 c =
     let a = c.args in
-    let e = c.head_where.ensures (is_constant a.form) (λ h r q. search rules) in
-    let f = fitting (byte_at a.bytes.now) a.at a.end (is_constant a.form) e c.in_ok-head.was in
+    let f = fitting a.bytes.now a.at a.end (is_constant a.form) c.head_where.ensures (λ h r q. search rules) c.in_ok-head.was in
     omega arith
 
 pub returns-then-head-tags : goal.returns-then-head-tags
 returns-then-head-tags c =
     let a = c.args in
-    let e = c.head_where.ensures (is_constant a.form) (λ h r q. search rules) in
-    let f = fitting (byte_at a.bytes.now) a.at a.end (is_constant a.form) e c.in_ok-head.was in
+    let f = fitting a.bytes.now a.at a.end (is_constant a.form) c.head_where.ensures (λ h r q. search rules) c.in_ok-head.was in
     rw f.reads (sym (plain_constant a.form (byte_at a.bytes.now) (a.at + 3) c.in_ok-head.head f.is_good (λ i. c.if-head-tags.true (i ∙ sym c.tags.ensures.function))))
 
 pub check_code-requires : goal.check_code-requires
 check_code-requires c =
     let a = c.args in
-    let e = c.head_where.ensures (is_constant a.form) (λ h r q. search rules) in
-    let f = fitting (byte_at a.bytes.now) a.at a.end (is_constant a.form) e c.in_ok-head.was in
+    let f = fitting a.bytes.now a.at a.end (is_constant a.form) c.head_where.ensures (λ h r q. search rules) c.in_ok-head.was in
     let l = function_long a.form (byte_at a.bytes.now) (a.at + 3) c.in_ok-head.head f.is_good (c.if-head-tags.false ∙ c.tags.ensures.function) in
     record { order = omega arith; within = omega arith }
 
 pub returns : goal.returns
 returns c =
     let a = c.args in
-    let e = c.head_where.ensures (is_constant a.form) (λ h r q. search rules) in
-    let f = fitting (byte_at a.bytes.now) a.at a.end (is_constant a.form) e c.in_ok-head.was in
+    let f = fitting a.bytes.now a.at a.end (is_constant a.form) c.head_where.ensures (λ h r q. search rules) c.in_ok-head.was in
     rw f.reads (c.check_code.ensures c.in_ok-head.head.len (omega arith) ∙ function_item a.form (byte_at a.bytes.now) (a.at + 3) c.in_ok-head.head f.is_good (c.if-head-tags.false ∙ c.tags.ensures.function))

@@ -14,26 +14,22 @@ use Rattle.bytecode.proofs.check_main.Goals as goal
 pub returns-in_err-head : goal.returns-in_err-head
 returns-in_err-head c =
     let a = c.args in
-    let e = c.head_where.ensures (is_main a.form) (λ h r q. search rules) in
-    rw (passed_on c.from_residual.ensures.1) (sym (ap item (unfitting (byte_at a.image.now) 0 (length a.image.now) (is_main a.form) e c.in_err-head.was (main_content (byte_at a.image.now)))))
+    rw (passed_on c.from_residual.ensures.1) (sym (ap item (unfitting a.image.now 0 (length a.image.now) (is_main a.form) c.head_where.ensures (λ h r q. search rules) c.in_err-head.was (main_content (byte_at a.image.now)))))
 
 pub overflow_add-code : goal.overflow_add-code
 overflow_add-code c =
     let a = c.args in
-    let e = c.head_where.ensures (is_main a.form) (λ h r q. search rules) in
-    let f = fitting (byte_at a.image.now) 0 (length a.image.now) (is_main a.form) e c.in_ok-head.was in
+    let f = fitting a.image.now 0 (length a.image.now) (is_main a.form) c.head_where.ensures (λ h r q. search rules) c.in_ok-head.was in
     omega arith
 
 pub check_code-requires : goal.check_code-requires
 check_code-requires c =
     let a = c.args in
-    let e = c.head_where.ensures (is_main a.form) (λ h r q. search rules) in
-    let f = fitting (byte_at a.image.now) 0 (length a.image.now) (is_main a.form) e c.in_ok-head.was in
+    let f = fitting a.image.now 0 (length a.image.now) (is_main a.form) c.head_where.ensures (λ h r q. search rules) c.in_ok-head.was in
     record { order = omega arith; within = omega arith }
 
 pub returns : goal.returns
 returns c =
     let a = c.args in
-    let e = c.head_where.ensures (is_main a.form) (λ h r q. search rules) in
-    let f = fitting (byte_at a.image.now) 0 (length a.image.now) (is_main a.form) e c.in_ok-head.was in
+    let f = fitting a.image.now 0 (length a.image.now) (is_main a.form) c.head_where.ensures (λ h r q. search rules) c.in_ok-head.was in
     rw f.reads (c.check_code.ensures c.in_ok-head.head.len (le_refl _))

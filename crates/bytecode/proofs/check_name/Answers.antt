@@ -12,16 +12,16 @@ use Rattle.bytecode.proofs.check_name.Goals as goal
 pub returns-in_err-head : goal.returns-in_err-head
 returns-in_err-head c =
     let a = c.args in
-    rw (passed_on c.from_residual.ensures.1) (sym (ap item (unfitting (byte_at a.bytes.now) a.at a.end is_name (c.head_where.ensures is_name (λ h r q. search rules)) (c.in_err-head.was) (name_content (byte_at a.bytes.now)))))
+    rw (passed_on c.from_residual.ensures.1) (sym (ap item (unfitting a.bytes.now a.at a.end is_name c.head_where.ensures (λ h r q. search rules) c.in_err-head.was (name_content (byte_at a.bytes.now)))))
 
 pub overflow_add-result-2 : goal.overflow_add-result-2
 overflow_add-result-2 c =
     let a = c.args in
-    let f = fitting (byte_at a.bytes.now) a.at a.end is_name (c.head_where.ensures is_name (λ h r q. search rules)) (c.in_ok-head.was) in
+    let f = fitting a.bytes.now a.at a.end is_name c.head_where.ensures (λ h r q. search rules) c.in_ok-head.was in
     omega arith
 
 pub returns : goal.returns
 returns c =
     let a = c.args in
-    let f = fitting (byte_at a.bytes.now) a.at a.end is_name (c.head_where.ensures is_name (λ h r q. search rules)) (c.in_ok-head.was) in
+    let f = fitting a.bytes.now a.at a.end is_name c.head_where.ensures (λ h r q. search rules) c.in_ok-head.was in
     rw f.reads

@@ -14,26 +14,22 @@ use Rattle.bytecode.proofs.check_names.Goals as goal
 pub returns-in_err-head : goal.returns-in_err-head
 returns-in_err-head c =
     let a = c.args in
-    let e = c.head_where.ensures (tagged a.tag) (λ h r q. search rules) in
-    rw (passed_on c.from_residual.ensures.1) (sym (ap checked (unfitting (byte_at a.session.now) a.at (length a.session.now) (tagged a.tag) e c.in_err-head.was (names_content (byte_at a.session.now) a.most))))
+    rw (passed_on c.from_residual.ensures.1) (sym (ap checked (unfitting a.session.now a.at (length a.session.now) (tagged a.tag) c.head_where.ensures (λ h r q. search rules) c.in_err-head.was (names_content (byte_at a.session.now) a.most))))
 
 pub overflow_add-at-3 : goal.overflow_add-at-3
 overflow_add-at-3 c =
     let a = c.args in
-    let e = c.head_where.ensures (tagged a.tag) (λ h r q. search rules) in
-    let f = fitting (byte_at a.session.now) a.at (length a.session.now) (tagged a.tag) e c.in_ok-head.was in
+    let f = fitting a.session.now a.at (length a.session.now) (tagged a.tag) c.head_where.ensures (λ h r q. search rules) c.in_ok-head.was in
     omega arith
 
 pub check_name_fields-requires : goal.check_name_fields-requires
 check_name_fields-requires c =
     let a = c.args in
-    let e = c.head_where.ensures (tagged a.tag) (λ h r q. search rules) in
-    let f = fitting (byte_at a.session.now) a.at (length a.session.now) (tagged a.tag) e c.in_ok-head.was in
+    let f = fitting a.session.now a.at (length a.session.now) (tagged a.tag) c.head_where.ensures (λ h r q. search rules) c.in_ok-head.was in
     record { order = omega arith; within = omega arith }
 
 pub returns : goal.returns
 returns c =
     let a = c.args in
-    let e = c.head_where.ensures (tagged a.tag) (λ h r q. search rules) in
-    let f = fitting (byte_at a.session.now) a.at (length a.session.now) (tagged a.tag) e c.in_ok-head.was in
+    let f = fitting a.session.now a.at (length a.session.now) (tagged a.tag) c.head_where.ensures (λ h r q. search rules) c.in_ok-head.was in
     rw f.reads c.check_name_fields.ensures

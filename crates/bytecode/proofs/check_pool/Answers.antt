@@ -18,21 +18,18 @@ use Rattle.bytecode.proofs.check_pool.Goals as goal
 pub returns-in_err-head : goal.returns-in_err-head
 returns-in_err-head c =
     let a = c.args in
-    let e = c.head_where.ensures is_pool (λ h r q. search rules) in
-    rw (passed_on c.from_residual.ensures.1) (sym (ap checked (unfitting (byte_at a.bytes.now) a.at a.end is_pool e c.in_err-head.was (pool_content_in (byte_at a.bytes.now) a.form))))
+    rw (passed_on c.from_residual.ensures.1) (sym (ap checked (unfitting a.bytes.now a.at a.end is_pool c.head_where.ensures (λ h r q. search rules) c.in_err-head.was (pool_content_in (byte_at a.bytes.now) a.form))))
 
 pub overflow_add-after-2 : goal.overflow_add-after-2
 overflow_add-after-2 c =
     let a = c.args in
-    let e = c.head_where.ensures is_pool (λ h r q. search rules) in
-    let f = fitting (byte_at a.bytes.now) a.at a.end is_pool e c.in_ok-head.was in
+    let f = fitting a.bytes.now a.at a.end is_pool c.head_where.ensures (λ h r q. search rules) c.in_ok-head.was in
     omega arith
 
 pub check_items-requires-clause-calls : goal.check_items-requires-clause-calls
 check_items-requires-clause-calls c =
     let a = c.args in
-    let e = c.head_where.ensures is_pool (λ h r q. search rules) in
-    let f = fitting (byte_at a.bytes.now) a.at a.end is_pool e c.in_ok-head.was in
+    let f = fitting a.bytes.now a.at a.end is_pool c.head_where.ensures (λ h r q. search rules) c.in_ok-head.was in
     let w : a.at + 3 + c.in_ok-head.head.len ≤ length a.bytes.now = omega arith in
     search (rules, part a.bytes.now)
 
@@ -45,8 +42,7 @@ check_items-requires-clause-ahead c =
 pub returns : goal.returns
 returns c =
     let a = c.args in
-    let e = c.head_where.ensures is_pool (λ h r q. search rules) in
-    let f = fitting (byte_at a.bytes.now) a.at a.end is_pool e c.in_ok-head.was in
+    let f = fitting a.bytes.now a.at a.end is_pool c.head_where.ensures (λ h r q. search rules) c.in_ok-head.was in
     let after = a.at + 3 + c.in_ok-head.head.len in
     rw f.reads
     (c.check_items.ensures (λ at. item (read_const_in a.form (byte_at a.bytes.now) at after)) (λ at r h p. search rules)

@@ -1,5 +1,5 @@
 -- `capi::monkey_frame` meets its contract: a frame's offset and length, as one number.
-use native.Mathlib.Omega.{arith}
+use Rattle.definition.proofs.Slices.{are_bytes}
 use borrow.Author.Rules.{rules}
 use mathlib.Core.Path.{◌∙◌, ap}
 use Rattle.capi.specs.Framed.{place_answer}
@@ -9,12 +9,12 @@ use Rattle.capi.proofs.Fits.{fits_as, packs_as}
 use Rattle.capi.proofs.monkey_frame.Goals as goal
 
 pub pair-answer-requires : goal.pair-answer-requires
-pair-answer-requires c = fits_as (place_mapped (λ x y p. search rules) _ _ c.map.ensures.cases ∙ ap place_answer c.find_frame-found.ensures) (place-fits c.args.image.now (record { below = λ i. omega (arith, c.shared_slice_known-1.given i) }) c.args.size c.args.number)
+pair-answer-requires c = fits_as (place_mapped (λ x y p. search rules) _ _ c.map.ensures.cases ∙ ap place_answer c.find_frame-found.ensures) (place-fits c.args.image.now (are_bytes c.shared_slice_known-1.given) c.args.size c.args.number)
 
 pub pack-requires : goal.pack-requires
-pack-requires c = fits_as (c.pair-answer.ensures ∙ place_mapped (λ x y p. search rules) _ _ c.map.ensures.cases ∙ ap place_answer c.find_frame-found.ensures) (place-fits c.args.image.now (record { below = λ i. omega (arith, c.shared_slice_known-1.given i) }) c.args.size c.args.number)
+pack-requires c = fits_as (c.pair-answer.ensures ∙ place_mapped (λ x y p. search rules) _ _ c.map.ensures.cases ∙ ap place_answer c.find_frame-found.ensures) (place-fits c.args.image.now (are_bytes c.shared_slice_known-1.given) c.args.size c.args.number)
 
 pub returns : goal.returns
 returns c =
     let p = packs_as (c.pair-answer.ensures ∙ place_mapped (λ x y p. search rules) _ _ c.map.ensures.cases ∙ ap place_answer c.find_frame-found.ensures) c.pack.ensures in
-    record { answer = p; parts = place-pairs c.args.image.now (record { below = λ i. omega (arith, c.shared_slice_known-1.given i) }) c.args.size c.args.number p }
+    record { answer = p; parts = place-pairs c.args.image.now (are_bytes c.shared_slice_known-1.given) c.args.size c.args.number p }

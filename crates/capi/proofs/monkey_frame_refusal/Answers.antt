@@ -1,7 +1,6 @@
 -- `capi::monkey_frame_refusal` meets its contract: a frame's refusal, as one number.
-use native.Mathlib.Omega.{arith}
+use Rattle.definition.proofs.Slices.{are_bytes}
 use mathlib.Core.Path.{ap, ◌∙◌}
-use Rattle.definition.specs.Valid.{AreBytes}
 use Rattle.capi.specs.Framed.{refusal_answer}
 use Rattle.capi.proofs.Fits.{fits_as, packs_as}
 use Rattle.capi.proofs.Framed.{refusal-fits}
@@ -10,7 +9,7 @@ use Rattle.capi.proofs.monkey_frame_refusal.Goals as goal
 pub pack-requires : goal.pack-requires
 pack-requires c =
     let start = c in
-    let bytes : AreBytes start.args.image.now = record { below = λ i. omega (arith, c.shared_slice_known-1.given i) } in
+    let bytes = are_bytes c.shared_slice_known-1.given in
     fits_as (c.refusal_answer-answer.ensures ∙ ap refusal_answer c.frame_refusal.ensures) (refusal-fits start.args.image.now bytes start.args.size start.args.number)
 
 pub returns : goal.returns

@@ -1,6 +1,5 @@
 -- `capi::monkey_propose_heights` meets its contract: the answer of `propose_heights`, as one number.
-use native.Mathlib.Omega.{arith}
-use Rattle.definition.specs.Valid.{AreBytes}
+use Rattle.definition.proofs.Slices.{are_bytes}
 use Rattle.capi.proofs.Fits.{fits_as, packs_as, proposal_fits}
 use Rattle.capi.proofs.monkey_propose_heights.Goals as goal
 
@@ -9,7 +8,7 @@ pack-requires c =
     let k = c in
     let entry = k in
     let image = entry.args.image.now in
-    let bytes : AreBytes image = record { below = λ i. omega (arith, entry.shared_slice_known-1.given i) } in
+    let bytes = are_bytes entry.shared_slice_known-1.given in
     fits_as k.propose_heights-answer.ensures.answers (proposal_fits image bytes _)
 
 pub returns : goal.returns

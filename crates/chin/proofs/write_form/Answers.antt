@@ -9,7 +9,7 @@ use Rattle.chin.proofs.write_form.Goals as goal
 pub returns-then-output-len : goal.returns-then-output-len
 returns-then-output-len c =
     let a = c.args in
-    λ m is. copied_short a.from a.image.now is a.output.now c.if-output-len.true
+    rw c.refused.ensures (λ m is. copied_short a.from a.image.now is a.output.now c.if-output-len.true)
 
 pub returns : goal.returns
 returns c =

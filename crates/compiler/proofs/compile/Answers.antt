@@ -16,4 +16,4 @@ returns-then-long_enough c =
 pub returns : goal.returns
 returns c =
     let e = c in
-    promise_short e.args.tree.now ((lent_of c.args.session.now c.args.output.now c.args.code.now c.args.table.now)) (sym c.long_enough.ensures ∙ c.if-long_enough.false)
+    rw c.refused.ensures (promise_short e.args.tree.now ((lent_of c.args.session.now c.args.output.now c.args.code.now c.args.table.now)) (sym c.long_enough.ensures ∙ c.if-long_enough.false))

@@ -1,54 +1,44 @@
 -- `heights::check_heights` meets its contract: the check, the chunks, then the output.
+use Rattle.definition.proofs.Slices.{are_bytes}
 use native.Mathlib.Omega.{arith}
 use mathlib.Core.Path.{◌∙◌, ap, subst}
 use lib.ListN.{length}
-use Rattle.definition.specs.Valid.{AreBytes}
 use Rattle.heights.specs.Chunks.{PoolJudges}
 use Rattle.heights.proofs.Answers.{empty-part, sound, fails, long, written}
 use Rattle.heights.proofs.check_heights.Goals as goal
 
 pub judge-requires : goal.judge-requires
-judge-requires c = (let a = c.args in
-    let b : AreBytes a.image.now = record { below = λ i. omega (arith, c.type_inv.image i) } in
-    sound a.image.now c.check_image.ensures c.in_ok-check_image.was b)
+judge-requires c = sound c.args.image.now c.check_image.ensures c.in_ok-check_image.was (are_bytes c.type_inv.image)
 
 pub returns-then-output-count : goal.returns-then-output-count
 returns-then-output-count c =
     let a = c.args in
-    let h = (let a = c.args in
-    let b : AreBytes a.image.now = record { below = λ i. omega (arith, c.type_inv.image i) } in
-    sound a.image.now c.check_image.ensures c.in_ok-check_image.was b) in
+    let h = sound c.args.image.now c.check_image.ensures c.in_ok-check_image.was (are_bytes c.type_inv.image) in
     let j = c.judge in
     let k = long a.image.now h.is a.heights.now a.output.now (j.ensures h.image h.is) c.in-Ok.is (omega (arith, c.if-output-count.true, ap length (empty-part j.new.output a.output.now j.auto.output))) in
     record {
-      answers = k.0;
+      answers = c.refused-then-output-count.ensures ∙ k.0;
       writes = empty-part j.new.output a.output.now j.auto.output ∙ k.1;
     }
 
 pub judge-requires-in-Ok : goal.judge-requires-in-Ok
-judge-requires-in-Ok c = (let a = c.args in
-    let b : AreBytes a.image.now = record { below = λ i. omega (arith, c.type_inv.image i) } in
-    sound a.image.now c.check_image.ensures c.in_ok-check_image.was b)
+judge-requires-in-Ok c = sound c.args.image.now c.check_image.ensures c.in_ok-check_image.was (are_bytes c.type_inv.image)
 
 pub returns-in-Err : goal.returns-in-Err
 returns-in-Err c =
     let a = c.args in
-    let h = (let a = c.args in
-    let b : AreBytes a.image.now = record { below = λ i. omega (arith, c.type_inv.image i) } in
-    sound a.image.now c.check_image.ensures c.in_ok-check_image.was b) in
+    let h = sound c.args.image.now c.check_image.ensures c.in_ok-check_image.was (are_bytes c.type_inv.image) in
     let j = c.judge in
     let k = fails a.image.now h.is a.heights.now a.output.now (j.ensures h.image h.is) c.in-Err.is in
     record {
-      answers = k.0;
+      answers = c.refused.ensures ∙ k.0;
       writes = empty-part j.new.output a.output.now j.auto.output ∙ k.1;
     }
 
 pub returns-else-output-count : goal.returns-else-output-count
 returns-else-output-count c =
     let a = c.args in
-    let h = (let a = c.args in
-    let b : AreBytes a.image.now = record { below = λ i. omega (arith, c.type_inv.image i) } in
-    sound a.image.now c.check_image.ensures c.in_ok-check_image.was b) in
+    let h = sound c.args.image.now c.check_image.ensures c.in_ok-check_image.was (are_bytes c.type_inv.image) in
     let j = c.judge in
     let g = c.judge-in-Ok in
     let e = empty-part j.new.output a.output.now j.auto.output in

@@ -1,8 +1,8 @@
 -- `heights::propose_heights` meets its contract: the check, how many there are, then the list.
+use Rattle.definition.proofs.Slices.{are_bytes}
 use native.Mathlib.Omega.{arith}
 use mathlib.Core.Path.{◌∙◌, ap, sym}
 use lib.ListN.{length, drop}
-use Rattle.definition.specs.Valid.{AreBytes}
 use Rattle.definition.specs.Decode.{read_image}
 use Rattle.heights.specs.Proposal.{proposal_size}
 use Rattle.heights.proofs.Answers.{empty-part, sound}
@@ -10,35 +10,27 @@ use Rattle.heights.proofs.Flows.{proposal_long, proposal_fits}
 use Rattle.heights.proofs.propose_heights.Goals as goal
 
 pub propose-count-requires : goal.propose-count-requires
-propose-count-requires c = (let a = c.args in
-    let b : AreBytes a.image.now = record { below = λ i. omega (arith, c.type_inv.image i) } in
-    sound a.image.now c.check_image.ensures c.in_ok-check_image.was b)
+propose-count-requires c = sound c.args.image.now c.check_image.ensures c.in_ok-check_image.was (are_bytes c.type_inv.image)
 
 pub returns-then-heights-count : goal.returns-then-heights-count
 returns-then-heights-count c =
     let a = c.args in
-    let h = (let a = c.args in
-    let b : AreBytes a.image.now = record { below = λ i. omega (arith, c.type_inv.image i) } in
-    sound a.image.now c.check_image.ensures c.in_ok-check_image.was b) in
+    let h = sound c.args.image.now c.check_image.ensures c.in_ok-check_image.was (are_bytes c.type_inv.image) in
     let j = c.propose-count in
     let e = (empty-part c.propose-count.new.heights c.args.heights.now c.propose-count.auto.heights) in
     let k = proposal_long a.image.now h.is (j.ensures h.image h.is).many (length a.heights.now) (omega (arith, c.if-heights-count.true, ap length e)) in
     record {
-      answers = k.0;
+      answers = c.refused.ensures ∙ k.0;
       stays = ap (drop (proposal_size (read_image a.image.now) (length a.heights.now))) e;
     }
 
 pub propose-requires : goal.propose-requires
-propose-requires c = (let a = c.args in
-    let b : AreBytes a.image.now = record { below = λ i. omega (arith, c.type_inv.image i) } in
-    sound a.image.now c.check_image.ensures c.in_ok-check_image.was b)
+propose-requires c = sound c.args.image.now c.check_image.ensures c.in_ok-check_image.was (are_bytes c.type_inv.image)
 
 pub returns : goal.returns
 returns c =
     let a = c.args in
-    let h = (let a = c.args in
-    let b : AreBytes a.image.now = record { below = λ i. omega (arith, c.type_inv.image i) } in
-    sound a.image.now c.check_image.ensures c.in_ok-check_image.was b) in
+    let h = sound c.args.image.now c.check_image.ensures c.in_ok-check_image.was (are_bytes c.type_inv.image) in
     let j = c.propose-count in
     let g = c.propose in
     let e = (empty-part c.propose-count.new.heights c.args.heights.now c.propose-count.auto.heights) in

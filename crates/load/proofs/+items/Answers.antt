@@ -2,7 +2,7 @@
 use Rattle.std.proofs.Common.{[], get_or, ◌+◌, ◌-◌, ◌*◌, ◌≤◌, ◌∷◌, length, subst, refl, arith, sym, ap, ◌∙◌}
 use Rattle.std.proofs.lemmas.List.{get_or_default}
 use Rattle.definition.specs.Tag.{tag_name, tag_params, tag_call, tag_array, tag_hash, tag_block}
-use Rattle.load.specs.Node.{leaf, node, operator}
+use Rattle.definition.specs.Node.{leaf, node, operator}
 use Rattle.load.specs.Draw.{drawn, bind, field_of, times}
 use Rattle.load.specs.Load.{expression, infixes, name_field, function_names, parameters, pairs, row_need, an_expression, a_statement}
 use Rattle.load.proofs.Laws.{draw-wrote, wrote_as}
@@ -73,7 +73,7 @@ pub put_items-returns : goal.put_items-returns
 put_items-returns t c = items-wrote _ _ _ _ _ _ _ (omega (arith, c.in-len1-up.len_at_least)) (behind_first c.args.items.now) (ap (λ n. length c.args.out.now - n) c.needs.ensures) c.put_item-n.ensures refl c.put_items.ensures refl
 
 pub put_node-returns : goal.put_node-returns
-put_node-returns t c = field-wrote _ _ _ _ (omega (arith, c.requires.in_bounds)) c.put_items-n.ensures refl c.put_head.ensures
+put_node-returns t c = field-wrote _ _ _ _ (omega (arith, c.requires)) c.put_items-n.ensures refl c.put_head.ensures
 
 pub put_yielding-returns : goal.put_yielding-returns
 put_yielding-returns t c = yielding-high _ _ _ (omega (arith, c.if-below-eq0.false)) c.put_node-2.ensures

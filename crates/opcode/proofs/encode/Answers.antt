@@ -7,33 +7,13 @@ use Rattle.opcode.proofs.encode.Goals as goal
 
 pub returns-then-out-w : goal.returns-then-out-w
 returns-then-out-w c =
-    let start = c in
-    let is-valid = c.is_valid in
-    let if1 = c.if-not-is_valid in
-    let width = c.width in
-    let wide = c.wide-w in
-    let facts = encodes_short (instr_of start.args.i) wide.result start.args.out.now (sym is-valid.ensures ∙ if1.false) (wide.ensures.is ∙ width.ensures) (omega arith) in
-    record { answers = facts.0; writes = facts.1 }
+    let facts = encodes_short (instr_of c.args.i) c.wide-w.result c.args.out.now (sym c.is_valid.ensures ∙ c.if-not-is_valid.false) (c.wide-w.ensures.is ∙ c.width.ensures) (omega arith) in
+    record { answers = c.refused-then-out-w.ensures ∙ facts.0; writes = facts.1 }
 
 pub put-requires : goal.put-requires
-put-requires c =
-    let start = c in
-    let is-valid = c.is_valid in
-    let if1 = c.if-not-is_valid in
-    let width = c.width in
-    let wide = c.wide-w in
-    ready (instr_of start.args.i) wide.result start.args.out.now (sym is-valid.ensures ∙ if1.false) (wide.ensures.is ∙ width.ensures) (omega arith)
+put-requires c = ready (instr_of c.args.i) c.wide-w.result c.args.out.now (sym c.is_valid.ensures ∙ c.if-not-is_valid.false) (c.wide-w.ensures.is ∙ c.width.ensures) (omega arith)
 
 pub returns : goal.returns
 returns c =
-    let start = c in
-    let is-valid = c.is_valid in
-    let if1 = c.if-not-is_valid in
-    let width = c.width in
-    let wide = c.wide-w in
-    let put = c.put in
-    let e = encodes (instr_of start.args.i) wide.result start.args.out.now (sym is-valid.ensures ∙ if1.false) (wide.ensures.is ∙ width.ensures) (omega arith) in
-    record {
-      answers = e.0;
-      writes = put.ensures ∙ e.1;
-    }
+    let facts = encodes (instr_of c.args.i) c.wide-w.result c.args.out.now (sym c.is_valid.ensures ∙ c.if-not-is_valid.false) (c.wide-w.ensures.is ∙ c.width.ensures) (omega arith) in
+    record { answers = facts.0; writes = c.put.ensures ∙ facts.1 }

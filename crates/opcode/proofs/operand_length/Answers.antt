@@ -1,7 +1,8 @@
--- `opcode::operand_length` meets its contract: the table's entry is the definition's width, or says that there is no instruction.
+-- `opcode::operand_length` meets its contract: no operands past the last instruction, and up to it the table's entry.
+use native.Mathlib.Omega.{arith}
 use mathlib.Core.Path.{sym}
 use Rattle.opcode.proofs.Widths.{no_operands}
 use Rattle.opcode.proofs.operand_length.Goals as goal
 
-pub returns-then-w : goal.returns-then-w
-returns-then-w c = sym (no_operands c.args.op c.width-w.ensures c.if-w.true)
+pub returns-then-wide-ge-INSTRUCTIONS : goal.returns-then-wide-ge-INSTRUCTIONS
+returns-then-wide-ge-INSTRUCTIONS c = sym (no_operands c.args.op (omega (arith, c.wide.ensures.is, c.if-wide-ge-INSTRUCTIONS.true)))

@@ -3,7 +3,7 @@ use Rattle.session.proofs.Fresh.{made_short, made-fresh}
 use Rattle.session.proofs.write_fresh.Goals as goal
 
 pub returns-then-session-lt-SESSION_SIZE : goal.returns-then-session-lt-SESSION_SIZE
-returns-then-session-lt-SESSION_SIZE c = made_short c.args.session.now c.if-session-lt-SESSION_SIZE.true
+returns-then-session-lt-SESSION_SIZE c = rw c.refused.ensures (made_short c.args.session.now c.if-session-lt-SESSION_SIZE.true)
 
 pub returns : goal.returns
 returns c =

@@ -2,5 +2,5 @@
 use Rattle.step.proofs.Symbols.{define-on}
 use Rattle.step.proofs.define.Goals as goal
 
-pub returns-in-Ok : goal.returns-in-Ok
-returns-in-Ok c = search define-on
+pub returns : goal.returns
+returns c = search define-on

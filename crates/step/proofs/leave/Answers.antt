@@ -1,19 +1,22 @@
 -- `step::leave` meets its contract: the end of the function's chunk, and its closing.
-use Rattle.step.proofs.Closed.{leave_closable, leave-on, leave_stop, leave_none}
-use Rattle.step.proofs.Framed.{and_alone}
+use mathlib.Core.Path.{refl, ◌∙◌}
+use Rattle.definition.proofs.Basic.{passed_on}
+use Rattle.step.proofs.Closed.{leave_closable, leave-on, leave_stop}
+use Rattle.step.proofs.Framed.{leaves_alone, state_walked}
+use Rattle.step.proofs.Memory.{always_ready}
 use Rattle.step.proofs.leave.Goals as goal
 
 pub close-requires : goal.close-requires
-close-requires c = leave_closable _ c.returned-v.ensures c.requires.sound c.requires.deeper c.requires.fine_for c.in-Ok.is c.in-Ok-v.is
+close-requires c = leave_closable _ c.in_ok-returned.ensures.done c.requires.fits c.requires.deeper c.requires.fine_for
 
-pub returns-in-Ok-v : goal.returns-in-Ok-v
-returns-in-Ok-v c = let facts = and_alone c.requires.fine_for (leave-on _ c.returned-v.ensures _ c.in-Ok.is c.in-Ok-v.is c.close.ensures) in
-    record { closed = facts.0; alone = facts.1 }
+pub returns : goal.returns
+returns c =
+    let t = c.close.new.scope in
+    let left = leave-on _ _ c.in_ok-returned.ensures.done c.close.ensures.closed (always_ready c.close.result t) in
+    record { closed = record { leaves = left; same = c.close.ensures.same ∙ c.in_ok-returned.ensures.same }; alone = leaves_alone (state_walked c.close.result t.state) c.requires.fine_for left }
 
-pub returns-in-Err-v : goal.returns-in-Err-v
-returns-in-Err-v c = let facts = and_alone c.requires.fine_for (leave_stop _ c.returned-v.ensures _ c.in-Ok.is c.in-Err-v.is) in
-    record { closed = facts.0; alone = facts.1 }
-
-pub returns-in-Err : goal.returns-in-Err
-returns-in-Err c = let facts = and_alone c.requires.fine_for (leave_none _ c.returned-v.ensures _ c.in-Err.is c.requires.deeper) in
-    record { closed = facts.0; alone = facts.1 }
+pub returns-in_err-returned : goal.returns-in_err-returned
+returns-in_err-returned c =
+    let d = c.in_err-returned.ensures in
+    let left = leave_stop _ c.args.params d.done in
+    rw (passed_on c.from_residual.ensures.1) (record { closed = record { leaves = left; same = d.same }; alone = leaves_alone refl c.requires.fine_for left })

@@ -1,9 +1,10 @@
 -- `step::load` meets its contract: a lookup among the session's names and the tables, and the load of what it finds.
+use mathlib.Core.Path.{refl}
 use Rattle.step.proofs.Symbols.{load_found, load-refused}
 use Rattle.step.proofs.load.Goals as goal
 
 pub returns-in-Ok : goal.returns-in-Ok
-returns-in-Ok c = load_found _ c.in_ok-s.was c.resolve_name.auto.table c.requires.fine c.resolve_name.ensures c.in-Ok.is c.load_of-l.ensures.is c.emit_operand.ensures
+returns-in-Ok c = record { steps = load_found _ c.resolve_name.auto.table c.requires.fine c.resolve_name.ensures c.in-Ok.is c.load_of-l.ensures.is c.emit_operand.ensures.done; same = c.emit_operand.ensures.same }
 
 pub returns-in-Err : goal.returns-in-Err
-returns-in-Err c = load-refused _ c.in_ok-s.was c.from.ensures c.requires.ready c.resolve_name.ensures c.in-Err.is c.refuse.ensures
+returns-in-Err c = rw c.refused.ensures (record { steps = load-refused _ c.from.ensures (c.args.scope.now).area c.resolve_name.ensures c.in-Err.is; same = refl })

@@ -1,15 +1,17 @@
 -- `symbol_table::enter` meets its contract.
-use mathlib.Core.Path.{◌∙◌}
-use native.Mathlib.Omega.{arith}
-use Rattle.symbol_table.specs.Layout.{base}
-use Rattle.symbol_table.proofs.Levels.{width, at_put, part_length}
+use mathlib.Core.Path.{◌∙◌, ap}
+use Rattle.std.specs.Prelude.{length}
+use Rattle.symbol_table.proofs.Levels.{range_part, at_range, part_length}
 use Rattle.symbol_table.proofs.Defining.{entered}
 use Rattle.symbol_table.proofs.enter.Goals as goal
 
+pub open_in-requires-clause-part_len : goal.open_in-requires-clause-part_len
+open_in-requires-clause-part_len c =
+    let a = c.args in
+    let r = c.part_range.ensures in
+    ap length (range_part a.level a.table.now r.start r.end) ∙ part_length a.level a.table.now c.requires.part_size_in_bounds
+
 pub returns : goal.returns
 returns c =
-    let s = c in
-    let l = s.args.level in
-    let w = width (base l) in
-    entered _ _ _ _ _ _ _
-    (at_put _ _ _ _ _ w (omega arith) (c.open_in.auto.part ∙ rw w (part_length l s.args.table.now s.requires.part_size_in_bounds)) (rw (c.new.ensures.tree, c.new.ensures.at) at c.open_in.ensures))
+    let r = c.part_range.ensures in
+    entered _ _ _ _ _ _ _ (at_range c.args.level c.args.table.now r.start r.end _ _ c.requires.part_size_in_bounds c.open_in.auto.part (rw (c.new.ensures.tree, c.new.ensures.at) at c.open_in.ensures))

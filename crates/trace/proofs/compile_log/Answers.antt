@@ -15,4 +15,4 @@ pub returns : goal.returns
 returns c =
     let on-long-enough = c.long_enough in
     let on-if1 = c.if-long_enough in
-    short_traces (sym on-long-enough.ensures ∙ on-if1.false)
+    rw c.refused.ensures (short_traces (sym on-long-enough.ensures ∙ on-if1.false))

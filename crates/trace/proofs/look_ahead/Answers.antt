@@ -1,4 +1,5 @@
 -- `look_ahead` meets its contract: the pass where session and tree read.
+use Rattle.definition.proofs.Slices.{are_bytes}
 use mathlib.Core.Path.{sym, ap, ◌∙◌}
 use native.Mathlib.Omega.{arith}
 use Rattle.bytecode.specs.Checked.{layout_answer}
@@ -9,14 +10,14 @@ use Rattle.trace.proofs.look_ahead.Goals as goal
 
 pub overflow_add-from : goal.overflow_add-from
 overflow_add-from c =
-    omega (arith, (opened_items (opened c.args.session.now (record { below = λ i. omega (arith, c.shared_slice_known-1.given i) }) c.requires.session (sym c.read_layout.ensures.layout ∙ c.in-Some.is))).order, (opened_items (opened c.args.session.now (record { below = λ i. omega (arith, c.shared_slice_known-1.given i) }) c.requires.session (sym c.read_layout.ensures.layout ∙ c.in-Some.is))).within, c.requires.session)
+    omega (arith, (opened_items (opened c.args.session.now (are_bytes c.shared_slice_known-1.given) c.requires.session (sym c.read_layout.ensures.layout ∙ c.in-Some.is))).order, (opened_items (opened c.args.session.now (are_bytes c.shared_slice_known-1.given) c.requires.session (sym c.read_layout.ensures.layout ∙ c.in-Some.is))).within, c.requires.session)
 
 pub name_tree-count-requires : goal.name_tree-count-requires
 name_tree-count-requires c =
     record {
       session_len_bound = omega (arith, c.requires.session);
-      has_items = opened_items (opened c.args.session.now (record { below = λ i. omega (arith, c.shared_slice_known-1.given i) }) c.requires.session (sym c.read_layout.ensures.layout ∙ c.in-Some.is));
-      has_words = opened_words (opened c.args.session.now (record { below = λ i. omega (arith, c.shared_slice_known-1.given i) }) c.requires.session (sym c.read_layout.ensures.layout ∙ c.in-Some.is));
+      has_items = opened_items (opened c.args.session.now (are_bytes c.shared_slice_known-1.given) c.requires.session (sym c.read_layout.ensures.layout ∙ c.in-Some.is));
+      has_words = opened_words (opened c.args.session.now (are_bytes c.shared_slice_known-1.given) c.requires.session (sym c.read_layout.ensures.layout ∙ c.in-Some.is));
       tree_value = (sym c.check.ensures ∙ c.in-Ok.is);
       table_size_in_bounds = omega (arith, c.requires.table);
       code_size_in_bounds = omega (arith, c.requires.code);
@@ -24,11 +25,11 @@ name_tree-count-requires c =
 
 pub overflow_sub-result : goal.overflow_sub-result
 overflow_sub-result c =
-    opened_order (opened c.args.session.now (record { below = λ i. omega (arith, c.shared_slice_known-1.given i) }) c.requires.session (sym c.read_layout.ensures.layout ∙ c.in-Some.is))
+    opened_order (opened c.args.session.now (are_bytes c.shared_slice_known-1.given) c.requires.session (sym c.read_layout.ensures.layout ∙ c.in-Some.is))
 
 pub returns : goal.returns
 returns c =
-    opened_ahead (opened c.args.session.now (record { below = λ i. omega (arith, c.shared_slice_known-1.given i) }) c.requires.session (sym c.read_layout.ensures.layout ∙ c.in-Some.is)) c.name_tree-count.ensures
+    opened_ahead (opened c.args.session.now (are_bytes c.shared_slice_known-1.given) c.requires.session (sym c.read_layout.ensures.layout ∙ c.in-Some.is)) c.name_tree-count.ensures
 
 pub returns-in_default-check : goal.returns-in_default-check
 returns-in_default-check c =

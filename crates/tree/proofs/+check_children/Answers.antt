@@ -5,7 +5,7 @@ use Rattle.tree.proofs.+check_children.Goals as goal
 use Rattle.tree.proofs.+check_children.Goals.{else-at-end-via-then-at-end+else-t-eq-CALL, else-at-end-via-else-at-end, then-not-is_leaf+else-found-ne0, else-not-is_leaf}
 
 pub returns-then-t-eq-CALL : goal.returns-then-t-eq-CALL
-returns-then-t-eq-CALL t c = c.bad.ensures ∙ left_none _ _ _ _ (sym c.from-t.ensures ∙ c.if-t-eq-CALL.true) c.if-at-end.true
+returns-then-t-eq-CALL t c = c.bad.ensures ∙ left_none _ _ _ _ c.if-t-eq-CALL.true c.if-at-end.true
 
 pub returns-then-not-good_field : goal.returns-then-not-good_field
 returns-then-not-good_field t c = c.bad-then-not-good_field.ensures ∙ left_bad _ c.loop-at.invariant c.loop-at-test.true (sym c.good_field.ensures ∙ c.if-not-good_field.true)
@@ -15,7 +15,7 @@ returns-then-levels-eq0 t c = c.deep.ensures ∙ left_deep _ c.loop-at.invariant
 
 pub returns-then-found-ne0 : goal.returns-then-found-ne0
 returns-then-found-ne0 t c =
-    left_found _ c.loop-at.invariant c.loop-at-test.true (sym c.good_field.ensures ∙ c.if-not-good_field.false) c.if-levels-eq0.false (rw c.from.ensures at (sym c.is_leaf.ensures ∙ c.if-not-is_leaf.true)) (rw c.after_at-next.ensures.is at c.check_children-found.ensures) c.if-found-ne0.true
+    left_found _ c.loop-at.invariant c.loop-at-test.true (sym c.good_field.ensures ∙ c.if-not-good_field.false) c.if-levels-eq0.false (sym c.is_leaf.ensures ∙ c.if-not-is_leaf.true) (rw c.after_at-next.ensures.is at c.check_children-found.ensures) c.if-found-ne0.true
 
 pub loop-at-preserved : goal.loop-at-preserved
 loop-at-preserved t c =
@@ -23,8 +23,8 @@ loop-at-preserved t c =
     let good = sym c.good_field.ensures ∙ c.if-not-good_field.false in
     rw c.after_at-next.ensures.is
     (elim c.if-not-is_leaf.branch [
-      | then-not-is_leaf+else-found-ne0 w ↦ left_children _ l c.loop-at-test.true good c.if-levels-eq0.false (rw c.from.ensures at (sym c.is_leaf.ensures ∙ w.if-not-is_leaf.true)) (rw (w.if-found-ne0.false, c.after_at-next.ensures.is) at w.check_children-found.ensures)
-      | else-not-is_leaf w ↦ left_leaf _ l c.loop-at-test.true good c.if-levels-eq0.false (rw c.from.ensures at (sym c.is_leaf.ensures ∙ w.if-not-is_leaf.false))
+      | then-not-is_leaf+else-found-ne0 w ↦ left_children _ l c.loop-at-test.true good c.if-levels-eq0.false (sym c.is_leaf.ensures ∙ w.if-not-is_leaf.true) (rw (w.if-found-ne0.false, c.after_at-next.ensures.is) at w.check_children-found.ensures)
+      | else-not-is_leaf w ↦ left_leaf _ l c.loop-at-test.true good c.if-levels-eq0.false (sym c.is_leaf.ensures ∙ w.if-not-is_leaf.false)
     ])
 
 pub returns-then-kinds-k : goal.returns-then-kinds-k

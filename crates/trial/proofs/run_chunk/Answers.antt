@@ -1,6 +1,6 @@
 -- `trial::run_chunk` meets its contract: 27, 15, then the run.
-use Rattle.std.proofs.Common.{◌+◌, length, sym, refl, ap, subst, arith}
-use Rattle.listing.proofs.Images.{parts}
+use Rattle.std.proofs.Common.{length, sym, refl, subst, arith}
+use Rattle.listing.proofs.Images.{has_head}
 use Rattle.trial.specs.Output.{named_globals}
 use Rattle.trial.specs.Call.{refused_with}
 use Rattle.trial.specs.Run.{unset_globals}
@@ -10,11 +10,8 @@ use Rattle.definition.proofs.Basic.{passed_on}
 use Rattle.trial.proofs.Calling.{arrived, main_safe, names_few, names_found, refusal_found, room_short, ended-stopped, ended-ran, answered, written}
 use Rattle.trial.proofs.run_chunk.Goals as goal
 
-pub length_at-end-requires : goal.length_at-end-requires
-length_at-end-requires c = let k = parts c.args.image.now c.requires.0.reads refl in omega (arith, k.code.within)
-
-pub scan-requires : goal.scan-requires
-scan-requires c = let h = c.requires.0 in record { image = h.image; reads = h.reads; ends = ap (λ n. 3 + n) c.length_at-end.ensures.is; pools = refl; short = h.short }
+pub of-parts-requires : goal.of-parts-requires
+of-parts-requires c = has_head c.args.image.now c.requires.0.reads
 
 pub returns-then-output-globals : goal.returns-then-output-globals
 returns-then-output-globals c = let h = c.requires.0 in let a = arrived c.args.heights.now h.image h.passes in let f = names_found (refused_with c.args.heights.now h.image) (c.scan.ensures h.image h.reads a.state a.passed) c.in_ok-globals.was in let o = room_short h.image (length c.args.output.now) f.0 f.1 c.if-output-globals.true in record {
@@ -23,7 +20,7 @@ returns-then-output-globals c = let h = c.requires.0 in let a = arrived c.args.h
 }
 
 pub run_main-requires : goal.run_main-requires
-run_main-requires c = let h = c.requires.0 in let a = arrived c.args.heights.now h.image h.passes in let f = names_found (refused_with c.args.heights.now h.image) (c.scan.ensures h.image h.reads a.state a.passed) c.in_ok-globals.was in record { image = h.image; reads = h.reads; ends = ap (λ n. 3 + n) c.length_at-end.ensures.is; pools = refl; short = omega (arith, h.short); cleared = subst (λ w. Keeping w unset_globals) (sym c.requires.1) cleared_keeps; safe = main_safe c.args.heights.now h.image h.passes f.0 }
+run_main-requires c = let h = c.requires.0 in let a = arrived c.args.heights.now h.image h.passes in let f = names_found (refused_with c.args.heights.now h.image) (c.scan.ensures h.image h.reads a.state a.passed) c.in_ok-globals.was in record { image = h.image; reads = h.reads; ends = c.of-parts.ensures.behind; pools = omega (arith, c.of-parts.ensures.behind, c.of-parts.ensures.next); short = omega (arith, h.short); cleared = subst (λ w. Keeping w unset_globals) (sym c.requires.1) cleared_keeps; safe = main_safe c.args.heights.now h.image h.passes f.0 }
 
 pub put_globals-requires : goal.put_globals-requires
 put_globals-requires c = let h = c.requires.0 in let a = arrived c.args.heights.now h.image h.passes in let f = names_found (refused_with c.args.heights.now h.image) (c.scan.ensures h.image h.reads a.state a.passed) c.in_ok-globals.was in let r = ended-ran h.image (length c.args.output.now) f.0 f.1 c.if-output-globals.false (c.run_main.ensures h.image h.reads) c.in_ok-steps.was in (c.if-output-globals.false, omega (arith, f.1, names_few c.args.heights.now h.image h.passes f.0), record { globals = r.globals; keeping = r.keeping })

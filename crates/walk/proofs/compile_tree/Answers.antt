@@ -2,8 +2,5 @@
 use Rattle.walk.proofs.Tree.{tree_short}
 use Rattle.walk.proofs.compile_tree.Goals as goal
 
-pub walk_tree-requires : goal.walk_tree-requires
-walk_tree-requires c = record {
-  some = c.requires.some;
-  stands = record { ready = c.requires.ready; fine = c.requires.fine; short = tree_short c.requires.some };
-}
+pub walk_tree-requires-clause-standing : goal.walk_tree-requires-clause-standing
+walk_tree-requires-clause-standing c = record { fine = c.requires.fine; short = tree_short c.requires.some }

@@ -16,14 +16,11 @@ append_names-end-requires c =
 
 pub write_back-requires : goal.write_back-requires
 write_back-requires c =
-    let n = c in
-    let e = c in
-    let k = e.args.total - (6 + e.args.s.chunk.len) in
-    let x = drop (6 + e.args.s.chunk.len) c.write_image.new.output in
-    session_room e.requires.translated n.append_names-end.ensures n.append_names-end.auto.session (length (take k x)) (omega (arith, length-take k x, e.requires.total_value))
+    let used = 6 + c.args.scope.now.state.chunk.len in
+    let k = c.args.total - used in
+    let x = drop used c.write_image.new.output in
+    session_room c.requires.translated c.append_names-end.ensures c.append_names-end.auto.session (length (take k x)) (omega (arith, length-take k x, c.requires.total_value))
 
 pub returns : goal.returns
 returns c p =
-    let n = c in
-    let e = c in
-    accepted p e.args.output.now e.requires.total_value e.requires.total_in_bounds n.write_image.ensures n.append_names-end.ensures (c.write_back.ensures p.session.words (words-end p))
+    accepted p c.args.output.now c.requires.total_value c.requires.total_in_bounds c.write_image.ensures c.append_names-end.ensures (c.write_back.ensures p.session.words (words-end p))

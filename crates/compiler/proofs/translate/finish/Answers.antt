@@ -3,4 +3,4 @@ use Rattle.compiler.proofs.Accepted.{short}
 use Rattle.compiler.proofs.translate.finish.Goals as goal
 
 pub returns-then-output-total : goal.returns-then-output-total
-returns-then-output-total c p = short p c.if-output-total.true c.restore.ensures
+returns-then-output-total c p = rw c.refused.ensures (short p c.if-output-total.true c.restore.ensures)

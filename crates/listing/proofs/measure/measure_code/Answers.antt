@@ -1,7 +1,6 @@
 -- `listing::measure::measure_code` meets its contract: one instruction a turn; what is left decides.
 use mathlib.Core.Path.{◌∙◌, sym}
 use native.Mathlib.Omega.{arith}
-use Rattle.listing.proofs.TextLengths.{lengths}
 use Rattle.listing.proofs.Measures.{code-begins, code_ends, code_wrong, code-instr, code_again}
 use Rattle.listing.proofs.measure.measure_code.Goals as goal
 
@@ -16,7 +15,7 @@ returns-in-None-clause-is c =
 pub line_length-text-requires : goal.line_length-text-requires
 line_length-text-requires c =
     let a = c.args in
-    (lengths, code-instr a.image.now a.start a.end c.loop-at.invariant c.loop-at-test.true (sym c.in-Some.is ∙ c.size_at.ensures) c.requires.within)
+    code-instr a.image.now a.start a.end c.loop-at.invariant c.loop-at-test.true (sym c.in-Some.is ∙ c.size_at.ensures) c.requires.within
 
 pub loop-at-preserved : goal.loop-at-preserved
 loop-at-preserved c =

@@ -15,26 +15,22 @@ use Rattle.listing.proofs.measure.measure_constant.Goals as goal
 pub returns-in_err-head-clause-is : goal.returns-in_err-head-clause-is
 returns-in_err-head-clause-is c =
     let a = c.args in
-    let e = c.head_where.ensures (is_constant Plain) (λ h r q. search rules) in
-    rw (passed_on c.from_residual.ensures.1) (sym (ap constant_measured (unfitting (byte_at a.image.now) a.at a.end (is_constant Plain) e c.in_err-head.was (read_content (byte_at a.image.now)))))
+    rw (passed_on c.from_residual.ensures.1) (sym (ap constant_measured (unfitting a.image.now a.at a.end (is_constant Plain) c.head_where.ensures (λ h r q. search rules) c.in_err-head.was (read_content (byte_at a.image.now)))))
 
 pub measure_content-requires : goal.measure_content-requires
 measure_content-requires c =
     let a = c.args in
-    let e = c.head_where.ensures (is_constant Plain) (λ h r q. search rules) in
-    let f = fitting (byte_at a.image.now) a.at a.end (is_constant Plain) e c.in_ok-head.was in
+    let f = fitting a.image.now a.at a.end (is_constant Plain) c.head_where.ensures (λ h r q. search rules) c.in_ok-head.was in
     (record { order = omega arith; within = omega (arith, f.within, c.requires.within); few = omega (arith, f.within, c.requires.few) }, f.is_good)
 
 pub returns-clause-is : goal.returns-clause-is
 returns-clause-is c =
     let a = c.args in
-    let e = c.head_where.ensures (is_constant Plain) (λ h r q. search rules) in
-    let f = fitting (byte_at a.image.now) a.at a.end (is_constant Plain) e c.in_ok-head.was in
+    let f = fitting a.image.now a.at a.end (is_constant Plain) c.head_where.ensures (λ h r q. search rules) c.in_ok-head.was in
     rw f.reads c.measure_content.ensures.is
 
 pub returns-clause-small : goal.returns-clause-small
 returns-clause-small c =
     let a = c.args in
-    let e = c.head_where.ensures (is_constant Plain) (λ h r q. search rules) in
-    let f = fitting (byte_at a.image.now) a.at a.end (is_constant Plain) e c.in_ok-head.was in
+    let f = fitting a.image.now a.at a.end (is_constant Plain) c.head_where.ensures (λ h r q. search rules) c.in_ok-head.was in
     omega (arith, c.measure_content.ensures.small, ap (λ (h : Head). h.len) f.is)

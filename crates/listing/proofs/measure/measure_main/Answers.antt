@@ -17,31 +17,30 @@ use Rattle.listing.proofs.measure.measure_main.Goals as goal
 pub returns-in_err-head-clause-is : goal.returns-in_err-head-clause-is
 returns-in_err-head-clause-is c =
     let b = c.args.image.now in
-    let e = c.head_where.ensures (is_main Plain) (λ h r q. search rules) in
-    rw (passed_on c.from_residual.ensures.1) (sym (ap code_measured (unfitting (byte_at b) 0 (length b) (is_main Plain) e c.in_err-head.was (main_content (byte_at b)))))
+    rw (passed_on c.from_residual.ensures.1) (sym (ap code_measured (unfitting b 0 (length b) (is_main Plain) c.head_where.ensures (λ h r q. search rules) c.in_err-head.was (main_content (byte_at b)))))
 
 pub overflow_add-head : goal.overflow_add-head
 overflow_add-head c =
     let b = c.args.image.now in
-    let f = fitting (byte_at b) 0 (length b) (is_main Plain) (c.head_where.ensures (is_main Plain) (λ h r q. search rules)) c.in_ok-head.was in
+    let f = fitting b 0 (length b) (is_main Plain) c.head_where.ensures (λ h r q. search rules) c.in_ok-head.was in
     omega arith
 
 pub measure_code-requires : goal.measure_code-requires
 measure_code-requires c =
     let b = c.args.image.now in
-    let f = fitting (byte_at b) 0 (length b) (is_main Plain) (c.head_where.ensures (is_main Plain) (λ h r q. search rules)) c.in_ok-head.was in
+    let f = fitting b 0 (length b) (is_main Plain) c.head_where.ensures (λ h r q. search rules) c.in_ok-head.was in
     let s = main_short c.in_ok-head.head f.is_good in
     record { order = omega arith; within = omega (arith, f.within); few = omega arith }
 
 pub returns-clause-is : goal.returns-clause-is
 returns-clause-is c =
     let b = c.args.image.now in
-    let f = fitting (byte_at b) 0 (length b) (is_main Plain) (c.head_where.ensures (is_main Plain) (λ h r q. search rules)) c.in_ok-head.was in
+    let f = fitting b 0 (length b) (is_main Plain) c.head_where.ensures (λ h r q. search rules) c.in_ok-head.was in
     rw f.reads (c.measure_code.ensures.is c.in_ok-head.head.len (le_refl _))
 
 pub returns-clause-small : goal.returns-clause-small
 returns-clause-small c =
     let b = c.args.image.now in
-    let f = fitting (byte_at b) 0 (length b) (is_main Plain) (c.head_where.ensures (is_main Plain) (λ h r q. search rules)) c.in_ok-head.was in
+    let f = fitting b 0 (length b) (is_main Plain) c.head_where.ensures (λ h r q. search rules) c.in_ok-head.was in
     let s = main_short c.in_ok-head.head f.is_good in
     omega (arith, c.measure_code.ensures.small)

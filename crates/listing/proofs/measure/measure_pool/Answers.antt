@@ -15,31 +15,30 @@ use Rattle.listing.proofs.measure.measure_pool.Goals as goal
 pub returns-in_err-head-clause-is : goal.returns-in_err-head-clause-is
 returns-in_err-head-clause-is c =
     let b = c.args.image.now in
-    let e = c.head_where.ensures is_pool (λ h r q. search rules) in
-    rw (passed_on c.from_residual.ensures.1) (sym (ap pool_measured (unfitting (byte_at b) c.args.at (length b) is_pool e c.in_err-head.was (pool_content (byte_at b)))))
+    rw (passed_on c.from_residual.ensures.1) (sym (ap pool_measured (unfitting b c.args.at (length b) is_pool c.head_where.ensures (λ h r q. search rules) c.in_err-head.was (pool_content (byte_at b)))))
 
 pub overflow_add-at-3 : goal.overflow_add-at-3
 overflow_add-at-3 c =
     let b = c.args.image.now in
-    let f = fitting (byte_at b) c.args.at (length b) is_pool (c.head_where.ensures is_pool (λ h r q. search rules)) c.in_ok-head.was in
+    let f = fitting b c.args.at (length b) is_pool c.head_where.ensures (λ h r q. search rules) c.in_ok-head.was in
     omega arith
 
 pub measure_constants-requires : goal.measure_constants-requires
 measure_constants-requires c =
     let b = c.args.image.now in
-    let f = fitting (byte_at b) c.args.at (length b) is_pool (c.head_where.ensures is_pool (λ h r q. search rules)) c.in_ok-head.was in
+    let f = fitting b c.args.at (length b) is_pool c.head_where.ensures (λ h r q. search rules) c.in_ok-head.was in
     let s = pool_short c.in_ok-head.head f.is_good in
     record { order = omega arith; within = omega (arith, f.within); few = omega arith }
 
 pub returns-clause-is : goal.returns-clause-is
 returns-clause-is c =
     let b = c.args.image.now in
-    let f = fitting (byte_at b) c.args.at (length b) is_pool (c.head_where.ensures is_pool (λ h r q. search rules)) c.in_ok-head.was in
+    let f = fitting b c.args.at (length b) is_pool c.head_where.ensures (λ h r q. search rules) c.in_ok-head.was in
     rw f.reads c.measure_constants.ensures.is
 
 pub returns-clause-small : goal.returns-clause-small
 returns-clause-small c =
     let b = c.args.image.now in
-    let f = fitting (byte_at b) c.args.at (length b) is_pool (c.head_where.ensures is_pool (λ h r q. search rules)) c.in_ok-head.was in
+    let f = fitting b c.args.at (length b) is_pool c.head_where.ensures (λ h r q. search rules) c.in_ok-head.was in
     let s = pool_short c.in_ok-head.head f.is_good in
     omega (arith, c.measure_constants.ensures.small)

@@ -1,7 +1,7 @@
 -- `put_leaf` meets its contract: by the leaf.
 use Rattle.std.proofs.Common.{[], ◌∷◌, get_or, ap, arith}
 use Rattle.definition.specs.Tag.{tag_identifier, tag_integer, tag_boolean, tag_string}
-use Rattle.load.specs.Node.{leaf}
+use Rattle.definition.specs.Node.{leaf}
 use Rattle.load.specs.Draw.{drawn, bind}
 use Rattle.load.specs.Load.{words, name_of, letters}
 use Rattle.load.proofs.Laws.{draw-wrote, wrote_as, string_wrote}

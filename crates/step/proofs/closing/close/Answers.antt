@@ -1,9 +1,18 @@
 -- `step::closing::close` meets its contract: room for the loads, the constant, then the loads and Closure.
-use Rattle.step.proofs.Closed.{closes_full, closes_on}
+use mathlib.Core.Path.{refl}
+use Rattle.definition.proofs.Basic.{passed_on}
+use Rattle.step.proofs.Closed.{closes_full, closes_stops, closes_on}
 use Rattle.step.proofs.closing.close.Goals as goal
 
-pub returns-then-c-k-gt-CODE_SIZE : goal.returns-then-c-k-gt-CODE_SIZE
-returns-then-c-k-gt-CODE_SIZE c = closes_full _ _ c.requires c.captures-n.ensures c.loads_size.ensures.is c.if-c-k-gt-CODE_SIZE.true c.refuse.ensures
+pub returns-then-end-loads_size-gt-CODE_SIZE : goal.returns-then-end-loads_size-gt-CODE_SIZE
+returns-then-end-loads_size-gt-CODE_SIZE c = rw c.refused.ensures (record { closed = closes_full _ _ c.requires c.captures-n.ensures c.loads_size.ensures.is c.if-end-loads_size-gt-CODE_SIZE.true; same = refl })
+
+pub returns-in_err-index : goal.returns-in_err-index
+returns-in_err-index c =
+    rw (passed_on c.from_residual.ensures.1)
+    (record { closed = closes_stops _ _ c.requires c.captures-n.ensures c.loads_size.ensures.is c.if-end-loads_size-gt-CODE_SIZE.false c.definitions-locals.ensures c.in_err-index.ensures; same = refl })
 
 pub returns : goal.returns
-returns c = closes_on _ _ c.requires c.captures-n.ensures c.loads_size.ensures.is c.definitions.ensures c.add_function-added.ensures c.if-c-k-gt-CODE_SIZE.false c.emit_function.ensures
+returns c =
+    let d = c.emit_function.ensures in
+    record { closed = closes_on _ _ c.requires c.captures-n.ensures c.loads_size.ensures.is c.if-end-loads_size-gt-CODE_SIZE.false c.definitions-locals.ensures c.in_ok-index.ensures (rw c.outside-scope.ensures at d.done); same = d.same }

@@ -4,4 +4,4 @@ use Rattle.step.proofs.Loads.{LoadTurn}
 use Rattle.step.proofs.closing.loads.Given as goal
 
 abbrev pub invariant-loop-i : goal.invariant-loop-i
-invariant-loop-i l = LoadTurn l.place (part l.level l.table) l.n l.initial.code l.code l.initial.v l.v l.i
+invariant-loop-i l = LoadTurn l.place (part l.level l.table) l.n l.initial.scope l.scope l.i

@@ -1,12 +1,11 @@
 -- `symbol_table::globals::child` meets its contract.
-use borrow.Author.Tests.{eq-eqb, ne_eqb}
 use Rattle.symbol_table.specs.Search.{child_of}
 use Rattle.symbol_table.proofs.globals.child.Goals as goal
 
-pub returns-then-side-eq0 : goal.returns-then-side-eq0
+pub returns-in-Left : goal.returns-in-Left
 unfolding child_of
-returns-then-side-eq0 c = rw (eq-eqb _ 0 c.if-side-eq0.true)
+returns-in-Left c = rw c.in-Left.is c.standing.ensures
 
-pub returns : goal.returns
+pub returns-in-Right : goal.returns-in-Right
 unfolding child_of
-returns c = rw (ne_eqb _ 0 c.if-side-eq0.false)
+returns-in-Right c = rw c.in-Right.is c.standing-in-Right.ensures

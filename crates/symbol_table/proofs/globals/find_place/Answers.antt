@@ -8,17 +8,22 @@ use Rattle.symbol_table.proofs.globals.find_place.Goals as goal
 pub returns-then-same_name : goal.returns-then-same_name
 returns-then-same_name c =
     let told = c.same_name.ensures ∙ ap (same c.args.name.now) c.content_at.ensures in
-    rw c.requires.hash_value (placing_late _ _ _ _ c.loop-k.invariant c.loop-k-test.true refl (told) c.if-same_name.true)
+    let s = rw c.in-Some.is at c.loop-next.invariant in
+    rw c.requires.hash_value (placing_late _ _ _ _ s (omega arith) refl told c.if-same_name.true)
 
-pub loop-k-smaller : goal.loop-k-smaller
-loop-k-smaller c =
+pub loop-next-smaller : goal.loop-next-smaller
+loop-next-smaller c =
     let told = c.same_name.ensures ∙ ap (same c.args.name.now) c.content_at.ensures in
-    placing_less _ _ _ _ c.loop-k.invariant c.loop-k-test.true refl (told) c.requires.globals_bound c.if-same_name.false c.requires.hash_value c.side_of-on.ensures c.child-k-in-loop-k.ensures
+    let s = rw c.in-Some.is at c.loop-next.invariant in
+    rw c.in-Some.is (placing_less _ _ _ _ s (omega arith) refl told c.requires.globals_bound c.if-same_name.false c.requires.hash_value c.side_of-on.ensures c.child-next-in-Some.ensures)
 
-pub loop-k-preserved : goal.loop-k-preserved
-loop-k-preserved c =
+pub loop-next-preserved : goal.loop-next-preserved
+loop-next-preserved c =
     let told = c.same_name.ensures ∙ ap (same c.args.name.now) c.content_at.ensures in
-    placing_next _ _ _ _ c.loop-k.invariant c.loop-k-test.true refl (told) c.requires.globals_bound c.if-same_name.false c.requires.hash_value c.side_of-on.ensures c.child-k-in-loop-k.ensures
+    let s = rw c.in-Some.is at c.loop-next.invariant in
+    placing_next _ _ _ _ s (omega arith) refl told c.requires.globals_bound c.if-same_name.false c.requires.hash_value c.side_of-on.ensures c.child-next-in-Some.ensures
 
 pub returns : goal.returns
-returns c = rw (c.with_child.ensures, c.requires.hash_value) (placing_first _ _ _ _ c.loop-k.invariant (omega arith))
+returns c =
+    let s = rw c.in_default.is at c.loop-next.invariant in
+    rw (c.with_child.ensures, c.requires.hash_value) (placing_first _ _ _ _ s refl)

@@ -8,10 +8,7 @@ use Rattle.trial.proofs.Producing.{known, produce_stops, produce_goes_on}
 use Rattle.trial.proofs.machine.produce.Goals as goal
 
 pub returns-in_default : goal.returns-in_default
-returns-in_default c = λ cs f p h e. produce_stops c.requires.1 c.args.i.operand c.args.i.captures cs f h (c.produced.ensures cs f.stack f.globals p h.globals h.stack) c.reason.ensures c.in_default.is
-
-pub keep-requires : goal.keep-requires
-keep-requires c = (c.requires.0.room.long, omega (arith, c.takes.ensures, c.requires.0.room.enough, c.requires.0.room.fits, (known c.requires.1).gives_is c.args.i.operand c.args.i.captures))
+returns-in_default c = rw c.refused.ensures (λ cs f p h e. produce_stops c.requires.1 c.args.i.operand c.args.i.captures cs f h (c.produced.ensures cs f.stack f.globals p h.globals h.stack) c.reason.ensures c.in_default.is)
 
 pub returns : goal.returns
 returns c = λ cs f p h e.

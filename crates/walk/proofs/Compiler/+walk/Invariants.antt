@@ -58,15 +58,7 @@ abbrev pub decreases-walk_statement : goal.decreases-walk_statement
 decreases-walk_statement l = field l.tree.now l.at + 1
 
 abbrev pub invariant-walk_block-loop-at : goal.invariant-walk_block-loop-at
-invariant-walk_block-loop-at l =
-    record {
-      can : (goal.iterator-walk_block-loop-at).can_next l.at-iterator;
-      loop : LoopTurn l.tree (ReadsStmts l.tree) (walk_stmts machine) l.from l.end l.initial.self l.initial.v l.at-iterator l.self l.v;
-    }
+invariant-walk_block-loop-at l = LoopTurn l.tree (ReadsStmts l.tree) (walk_stmts machine) l.from l.end l.initial.self l.at-iterator l.self
 
 abbrev pub invariant-walk_expressions-loop-at : goal.invariant-walk_expressions-loop-at
-invariant-walk_expressions-loop-at l =
-    record {
-      can : (goal.iterator-walk_expressions-loop-at).can_next l.at-iterator;
-      loop : LoopTurn l.tree (ReadsExprs l.tree) (walk_exprs machine) l.from l.end l.initial.self l.initial.v l.at-iterator l.self l.v;
-    }
+invariant-walk_expressions-loop-at l = LoopTurn l.tree (ReadsExprs l.tree) (walk_exprs machine) l.from l.end l.initial.self l.at-iterator l.self

@@ -1,11 +1,11 @@
 -- `go` meets its contract: an instruction a turn; the marks are those of the pass so far.
-use Rattle.std.proofs.Common.{◌+◌, ap, ◌∙◌, refl, sym, subst, get_or}
+use Rattle.std.proofs.Common.{ap, ◌∙◌, refl, sym, subst, get_or}
 use Rattle.opcode.specs.Decoding.{instr_of}
 use Rattle.heights.specs.Pass.{greater as greatest}
 use Rattle.heights.specs.Marks.{Spot, Stepped}
 use Rattle.opcode.proofs.EachInstruction.{over_new, starts_at, over_again, read_at, all_read}
 use Rattle.heights.proofs.Lent.{keeps_on}
-use Rattle.heights.proofs.Loops.{PassLoop, loop_begins, loop_ends, not_refused, spot, too_few, step_fails, step-on}
+use Rattle.heights.proofs.Loops.{pass_at, loop_begins, loop_ends, not_refused, spot, too_few, step_fails, step-on}
 use Rattle.heights.proofs.Stepping.{max_greater}
 use Rattle.heights.proofs.chunk.Checker.go.Goals as goal
 
@@ -17,7 +17,7 @@ loop-at-init c =
     let e = c.into_iter-at-iterator.ensures.into_iter_gives in
     record {
       over = over_new e n.code n.end;
-      so_far = subst (λ at. PassLoop s.code.bytes.now s.code.start s.code.end a.heights.now a.first s.marks.now s.marks.now at a.first 0) (starts_at e n.at) (loop_begins s.code.bytes.now s.code.start s.code.end a.heights.now a.first s.marks.now c.requires);
+      so_far = pass_at (loop_begins s.code.bytes.now s.code.start s.code.end a.heights.now a.first s.marks.now c.requires) (starts_at e n.at);
       lent = record { marks = refl; code = refl; same = refl };
     }
 
@@ -28,7 +28,7 @@ returns-then-heights-k c =
     let l = c.loop-at in
     let n = c.in-Some.ensures.steps in
     let r = read_at l.invariant.over n in
-    let p = subst (λ at. PassLoop s.code.bytes.now s.code.start s.code.end a.heights.now a.first s.marks.now l.self.marks.now at l.k l.top) (sym n.here) l.invariant.so_far in
+    let p = pass_at l.invariant.so_far (sym n.here) in
     record {
       passes = too_few s.code.bytes.now s.code.start s.code.end a.heights.now a.first p c.requires r.before refl r.read c.if-heights-k.true;
       same = l.invariant.lent.same;
@@ -41,7 +41,7 @@ step-requires c =
     let l = c.loop-at in
     let n = c.in-Some.ensures.steps in
     let r = read_at l.invariant.over n in
-    let p = subst (λ at. PassLoop s.code.bytes.now s.code.start s.code.end a.heights.now a.first s.marks.now l.self.marks.now at l.k l.top) (sym n.here) l.invariant.so_far in
+    let p = pass_at l.invariant.so_far (sym n.here) in
     subst (λ k. Spot l.self.marks.now k.start k.end c.in-Some.at c.in-Some.next (instr_of c.in-Some.i)) (sym l.invariant.lent.code) (spot s.code.bytes.now s.code.start s.code.end a.heights.now a.first p c.requires r.before refl r.read)
 
 pub returns-then-not-step : goal.returns-then-not-step
@@ -51,7 +51,7 @@ returns-then-not-step c =
     let l = c.loop-at in
     let n = c.in-Some.ensures.steps in
     let r = read_at l.invariant.over n in
-    let p = subst (λ at. PassLoop s.code.bytes.now s.code.start s.code.end a.heights.now a.first s.marks.now l.self.marks.now at l.k l.top) (sym n.here) l.invariant.so_far in
+    let p = pass_at l.invariant.so_far (sym n.here) in
     let t = subst (λ k. Stepped l.self.marks.now k.start k.end c.in-Some.at (get_or a.heights.now l.k 0) (instr_of c.in-Some.i) c.step.result c.step.new.self.marks.now) l.invariant.lent.code c.step.ensures.steps in
     record {
       passes = step_fails s.code.bytes.now s.code.start s.code.end a.heights.now a.first p c.requires r.before refl r.read c.if-heights-k.false t c.if-not-step.true;
@@ -65,12 +65,12 @@ loop-at-preserved c =
     let l = c.loop-at in
     let n = c.in-Some.ensures.steps in
     let r = read_at l.invariant.over n in
-    let p = subst (λ at. PassLoop s.code.bytes.now s.code.start s.code.end a.heights.now a.first s.marks.now l.self.marks.now at l.k l.top) (sym n.here) l.invariant.so_far in
+    let p = pass_at l.invariant.so_far (sym n.here) in
     let t = subst (λ k. Stepped l.self.marks.now k.start k.end c.in-Some.at (get_or a.heights.now l.k 0) (instr_of c.in-Some.i) c.step.result c.step.new.self.marks.now) l.invariant.lent.code c.step.ensures.steps in
     let q = step-on s.code.bytes.now s.code.start s.code.end a.heights.now a.first p c.requires r.before refl r.read c.if-heights-k.false t c.if-not-step.false c.step.ensures.lent.marks (c.max-top.ensures ∙ max_greater _ _ ∙ ap (greatest _) c.height.ensures) in
     record {
       over = over_again l.invariant.over n;
-      so_far = subst (λ at. PassLoop s.code.bytes.now s.code.start s.code.end a.heights.now a.first s.marks.now c.step.new.self.marks.now at (l.k + 1) c.max-top.result) (sym n.behind) q;
+      so_far = pass_at q (sym n.behind);
       lent = keeps_on l.invariant.lent c.step.ensures.lent;
     }
 

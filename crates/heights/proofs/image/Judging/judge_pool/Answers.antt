@@ -1,10 +1,9 @@
 -- `judge_pool` meets its contract: a constant a turn.
-use mathlib.Core.Path.{subst₂}
 use Rattle.std.proofs.Common.{◌+◌, ◌∙◌, ap, sym}
 use Rattle.bytecode.proofs.EachConstant.{over_again}
 use Rattle.heights.proofs.EachConstant.{turn_at, all_read}
 use Rattle.heights.proofs.Lent.{lent_on, judged_with}
-use Rattle.heights.proofs.Pools.{PoolLoop, pool_ends, constant_ready, pool_fails, pool_again}
+use Rattle.heights.proofs.Pools.{pool_at, pool_ends, constant_ready, pool_fails, pool_again}
 use Rattle.heights.proofs.image.Judging.judge_pool.Goals as goal
 
 pub judge_constant-requires : goal.judge_constant-requires
@@ -13,7 +12,7 @@ judge_constant-requires c =
     let s = a.self.now in
     let l = c.loop-index in
     let n = c.in-Some.ensures.steps in
-    let p = subst₂ (λ at k. PoolLoop a.pool.bytes.now a.pool.start a.pool.end s.heights.now s.output.now s.marks.now a.before l.self.output.now l.self.marks.now at k l.progress) (sym n.0.here) (sym n.1) l.invariant.so_far in
+    let p = pool_at l.invariant.so_far (sym n.0.here) (sym n.1) in
     constant_ready a.pool.bytes.now a.pool.start a.pool.end s.heights.now s.output.now s.marks.now a.before c.requires p (turn_at l.invariant.over n.0 c.requires.pool.is p.reading)
 
 pub returns-in_default : goal.returns-in_default
@@ -22,7 +21,7 @@ returns-in_default c =
     let s = a.self.now in
     let l = c.loop-index in
     let n = c.in-Some.ensures.steps in
-    let p = subst₂ (λ at k. PoolLoop a.pool.bytes.now a.pool.start a.pool.end s.heights.now s.output.now s.marks.now a.before l.self.output.now l.self.marks.now at k l.progress) (sym n.0.here) (sym n.1) l.invariant.so_far in
+    let p = pool_at l.invariant.so_far (sym n.0.here) (sym n.1) in
     let k = turn_at l.invariant.over n.0 c.requires.pool.is p.reading in
     let j = c.judge_constant.ensures in
     record {
@@ -36,13 +35,13 @@ loop-index-preserved c =
     let s = a.self.now in
     let l = c.loop-index in
     let n = c.in-Some.ensures.steps in
-    let p = subst₂ (λ at k. PoolLoop a.pool.bytes.now a.pool.start a.pool.end s.heights.now s.output.now s.marks.now a.before l.self.output.now l.self.marks.now at k l.progress) (sym n.0.here) (sym n.1) l.invariant.so_far in
+    let p = pool_at l.invariant.so_far (sym n.0.here) (sym n.1) in
     let k = turn_at l.invariant.over n.0 c.requires.pool.is p.reading in
     let j = c.judge_constant in
     let q = pool_again a.pool.bytes.now a.pool.start a.pool.end s.heights.now s.output.now s.marks.now a.before c.requires p k (judged_with l.invariant.lent _ k.x l.progress l.self.output.now (j.ensures.judges k.x k.standing)) c.in-Some-judge_constant.is j.ensures.lent.marks j.ensures.lent.output in
     record {
       over = over_again l.invariant.over n.0;
-      so_far = subst₂ (λ at k. PoolLoop a.pool.bytes.now a.pool.start a.pool.end s.heights.now s.output.now s.marks.now a.before j.new.self.output.now j.new.self.marks.now at k c.in-Some-judge_constant.p) (sym n.0.behind) (ap (λ k. k + 1) n.1 ∙ sym n.2) q;
+      so_far = pool_at q (sym n.0.behind) (ap (λ k. k + 1) n.1 ∙ sym n.2);
       lent = lent_on l.invariant.lent j.ensures.lent;
     }
 

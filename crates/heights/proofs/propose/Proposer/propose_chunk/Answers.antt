@@ -1,8 +1,7 @@
 -- `propose_chunk` meets its contract: an instruction a turn.
-use mathlib.Core.Path.{subst₂}
-use Rattle.std.proofs.Common.{◌∙◌, set, refl, sym, subst, length-set}
+use Rattle.std.proofs.Common.{◌∙◌, set, refl, sym, length-set}
 use Rattle.opcode.proofs.EachInstruction.{over_again, read_at, all_read}
-use Rattle.heights.proofs.Flows.{FlowLoop, flow_ends, flow_decodes, flow_again}
+use Rattle.heights.proofs.Flows.{flow_at, flow_ends, flow_decodes, flow_again}
 use Rattle.heights.proofs.Lent.{lends_on}
 use Rattle.heights.proofs.propose.Proposer.propose_chunk.Goals as goal
 
@@ -14,13 +13,13 @@ loop-at-preserved c =
     let n = c.in-Some.ensures.steps in
     let r = read_at l.invariant.over n in
     let m = set s.marks.now a.code.start 2 in
-    let p = subst (λ at. FlowLoop a.code.bytes.now a.code.start a.code.end s.count s.heights.now m l.self.heights.now l.self.marks.now at l.self.count) (sym n.here) l.invariant.so_far in
+    let p = flow_at l.invariant.so_far (sym n.here) refl in
     let one = c.propose_one in
     let t = one.new.self in
     let q = flow_again a.code.bytes.now a.code.start a.code.end s.count c.requires p r.before refl r.read (length-set s.marks.now a.code.start 2) one.ensures.stays one.ensures.lent.heights one.ensures.lent.marks in
     record {
       over = over_again l.invariant.over n;
-      so_far = subst₂ (λ at k. FlowLoop a.code.bytes.now a.code.start a.code.end s.count s.heights.now m t.heights.now t.marks.now at k) (sym n.behind) (sym one.ensures.counts) q;
+      so_far = flow_at q (sym n.behind) (sym one.ensures.counts);
       lent = lends_on l.invariant.lent one.ensures.lent;
     }
 

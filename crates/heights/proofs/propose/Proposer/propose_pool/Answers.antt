@@ -1,8 +1,8 @@
 -- `propose_pool` meets its contract: a constant a turn.
-use Rattle.std.proofs.Common.{sym, subst}
+use Rattle.std.proofs.Common.{sym}
 use Rattle.bytecode.proofs.EachConstant.{over_again}
 use Rattle.heights.proofs.EachConstant.{turn_at, all_read}
-use Rattle.heights.proofs.Flows.{PoolLoop, pool_ends, pool_constant, pool_again}
+use Rattle.heights.proofs.Flows.{pool_at, pool_ends, pool_constant, pool_again}
 use Rattle.heights.proofs.Lent.{lends_on}
 use Rattle.heights.proofs.propose.Proposer.propose_pool.Goals as goal
 
@@ -12,7 +12,7 @@ propose_constant-requires c =
     let s = a.self.now in
     let l = c.loop-start in
     let n = c.in-Some.ensures.steps in
-    let p = subst (λ at. PoolLoop a.pool.bytes.now a.pool.start a.pool.end s.count s.heights.now s.marks.now l.self.heights.now l.self.marks.now at l.self.count) (sym n.here) l.invariant.so_far in
+    let p = pool_at l.invariant.so_far (sym n.here) in
     pool_constant a.pool.bytes.now a.pool.start a.pool.end s.count c.requires p (turn_at l.invariant.over n c.requires.pool.is p.reading)
 
 pub loop-start-preserved : goal.loop-start-preserved
@@ -21,14 +21,14 @@ loop-start-preserved c =
     let s = a.self.now in
     let l = c.loop-start in
     let n = c.in-Some.ensures.steps in
-    let p = subst (λ at. PoolLoop a.pool.bytes.now a.pool.start a.pool.end s.count s.heights.now s.marks.now l.self.heights.now l.self.marks.now at l.self.count) (sym n.here) l.invariant.so_far in
+    let p = pool_at l.invariant.so_far (sym n.here) in
     let k = turn_at l.invariant.over n c.requires.pool.is p.reading in
     let j = c.propose_constant in
     let t = j.new.self in
     let q = pool_again a.pool.bytes.now a.pool.start a.pool.end s.count c.requires p k (j.ensures.proposes k.x k.standing) j.ensures.lent.heights j.ensures.lent.marks in
     record {
       over = over_again l.invariant.over n;
-      so_far = subst (λ at. PoolLoop a.pool.bytes.now a.pool.start a.pool.end s.count s.heights.now s.marks.now t.heights.now t.marks.now at t.count) (sym n.behind) q;
+      so_far = pool_at q (sym n.behind);
       lent = lends_on l.invariant.lent j.ensures.lent;
     }
 

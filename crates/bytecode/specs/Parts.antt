@@ -1,0 +1,14 @@
+-- Where the two parts of an image that are read lie.
+use Rattle.std.specs.Prelude.{◌+◌, ◌≡◌, length}
+use Rattle.definition.specs.Basic.{Bytes, byte_at}
+use Rattle.definition.specs.Field.{head}
+use Rattle.bytecode.specs.declared.span.Parts.{Parts}
+
+-- main's code stands behind its head, and the constants behind the pool's head, up to the end
+pub record Divides (b : Bytes) (p : Parts) : Type 0 where
+  pub main : p.code.bytes.now ≡ b
+  pub first : p.code.start ≡ 3
+  pub behind : p.code.end ≡ 3 + (head (byte_at b) 0).len
+  pub constants : p.pool.bytes.now ≡ b
+  pub next : p.pool.start ≡ 3 + (head (byte_at b) 0).len + 3
+  pub last : p.pool.end ≡ length b
