@@ -1,10 +1,9 @@
 -- The head of a field that was looked for: what was found is what the definition reads.
-use Prim.Native.Nat.{ℕ, ◌+◌, ◌≤◌, ◌<◌}
+use Prim.Native.Nat.{ℕ, ◌+◌, ◌≤◌}
 use mathlib.Core.Path.{◌≡◌, ◌∙◌, ap, sym, refl}
 use mathlib.Core.Bool.{Bool, true, false}
 use native.Mathlib.Omega.{arith}
 use lib.Dec.{leb}
-use lib.ListN.{length}
 use borrow.Author.Tests.{leb-true}
 use Rattle.std.specs.Prelude.{Result, Ok, Err}
 use Rattle.definition.specs.Basic.{Bytes, byte_at, both}
@@ -13,11 +12,7 @@ use Rattle.definition.specs.Decode.{Decoded, decoded, malformed, then, read_head
 use Rattle.definition.proofs.Basic.{both_true}
 use Rattle.bytecode.specs.declared.field_head.Head.{Head as Found}
 use Rattle.bytecode.specs.declared.Malformed.{Malformed}
-use Rattle.bytecode.specs.Checked.{Part, head_of, found}
-
--- a part that ends where another does
-pub part : (b : Bytes) (at end : ℕ) → end ≤ length b → at < end → Part b at end
-part b at end h l = record { order = omega arith; within = h }
+use Rattle.bytecode.specs.Checked.{head_of, found}
 
 module _ (byte : ℕ → ℕ) (at end : ℕ) (good : Head → Bool) where
   -- a good head, of a field that stands whole

@@ -3,6 +3,7 @@ pub mod Heads
 pub mod Fields
 pub mod Limited
 pub mod Counted
+pub mod Answered
 pub mod Backward
 pub mod Instructions
 pub mod ReadConstants

@@ -2,21 +2,21 @@
 ghost use Rattle.std.specs.Prelude.{◌≡◌, ℕ, ◌+◌, ◌≤◌};
 ghost use Rattle.definition.specs.Basic.{byte_at};
 ghost use Rattle.definition.specs.Decode.{read_code};
-ghost use Rattle.bytecode.specs.Checked.{Part, is_code, item};
+ghost use Rattle.bytecode.specs.Checked.{is_code, item};
 
-use crate::{Malformed, Span};
+use crate::{Malformed, Section};
 use field::wide;
+use opcode::instructions::Instructions;
 use opcode::width;
 
 // Whether code decodes from its start up to its end, read from the end: bit k of `good` says whether it does from k bytes behind `at`. Every
 // byte is taken as the first of an instruction, so no step waits for the length of another, and the bytes decide no branch. A byte that
 // begins no instruction asks for bit 63, which is never set.
-fn decodes(code: Span<'_>) -> bool
-    requires { Part code.bytes.now code.start code.end }
-    ensures { result ≡ is_code (byte_at code.entry.bytes.now) code.entry.end code.entry.start }
+fn decodes(code: Section<'_>) -> bool
+    ensures { result ≡ is_code (byte_at code.entry.bytes.now) code.entry.end code.entry.at }
 {
     let mut good: usize = 1;
-    for at in (code.start..code.end).rev() {
+    for at in (code.at..code.end).rev() {
         let behind = wide(width(code.bytes[at])) % 64;
         good = good % 8 * 2 + (good >> behind) % 2;
     }
@@ -24,15 +24,14 @@ fn decodes(code: Span<'_>) -> bool
 }
 
 // Check that code decodes up to its end; where it does not, its first wrong instruction is looked for.
-pub fn check_code(code: Span<'_>) -> Result<usize, Malformed>
-    requires { Part code.bytes.now code.start code.end }
-    ensures { (len : ℕ) → code.entry.end ≤ code.entry.start + len → result ≡ item (read_code (byte_at code.entry.bytes.now) len code.entry.start code.entry.end) }
+pub fn check_code(code: Section<'_>) -> Result<usize, Malformed>
+    ensures { (len : ℕ) → code.entry.end ≤ code.entry.at + len → result ≡ item (read_code (byte_at code.entry.bytes.now) len code.entry.at code.entry.end) }
 {
     if decodes(code) {
         return Ok(code.end);
     }
-    let mut reached = code.start;
-    for (_, _, next) in code.instructions() {
+    let mut reached = code.at;
+    for (_, _, next) in Instructions::new(code.bytes, code.at, code.end) {
         reached = next;
     }
     if reached < code.end {

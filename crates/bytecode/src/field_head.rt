@@ -3,11 +3,10 @@ ghost use Rattle.std.specs.Prelude.{◌≡◌, Bool};
 ghost use Rattle.definition.specs.Basic.{byte_at};
 ghost use Rattle.definition.specs.Field.{Head as FieldHead};
 ghost use Rattle.definition.specs.Decode.{read_head};
-ghost use Rattle.bytecode.specs.Checked.{Part, head_of, is_constant, is_pool, is_main, is_name, head_answer, found};
+ghost use Rattle.bytecode.specs.Checked.{Part, head_of, is_constant, is_pool, is_main, is_name, found};
 
-use crate::{Form, Malformed};
+use crate::{Form, Malformed, Section};
 use definition::{limit, tag};
-use field::length_at;
 
 // A field's tag and content length.
 #[derive(Clone, Copy)]
@@ -21,13 +20,11 @@ impl Head {
     pub fn is_constant(self, form: Form) -> bool
         ensures { result ≡ is_constant form (head_of self) }
     {
-        if self.tag == tag::INTEGER_CONST {
-            return self.len == 8;
+        match self.tag {
+            tag::INTEGER_CONST => self.len == 8,
+            tag::STRING_CONST => true,
+            tag => tag == form.tags().function && 3 <= self.len,
         }
-        if self.tag == tag::STRING_CONST {
-            return true;
-        }
-        self.tag == form.tags().function && 3 <= self.len
     }
 
     // Whether it is a pool's.
@@ -52,24 +49,6 @@ impl Head {
     }
 }
 
-// The head of the field at `at`, if the field stands whole before `end`.
-pub fn head_at(bytes: &[u8], at: usize, end: usize) -> Option<Head>
-    requires { Part bytes.now at end }
-    ensures { result ≡ head_answer (byte_at bytes.now) at end }
-{
-    if end - at < 3 {
-        return None;
-    }
-    let len = length_at(bytes, at);
-    if end - at - 3 < len {
-        return None;
-    }
-    Some(Head {
-        tag: bytes[at],
-        len: len,
-    })
-}
-
 // The head of the field at `at`, if the field stands whole before `end` and its head passes a test.
 pub fn head_where<F: Fn(Head) -> bool>(
     bytes: &[u8],
@@ -81,8 +60,5 @@ pub fn head_where<F: Fn(Head) -> bool>(
     requires calls { F.IsAlwaysCallable test }
     ensures { (good : FieldHead → Bool) → ((h : Head) (r : Bool) → F.post test h r → r ≡ good (head_of h)) → result ≡ found (read_head (byte_at bytes.now) good at end) }
 {
-    match head_at(bytes, at, end) {
-        Some(head) if test(head) => Ok(head),
-        _ => Err(Malformed { place: at }),
-    }
+    Section { bytes, at, end }.head_where(test)
 }

@@ -5,6 +5,7 @@ mod code;
 pub mod constants;
 mod field_head;
 mod item_check;
+mod section;
 mod span;
 mod zero;
 
@@ -13,13 +14,14 @@ ghost use Rattle.definition.specs.Basic.{byte_at};
 ghost use Rattle.definition.specs.Number.{refusal, bad_image};
 ghost use Rattle.definition.specs.Decode.{read_image, read_name_field, read_name_fields, read_words, read_handed};
 ghost use Rattle.bytecode.specs.Form.{tag_main_in, tag_function_in, read_const_in, read_pool_in, read_form};
-ghost use Rattle.bytecode.specs.Checked.{Part, item, checked, name_fields, main_code, image_answer, is_read, layout_of, WordsEnd, LaysOut};
+ghost use Rattle.bytecode.specs.Checked.{item, checked, name_fields, main_code, image_answer, is_read, layout_of, WordsEnd, LaysOut};
 
 use code::check_code;
 use definition::{Reason, Refusal, limit, tag};
 use field::names::distinct_names;
-pub use field_head::{Head, head_at, head_where};
-use item_check::{Items, check_items};
+pub use field_head::{Head, head_where};
+use item_check::Items;
+use section::Section;
 pub use span::{Parts, Span};
 use zero::all_zero;
 
@@ -90,47 +92,64 @@ pub struct SessionLayout {
     pub constants: usize,
 }
 
-// Check the constant at `at`: the offset after it.
-fn check_constant(bytes: &[u8], at: usize, end: usize, form: Form) -> Result<usize, Malformed>
-    requires { Part bytes.now at end }
-    ensures { result ≡ item (read_const_in form (byte_at bytes.now) at end) }
-{
-    let head = head_where(bytes, at, end, |head| head.is_constant(form))?;
-    let next = at + 3 + head.len;
-    if head.tag != form.tags().function {
-        return Ok(next);
+impl<'a> Section<'a> {
+    // Check the constant that it begins with: the offset after it.
+    fn check_constant(self, form: Form) -> Result<usize, Malformed>
+        ensures { result ≡ item (read_const_in form (byte_at self.entry.bytes.now) self.entry.at self.entry.end) }
+    {
+        let head = self.head_where(|head| head.is_constant(form))?;
+        let next = self.at + 3 + head.len;
+        if head.tag != form.tags().function {
+            return Ok(next);
+        }
+        let code = Section {
+            bytes: self.bytes,
+            at: self.at + 3 + 3,
+            end: next,
+        };
+        check_code(code)
     }
-    let code = Span {
-        bytes,
-        start: at + 3 + 3,
-        end: next,
-    };
-    check_code(code)
-}
 
-// Check the pool at `at`: how many constants it has, and the offset after it.
-fn check_pool(bytes: &[u8], at: usize, end: usize, form: Form) -> Result<Items, Malformed>
-    requires { Part bytes.now at end }
-    ensures { result ≡ checked (read_pool_in form (byte_at bytes.now) at end) }
-{
-    let head = head_where(bytes, at, end, |head| head.is_pool())?;
-    let after = at + 3 + head.len;
-    check_items(at + 3, after, limit::CONSTANTS_LIMIT, |place| {
-        check_constant(bytes, place, after, form)
-    })
+    // Check the pool that it begins with: how many constants it has, and the offset after it.
+    fn check_pool(self, form: Form) -> Result<Items, Malformed>
+        ensures { result ≡ checked (read_pool_in form (byte_at self.entry.bytes.now) self.entry.at self.entry.end) }
+    {
+        let head = self.head_where(|head| head.is_pool())?;
+        self.behind(head)
+            .check_items(limit::CONSTANTS_LIMIT, |rest| rest.check_constant(form))
+    }
+
+    // Check the name that it begins with: the offset after it.
+    fn check_name(self) -> Result<usize, Malformed>
+        ensures { result ≡ item (read_name_field (byte_at self.entry.bytes.now) self.entry.at self.entry.end) }
+    {
+        let head = self.head_where(|head| head.is_name())?;
+        Ok(self.at + 3 + head.len)
+    }
+
+    // Check that names, at most so many, fill it.
+    fn check_name_fields(self, most: usize) -> Result<Items, Malformed>
+        ensures { result ≡ checked (name_fields (byte_at self.entry.bytes.now) most self.entry.at self.entry.end) }
+    {
+        self.check_items(most, |rest| rest.check_name())
+    }
+
+    // Check the field of names that it begins with, of a tag, and at most so many.
+    fn check_names(self, tag: u8, most: usize) -> Result<Items, Malformed>
+        ensures { result ≡ checked (read_name_fields (byte_at self.entry.bytes.now) tag most self.entry.at self.entry.end) }
+    {
+        let head = self.head_where(|head| head.tag == tag)?;
+        self.behind(head).check_name_fields(most)
+    }
 }
 
 // Check an image's main code: the offset after it.
 fn check_main(image: &[u8], form: Form) -> Result<usize, Malformed>
     ensures { result ≡ item (main_code (byte_at image.now) form (length image.now)) }
 {
-    let head = head_where(image, 0, image.len(), |head| head.is_main(form))?;
-    let code = Span {
-        bytes: image,
-        start: 3,
-        end: 3 + head.len,
-    };
-    check_code(code)
+    let whole = Section::whole(image);
+    let head = whole.head_where(|head| head.is_main(form))?;
+    check_code(whole.behind(head))
 }
 
 // Check an image of a form: how many constants it has; or 17 at its first wrong field or instruction.
@@ -138,7 +157,12 @@ pub fn check_form(image: &[u8], form: Form) -> Result<usize, Refusal>
     ensures { result ≡ image_answer (read_form form image.now) }
 {
     let at = check_main(image, form)?;
-    let pool = check_pool(image, at, image.len(), form)?;
+    let rest = Section {
+        bytes: image,
+        at,
+        end: image.len(),
+    };
+    let pool = rest.check_pool(form)?;
     if pool.end != image.len() {
         return Err(Refusal::from(Malformed { place: pool.end }));
     }
@@ -152,37 +176,6 @@ pub fn check_image(image: &[u8]) -> Result<usize, Refusal>
     check_form(image, Form::Plain)
 }
 
-// Check the name at `at`: the offset after it.
-fn check_name(bytes: &[u8], at: usize, end: usize) -> Result<usize, Malformed>
-    requires { Part bytes.now at end }
-    ensures { result ≡ item (read_name_field (byte_at bytes.now) at end) }
-{
-    let head = head_where(bytes, at, end, |head| head.is_name())?;
-    Ok(at + 3 + head.len)
-}
-
-// Check that names, at most so many, fill the part from `start` up to `end`.
-fn check_name_fields(
-    bytes: &[u8],
-    start: usize,
-    end: usize,
-    most: usize,
-) -> Result<Items, Malformed>
-    requires { Part bytes.now start end }
-    ensures { result ≡ checked (name_fields (byte_at bytes.now) most start end) }
-{
-    check_items(start, end, most, |place| check_name(bytes, place, end))
-}
-
-// Check a field of names at `at`, of a tag, and at most so many.
-fn check_names(session: &[u8], at: usize, tag: u8, most: usize) -> Result<Items, Malformed>
-    requires { Part session.now at (length session.now) }
-    ensures { result ≡ checked (read_name_fields (byte_at session.now) tag most at (length session.now)) }
-{
-    let head = head_where(session, at, session.len(), |head| head.tag == tag)?;
-    check_name_fields(session, at + 3, at + 3 + head.len, most)
-}
-
 // Check a session's words: its own, where it begins with their tag. The offset after them.
 fn check_words(session: &[u8]) -> Result<usize, Malformed>
     ensures { result ≡ item (read_words (byte_at session.now) 0 (length session.now)) }
@@ -190,7 +183,7 @@ fn check_words(session: &[u8]) -> Result<usize, Malformed>
     if session.first() != Some(&tag::WORDS) {
         return Ok(0);
     }
-    let words = check_names(session, 0, tag::WORDS, limit::WORDS_LIMIT)?;
+    let words = Section::whole(session).check_names(tag::WORDS, limit::WORDS_LIMIT)?;
     if distinct_names(session, 3, words.end) {
         return Ok(words.end);
     }
@@ -201,7 +194,7 @@ fn check_words(session: &[u8]) -> Result<usize, Malformed>
 pub fn words_stand(names: &[u8]) -> bool
     ensures { result ≡ is_read (read_handed names.now) }
 {
-    match check_name_fields(names, 0, names.len(), limit::WORDS_LIMIT) {
+    match Section::whole(names).check_name_fields(limit::WORDS_LIMIT) {
         Ok(words) => distinct_names(names, 0, words.end),
         Err(_) => false,
     }
@@ -212,8 +205,19 @@ fn read_behind(session: &[u8], start: usize) -> Option<SessionLayout>
     requires { WordsEnd session.now start }
     ensures { result ≡ layout_of session.now }
 {
-    let names = check_names(session, start, tag::NAMES, limit::GLOBALS_LIMIT).ok()?;
-    let pool = check_pool(session, names.end, session.len(), Form::Plain).ok()?;
+    let end = session.len();
+    let rest = Section {
+        bytes: session,
+        at: start,
+        end,
+    };
+    let names = rest.check_names(tag::NAMES, limit::GLOBALS_LIMIT).ok()?;
+    let behind = Section {
+        bytes: session,
+        at: names.end,
+        end,
+    };
+    let pool = behind.check_pool(Form::Plain).ok()?;
     if all_zero(&session[pool.end..]) {
         return Some(SessionLayout {
             words_end: start,

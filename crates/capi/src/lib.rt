@@ -20,6 +20,7 @@ const HALF_BOUND: u64 = 4294967296;
 const QUARTER_BOUND: usize = 65536;
 
 // An answer as one number: a length; or a refusal's number in the high half and its place in the low one.
+// Kept: halves of a number, here and in `pair`, since C is answered one of 64 bits (include/monkey.h).
 fn pack(answer: Result<usize, Refusal>) -> u64
     requires { Fits answer }
     ensures { Packs answer result }

@@ -21,6 +21,7 @@ use Rattle.definition.proofs.Basic.{pick_true, pick_false}
 use Rattle.bytecode.specs.declared.Form.{Form}
 use Rattle.bytecode.specs.Form.{image_in, read_form}
 use Rattle.bytecode.specs.Checked.{image_answer}
+use Rattle.chin.specs.declared.BadJump.{BadJump}
 use Rattle.chin.specs.Turn.{Made, made, turn_image}
 use Rattle.chin.specs.Chin.{refused, wrote, turn, translate, answer_of, output_of}
 use Rattle.chin.specs.Rows.{other_form, jump_of, Same, ImageAt, HasImage, TurnsImage, Copied}
@@ -39,7 +40,7 @@ copied_short f b {m} a o h =
     long n e = lt-leb (length (image_in (other_form f) n)) (length o) (omega (arith, other_length f b a e))
 
 -- one that has room: the image is copied, and turned
-pub copied_long : (f : Form) (b : Bytes) {m : Image} → ImageAt f b m → (o : Bytes) → length b ≤ length o → {o₁ o₂ : Bytes} {r : Result (Unit {0}) ℕ} → o₁ ≡ take (length b) b ++ drop (length b) o → TurnsImage f m b o₁ o₂ r
+pub copied_long : (f : Form) (b : Bytes) {m : Image} → ImageAt f b m → (o : Bytes) → length b ≤ length o → {o₁ o₂ : Bytes} {r : Result (Unit {0}) BadJump} → o₁ ≡ take (length b) b ++ drop (length b) o → TurnsImage f m b o₁ o₂ r
     → Copied f m o (Ok (length b)) o₂
 copied_long f b {m} a o h {o₁} {o₂} c t =
     record {
@@ -82,7 +83,7 @@ module _ (f : Form) (b : Bytes) {m : Image} (a : ImageAt f b m) where
   unfolding translate
   turned_is e = ap (turn (other_form f) (jump_of f)) a.reads ∙ ap (wrote (other_form f)) e
 
-  pub bad_form : {o o' : Bytes} {p : ℕ} → TurnsImage f m b o o' (Err p) → translate f (other_form f) (jump_of f) b ≡ refused (refusal bad_jump p)
+  pub bad_form : {o o' : Bytes} {p : BadJump} → TurnsImage f m b o o' (Err p) → translate f (other_form f) (jump_of f) b ≡ refused (refusal bad_jump p.place)
   bad_form {p = p} t = turned_is (bad_stopped (turn_image (jump_of f) m) t.judged)
 
   pub fine_answer : {o o' : Bytes} → TurnsImage f m b o o' (Ok tt) → {z z' : Bytes} {r : Answer} → Copied f m z r z' → r ≡ answer_of (translate f (other_form f) (jump_of f) b) (length z)

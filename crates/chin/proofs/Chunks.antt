@@ -12,6 +12,7 @@ use Rattle.opcode.specs.Decoding.{size_at}
 use Rattle.opcode.proofs.Decoding.{Stands, stands, read_next, read_none}
 use Rattle.bytecode.proofs.Items.{unlike}
 use Rattle.std.specs.Prelude.{Some, None, Ok, Err}
+use Rattle.chin.specs.declared.BadJump.{BadJump}
 use Rattle.chin.specs.Turn.{Jump, Made, made, stopped, operand_of, turn_instr}
 use Rattle.chin.specs.Rows.{verdict, InstrIn, TurnsInstr, CodeAt, TurnsCode}
 use Rattle.chin.proofs.Turns.{got}
@@ -23,9 +24,9 @@ pub fine_made : {A : Type 0} (m : Made A) → Ok tt ≡ verdict m → (x : A) ×
 fine_made (made x) e = (x, refl)
 fine_made (stopped p) e = let z : ◌≡◌ {A = ℕ} 0 1 = cc in absurd (omega arith)
 
-pub bad_stopped : {A : Type 0} (m : Made A) {p : ℕ} → Err p ≡ verdict m → m ≡ stopped p
+pub bad_stopped : {A : Type 0} (m : Made A) {p : BadJump} → Err p ≡ verdict m → m ≡ stopped p.place
 bad_stopped (made x) e = let z : ◌≡◌ {A = ℕ} 0 1 = cc in absurd (omega arith)
-bad_stopped (stopped q) {p} e = let h : q ≡ p = cc in ap stopped h
+bad_stopped (stopped q) {p} e = let h : q ≡ p.place = cc in ap stopped h
 
 -- what was stopped was not made
 pub not-made : {A : Type 0} {m : Made A} {p : ℕ} {x : A} → m ≡ stopped p → m ≡ made x → ⊥
@@ -69,9 +70,9 @@ module _ (jump : Jump) (b : Bytes) (start end : ℕ) where
       offset : at - start ≡ size_of l.xs
       offset = omega (arith, l.place)
 
-      pub code_stops : {o' o'' : Bytes} {p : ℕ} → TurnsInstr jump b start at n o o' (Err p) → TurnsCode jump b start end c o₀ o'' (Err p)
+      pub code_stops : {o' o'' : Bytes} {p : BadJump} → TurnsInstr jump b start at n o o' (Err p) → TurnsCode jump b start end c o₀ o'' (Err p)
       code_stops {p = p} t =
-          let s : turn_instr jump start (size_of l.xs) (instr_at (byte_at b) at) ≡ stopped p = ap (λ k. turn_instr jump start k (instr_at (byte_at b) at)) (sym offset) ∙ bad_stopped _ t.judged in
+          let s : turn_instr jump start (size_of l.xs) (instr_at (byte_at b) at) ≡ stopped p.place = ap (λ k. turn_instr jump start k (instr_at (byte_at b) at)) (sym offset) ∙ bad_stopped _ t.judged in
           let q = loop_stops (read_instr (byte_at b)) size_of (turn_instr jump start) bytes_of b (end - start) start end l a.reads h found s in
           record { judged = sym (ap verdict q); written = λ d k m. absurd (not-made q k) }
 

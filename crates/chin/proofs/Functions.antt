@@ -18,6 +18,7 @@ use Rattle.bytecode.specs.Form.{tag_function_in, tag_in, const_in}
 use Rattle.bytecode.proofs.ReadConstants.{not_integer, not_string}
 use Rattle.bytecode.proofs.Fields.{const_ends_in}
 use Rattle.std.specs.Prelude.{Result, Ok}
+use Rattle.chin.specs.declared.BadJump.{BadJump}
 use Rattle.chin.specs.Turn.{Made, made, stopped, along, turn_code, turn_const}
 use Rattle.chin.specs.Rows.{other_form, jump_of, verdict, Same, CodeAt, HasCode, TurnsCode, ConstAt, TurnsConst}
 use Rattle.chin.proofs.Constants.{write_const}
@@ -145,7 +146,7 @@ module _ (f : Form) (b : Bytes) (at end l q : ℕ) (c : Code) (a : ConstAt f b a
         ∙ ap (λ z. z ++ drop next o₀) (append_assoc p (six (tag_function_in (other_form f)) (length (content (Const.function l q c))) l q) (encode d))
         ∙ ap (λ k. (p ++ (six (tag_function_in (other_form f)) (suc (suc (suc k))) l q ++ encode d)) ++ drop next o₀) n
 
-  pub const_turned : {o o' : Bytes} {r : Result (Unit {0}) ℕ} → TurnsCode (jump_of f) b (at + 6) next c (set o at (tag_function_in (other_form f))) o' r → TurnsConst f b at (Const.function l q c) o o' r
+  pub const_turned : {o o' : Bytes} {r : Result (Unit {0}) BadJump} → TurnsCode (jump_of f) b (at + 6) next c (set o at (tag_function_in (other_form f))) o' r → TurnsConst f b at (Const.function l q c) o o' r
   const_turned {o} {o'} {r} t =
       let same : at + 3 + 3 ≡ at + 6 = omega arith in
       record {
@@ -165,7 +166,7 @@ module _ (f : Form) (b : Bytes) (at end : ℕ) where
   function_at (Const.function l q c) a e k =
       record { code = c; is = subst (λ n. CodeAt b (at + 6) (at + 3 + n) c) (sym (k ∙ const_length f b at end a)) (function_code f b at end l q c a) }
 
-  pub function_turned : (x : Const) → ConstAt f b at end x → byte_at b at ≡ tag_function_in f → {len : ℕ} → len ≡ (head (byte_at b) at).len → {o o₁ o' : Bytes} {r : Result (Unit {0}) ℕ}
+  pub function_turned : (x : Const) → ConstAt f b at end x → byte_at b at ≡ tag_function_in f → {len : ℕ} → len ≡ (head (byte_at b) at).len → {o o₁ o' : Bytes} {r : Result (Unit {0}) BadJump}
       → o₁ ≡ set o at (tag_function_in (other_form f)) → ((c : Code) → CodeAt b (at + 6) (at + 3 + len) c → TurnsCode (jump_of f) b (at + 6) (at + 3 + len) c o₁ o' r)
       → TurnsConst f b at x o o' r
   function_turned (Const.integer v) a e k h t = absurd (not_integer f (sym e ∙ tag_is f b at end a))

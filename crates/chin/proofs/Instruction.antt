@@ -104,7 +104,7 @@ module _ (jump : Jump) (b : Bytes) (start at size : ℕ) (i : InstrIn b start at
   turns_narrow h o = record { judged = sym (ap verdict (result_narrow h)); stored = λ j e. sym (pick_false (stored_operand o at j.a) o (lt-leb 3 size h)) }
 
   module _ (h : 3 ≤ size) where
-    pub turns_lacking : wide_operand jump (byte_at b at) (at - start + size) (byte_at b (at + 1) * 256 + byte_at b (at + 2)) ≡ None → (o o' : Bytes) → TurnsInstr jump b start at size o o' (Err at)
+    pub turns_lacking : wide_operand jump (byte_at b at) (at - start + size) (byte_at b (at + 1) * 256 + byte_at b (at + 2)) ≡ None → (o o' : Bytes) → TurnsInstr jump b start at size o o' (Err (record { place = at }))
     turns_lacking e o o' =
         let there : start + (at - start) ≡ at = omega (arith, i.order) in
         let k : result ≡ stopped at = ap (with_operand (start + (at - start)) here) (operand_wide h ∙ e) ∙ ap stopped there in

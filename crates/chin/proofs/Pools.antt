@@ -13,6 +13,7 @@ use Rattle.bytecode.specs.declared.Form.{Form}
 use Rattle.bytecode.specs.Form.{const_in, read_const_in}
 use Rattle.bytecode.proofs.Fields.{const_end_in, const_ends_in}
 use Rattle.std.specs.Prelude.{Ok, Err}
+use Rattle.chin.specs.declared.BadJump.{BadJump}
 use Rattle.chin.specs.Turn.{Made, turn_const}
 use Rattle.chin.specs.Rows.{other_form, jump_of, verdict, ConstAt, HasConst, TurnsConst, PoolAt, TurnsPool}
 use Rattle.chin.proofs.Turns.{turn-const}
@@ -64,7 +65,7 @@ module _ (f : Form) (b : Bytes) (start end : ℕ) where
       offset : turn_at (pool_size l.xs) x ≡ turn_const (jump_of f) (at + 3) x
       offset = ap (λ k. turn_const (jump_of f) (k + 3) x) (sym l.place)
 
-      pub pool_stops : {o' o'' : Bytes} {p : ℕ} → TurnsConst f b at x o o' (Err p) → TurnsPool f b start end cs o₀ o'' (Err p)
+      pub pool_stops : {o' o'' : Bytes} {p : BadJump} → TurnsConst f b at x o o' (Err p) → TurnsPool f b start end cs o₀ o'' (Err p)
       pool_stops {p = p} t =
           let q = loop_stops (read_const_in f (byte_at b)) pool_size turn_at (const_in (other_form f)) b constants_limit start end l a.reads h there.reads (offset ∙ bad_stopped _ t.judged) in
           record { judged = sym (ap verdict q); written = λ d k m. absurd (not-made q k) }

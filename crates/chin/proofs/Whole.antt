@@ -22,6 +22,7 @@ use Rattle.bytecode.specs.Checked.{constants_in}
 use Rattle.bytecode.proofs.Items.{ended}
 use Rattle.bytecode.proofs.Fields.{pool_content_in, head_read}
 use Rattle.std.specs.Prelude.{Result, Ok, Err}
+use Rattle.chin.specs.declared.BadJump.{BadJump}
 use Rattle.chin.specs.Turn.{made, stopped, along, turn_code, turn_pool, turn_image}
 use Rattle.chin.specs.Rows.{other_form, jump_of, verdict, Same, CodeAt, TurnsCode, PoolAt, TurnsPool, ImageAt, TurnsImage}
 use Rattle.chin.proofs.Constants.{pool-length, read-pool}
@@ -95,14 +96,14 @@ module _ (f : Form) (b : Bytes) {m : Image} (a : ImageAt f b m) where
         }
 
     -- a bad jump in main code
-    pub main_bad : {o₁ o₂ o o' : Bytes} {p : ℕ} → TurnsCode (jump_of f) b 3 (3 + len) m.code o₁ o₂ (Err p) → TurnsImage f m b o o' (Err p)
+    pub main_bad : {o₁ o₂ o o' : Bytes} {p : BadJump} → TurnsCode (jump_of f) b 3 (3 + len) m.code o₁ o₂ (Err p) → TurnsImage f m b o o' (Err p)
     main_bad {p = p} t =
-        let stop : turn_code (jump_of f) 3 m.code ≡ stopped p = bad_stopped (turn_code (jump_of f) 3 m.code) t.judged in
-        let e : turn_image (jump_of f) m ≡ stopped p = ap (λ r. along {B = Image} r (λ c. along (turn_pool (jump_of f) (6 + size_of m.code) m.pool) (λ cs. made (record { code = c; pool = cs })))) stop in
+        let stop : turn_code (jump_of f) 3 m.code ≡ stopped p.place = bad_stopped (turn_code (jump_of f) 3 m.code) t.judged in
+        let e : turn_image (jump_of f) m ≡ stopped p.place = ap (λ r. along {B = Image} r (λ c. along (turn_pool (jump_of f) (6 + size_of m.code) m.pool) (λ cs. made (record { code = c; pool = cs })))) stop in
         record { judged = sym (ap verdict e); written = λ n k s. absurd (not-made e k) }
 
     -- the pool decides where main code is fine
-    module _ (o : Bytes) {o₁ o₂ o₃ : Bytes} {r : Result (Unit {0}) ℕ} (put : o₁ ≡ set o 0 (tag_main_in (other_form f))) (kept : length o₂ ≡ length o) (t : TurnsCode (jump_of f) b 3 (3 + len) m.code o₁ o₂ (Ok tt))
+    module _ (o : Bytes) {o₁ o₂ o₃ : Bytes} {r : Result (Unit {0}) BadJump} (put : o₁ ≡ set o 0 (tag_main_in (other_form f))) (kept : length o₂ ≡ length o) (t : TurnsCode (jump_of f) b 3 (3 + len) m.code o₁ o₂ (Ok tt))
         (u : TurnsPool f b (3 + len + 3) (length b) m.pool o₂ o₃ r) where
       start_is : 3 + len + 3 ≡ 6 + size_of m.code
       start_is = omega (arith, is_length, code-length m.code)

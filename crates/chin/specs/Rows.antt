@@ -12,6 +12,7 @@ use Rattle.bytecode.specs.declared.Form.{Form}
 use Rattle.bytecode.specs.declared.Form.TheVariants.{Plain, Chin}
 use Rattle.bytecode.specs.Form.{const_in, pool_in, image_in, read_const_in, read_form}
 use Rattle.bytecode.specs.Checked.{constants_in}
+use Rattle.chin.specs.declared.BadJump.{BadJump}
 use Rattle.chin.specs.Turn.{exchanged, jumps, Jump, distance, target, Made, made, stopped, turn_instr, turn_code, turn_const, turn_pool, turn_image}
 
 -- from a form into the other, and what becomes of jumps
@@ -28,9 +29,9 @@ abbrev pub wide_operand : Jump → ℕ → ℕ → ℕ → Option ℕ
 wide_operand jump op end a = pick (jumps op) (jump end a) (Some (exchanged a))
 
 -- whether all jumps have operands, or where the first is that has none
-abbrev pub verdict : {A : Type 0} → Made A → Result (Unit {0}) ℕ
+abbrev pub verdict : {A : Type 0} → Made A → Result (Unit {0}) BadJump
 verdict (made x) = Ok tt
-verdict (stopped p) = Err p
+verdict (stopped p) = Err (record { place = p })
 
 -- an output holds the image's bytes from an offset up to another
 pub record Same (o b : Bytes) (start end : ℕ) : Type 0 where
@@ -47,7 +48,7 @@ pub record InstrIn (b : Bytes) (start at size : ℕ) : Type 0 where
   pub long : size ≡ 1 + width (byte_at b at)
   pub within : at + size ≤ length b
 
-pub record TurnsInstr (jump : Jump) (b : Bytes) (start at size : ℕ) (o o' : Bytes) (r : Result (Unit {0}) ℕ) : Type 0 where
+pub record TurnsInstr (jump : Jump) (b : Bytes) (start at size : ℕ) (o o' : Bytes) (r : Result (Unit {0}) BadJump) : Type 0 where
   pub judged : r ≡ verdict (turn_instr jump start (at - start) (instr_at (byte_at b) at))
   pub stored : (j : Instr) → turn_instr jump start (at - start) (instr_at (byte_at b) at) ≡ made j → o' ≡ pick (leb 3 size) (stored_operand o at j.a) o
 
@@ -62,7 +63,7 @@ pub record HasCode (b : Bytes) (start end : ℕ) : Type 0 where
   pub code : Code
   pub is : CodeAt b start end code
 
-pub record TurnsCode (jump : Jump) (b : Bytes) (start end : ℕ) (c : Code) (o o' : Bytes) (r : Result (Unit {0}) ℕ) : Type 0 where
+pub record TurnsCode (jump : Jump) (b : Bytes) (start end : ℕ) (c : Code) (o o' : Bytes) (r : Result (Unit {0}) BadJump) : Type 0 where
   pub judged : r ≡ verdict (turn_code jump start c)
   pub written : (d : Code) → turn_code jump start c ≡ made d → Same o b start end → o' ≡ (take start o ++ encode d) ++ drop end o
 
@@ -76,7 +77,7 @@ pub record HasConst (f : Form) (b : Bytes) (at end : ℕ) : Type 0 where
   pub constant : Const
   pub is : ConstAt f b at end constant
 
-pub record TurnsConst (f : Form) (b : Bytes) (at : ℕ) (x : Const) (o o' : Bytes) (r : Result (Unit {0}) ℕ) : Type 0 where
+pub record TurnsConst (f : Form) (b : Bytes) (at : ℕ) (x : Const) (o o' : Bytes) (r : Result (Unit {0}) BadJump) : Type 0 where
   pub judged : r ≡ verdict (turn_const (jump_of f) (at + 3) x)
   pub written : (y : Const) → turn_const (jump_of f) (at + 3) x ≡ made y → (p o₀ : Bytes) → length p ≡ at → o ≡ p ++ drop at o₀ → Same o₀ b at (at + 3 + length (content x))
       → o' ≡ (p ++ const_in (other_form f) y) ++ drop (at + 3 + length (content x)) o₀
@@ -92,7 +93,7 @@ pub record HasPool (f : Form) (b : Bytes) (start end : ℕ) : Type 0 where
   pub pool : List Const
   pub is : PoolAt f b start end pool
 
-pub record TurnsPool (f : Form) (b : Bytes) (start end : ℕ) (cs : List Const) (o o' : Bytes) (r : Result (Unit {0}) ℕ) : Type 0 where
+pub record TurnsPool (f : Form) (b : Bytes) (start end : ℕ) (cs : List Const) (o o' : Bytes) (r : Result (Unit {0}) BadJump) : Type 0 where
   pub judged : r ≡ verdict (turn_pool (jump_of f) start cs)
   pub written : (ds : List Const) → turn_pool (jump_of f) start cs ≡ made ds → Same o b start end → o' ≡ (take start o ++ pool_in (other_form f) ds) ++ drop end o
 
@@ -105,7 +106,7 @@ pub record HasImage (f : Form) (b : Bytes) : Type 0 where
   pub image : Image
   pub is : ImageAt f b image
 
-pub record TurnsImage (f : Form) (m : Image) (b o o' : Bytes) (r : Result (Unit {0}) ℕ) : Type 0 where
+pub record TurnsImage (f : Form) (m : Image) (b o o' : Bytes) (r : Result (Unit {0}) BadJump) : Type 0 where
   pub judged : r ≡ verdict (turn_image (jump_of f) m)
   pub written : (n : Image) → turn_image (jump_of f) m ≡ made n → Same o b 0 (length b) → o' ≡ image_in (other_form f) n ++ drop (length b) o
 

@@ -6,6 +6,7 @@ mod row;
 
 ghost use Rattle.std.specs.Prelude.{◌≡◌, length};
 ghost use Rattle.definition.specs.Bytecode.{Image};
+ghost use Rattle.definition.specs.Number.{refusal, bad_jump};
 ghost use Rattle.chin.specs.Chin.{translate as translated, to_chin, from_chin, answer_of, output_of};
 ghost use Rattle.chin.specs.Rows.{jump_of, other_form, ImageAt, HasImage, TurnsImage, Copied};
 
@@ -15,9 +16,27 @@ use definition::{Reason, Refusal, refused};
 use operand::other_form;
 use row::{turn_code, turn_constants};
 
+// The offset of the first jump that has no operand in the other form.
+#[derive(Clone, Copy)]
+struct BadJump {
+    place: usize,
+}
+
+// Such an image is refused with number 26.
+impl From<BadJump> for Refusal {
+    ghost from_gives = { λ wrong r. r ≡ refusal bad_jump wrong.place };
+
+    fn from(wrong: BadJump) -> Refusal {
+        Refusal {
+            reason: Reason::BadJump,
+            place: wrong.place,
+        }
+    }
+}
+
 // Puts the other form of a sound image over its copy at the front of the output, up to a jump that has no operand there. Where the output is empty
 // it only looks for one.
-fn put_form(output: &mut [u8], image: &[u8], from: Form) -> Result<(), usize>
+fn put_form(output: &mut [u8], image: &[u8], from: Form) -> Result<(), BadJump>
     requires { HasImage from image.now }
     ensures { (m : Image) → ImageAt from image.now m → TurnsImage from m image.now output.old output.new result }
 {
@@ -48,9 +67,7 @@ fn translate(image: &[u8], output: &mut [u8], from: Form) -> Result<usize, Refus
     ensures writes { output.new ≡ output_of (translated from (other_form from) (jump_of from) image.now) output.old }
 {
     check_form(image, from)?;
-    if let Err(place) = put_form(&mut output[..0], image, from) {
-        return refused(Reason::BadJump, place);
-    }
+    put_form(&mut output[..0], image, from)?;
     write_form(image, output, from)
 }
 

@@ -52,11 +52,8 @@ pub fn other_operand(from: Form, op: u8, end: usize, a: usize) -> Option<usize>
     requires { end < 9223372036854775808 }
     ensures { result ≡ wide_operand (jump_of from) op end a }
 {
-    if op == JUMP {
-        return jump_operand(from, end, a);
+    match op {
+        JUMP | JUMP_NOT_TRUTHY => jump_operand(from, end, a),
+        _ => Some(exchanged(a)),
     }
-    if op == JUMP_NOT_TRUTHY {
-        return jump_operand(from, end, a);
-    }
-    Some(exchanged(a))
 }

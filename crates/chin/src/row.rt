@@ -3,6 +3,7 @@ ghost use Rattle.std.specs.Prelude.{◌≡◌, List, ◌+◌, ◌<◌};
 ghost use Rattle.definition.specs.Bytecode.{Code, Const};
 ghost use Rattle.chin.specs.Rows.{jump_of, stored_operand, InstrIn, TurnsInstr, CodeAt, HasCode, TurnsCode, ConstAt, HasConst, TurnsConst, PoolAt, HasPool, TurnsPool};
 
+use crate::BadJump;
 use crate::operand::{other_form, other_operand};
 use bytecode::Form;
 use bytecode::constants::Constants;
@@ -25,6 +26,7 @@ fn put_operand(output: &mut [u8], at: usize, a: usize)
 
 // Turns the instruction of so many bytes at an offset, in the chunk that begins at `start`; or answers its offset, where its jump has no operand in
 // the other form.
+// Kept: six parameters, since it is called once, in the loop below: a struct of them would be made for each instruction and taken apart.
 fn turn_instruction(
     output: &mut [u8],
     image: &[u8],
@@ -32,7 +34,7 @@ fn turn_instruction(
     at: usize,
     size: usize,
     from: Form,
-) -> Result<(), usize>
+) -> Result<(), BadJump>
     requires { InstrIn image.now start at size }
     ensures { TurnsInstr (jump_of from) image.now start at size output.old output.new result }
 {
@@ -45,7 +47,7 @@ fn turn_instruction(
             put_operand(output, at, a);
             Ok(())
         }
-        None => Err(at),
+        None => Err(BadJump { place: at }),
     }
 }
 
@@ -56,11 +58,12 @@ pub fn turn_code(
     start: usize,
     end: usize,
     from: Form,
-) -> Result<(), usize>
+) -> Result<(), BadJump>
     requires { HasCode image.now start end }
     ensures { (c : Code) → CodeAt image.now start end c → TurnsCode (jump_of from) image.now start end c output.old output.new result }
 {
-    // Kept: two offsets, since with a `Span` in their place a translation takes 7 to 15 % more instructions, and the bar is 3 %.
+    // Kept: two offsets, here and in the two below, since with a `Span` in their place a translation takes 7 to 15 % more
+    // instructions, and the bar is 3 %.
     for (at, _, next) in Instructions::new(image, start, end) {
         turn_instruction(output, image, start, at, next - at, from)?;
     }
@@ -74,7 +77,7 @@ fn turn_constant(
     at: usize,
     end: usize,
     from: Form,
-) -> Result<(), usize>
+) -> Result<(), BadJump>
     requires { HasConst from image.now at end }
     ensures { (x : Const) → ConstAt from image.now at end x → TurnsConst from image.now at x output.old output.new result }
 {
@@ -95,7 +98,7 @@ pub fn turn_constants(
     start: usize,
     end: usize,
     from: Form,
-) -> Result<(), usize>
+) -> Result<(), BadJump>
     requires { HasPool from image.now start end }
     ensures { (cs : List Const) → PoolAt from image.now start end cs → TurnsPool from image.now start end cs output.old output.new result }
 {

@@ -1,8 +1,8 @@
 // Translating a tree that was checked, in a session whose layout is known: the walk, then image and session, or all restored.
-ghost use Rattle.std.specs.Prelude.{◌≡◌, ◌≤◌, length};
+ghost use Rattle.std.specs.Prelude.{◌≡◌};
 ghost use Rattle.compiler.specs.Result.{call_result};
 ghost use Rattle.compiler.specs.Stage.{Checked};
-ghost use Rattle.compiler.specs.Translated.{Small, start_state, image_length, Translated, final_result, WalkEnded};
+ghost use Rattle.compiler.specs.Translated.{Small, start_state, Translated, final_result, WalkEnded};
 ghost use Rattle.scope.specs.Walked.{walked};
 
 use super::names::append_names;
@@ -33,33 +33,9 @@ fn start_state(layout: SessionLayout) -> State
     }
 }
 
-// Writes the image, then the session of three fields with the new names and the new pool.
-fn accept(
-    session: &mut [u8],
-    tree: &[u8],
-    output: &mut [u8],
-    scope: &Scope<'_>,
-    table: &[u32],
-    layout: SessionLayout,
-    total: usize,
-) -> Result<usize, Refusal>
-    requires translated { Translated tree.now scope.now.code.now session.old table.now layout scope.now.state }
-    requires total_value { total ≡ image_length layout scope.now.state }
-    requires total_in_bounds { total ≤ length output.old }
-    ensures { ((p : Translated tree.now scope.now.code.now session.old table.now layout scope.now.state) → record { answer = result; session = session.new; output = output.new } ≡ final_result p output.old) }
-{
-    let len = scope.state.chunk.len as usize;
-    let names_end = layout.names_end;
-    let from = names_end + 3;
-    let to = scope.state.pool_end as usize;
-    write_image(output, &scope.code[..len], &session[from..to]);
-    let end = append_names(session, tree, table, layout.names, names_end);
-    let start = 6 + len;
-    write_back(session, layout.words_end, end, &output[start..total]);
-    Ok(total)
-}
-
-// The end of a walk that went through: the output has room for the image, or it is short and the session is restored.
+// The end of a walk that went through: the output has room, and the image is written, then the session of three fields with the new names
+// and the new pool; or the output is short, and the session is restored.
+// Kept: the slices one by one, here and below, as at `compile`.
 fn finish(
     session: &mut [u8],
     tree: &[u8],
@@ -71,13 +47,18 @@ fn finish(
     requires { Translated tree.now scope.now.code.now session.old table.now layout scope.now.state }
     ensures { ((p : Translated tree.now scope.now.code.now session.old table.now layout scope.now.state) → record { answer = result; session = session.new; output = output.new } ≡ final_result p output.old) }
 {
-    let end = scope.state.pool_end as usize;
-    let total = 6 + scope.state.chunk.len as usize + (end - (layout.names_end + 3));
+    let len = scope.state.chunk.len as usize;
+    let from = layout.names_end + 3;
+    let to = scope.state.pool_end as usize;
+    let total = 6 + len + (to - from);
     if output.len() < total {
-        restore(session, layout.pool_end, end);
+        restore(session, layout.pool_end, to);
         return refused(Reason::OutputShort, 0);
     }
-    accept(session, tree, output, scope, table, layout, total)
+    write_image(output, &scope.code[..len], &session[from..to]);
+    let end = append_names(session, tree, table, layout.names, layout.names_end);
+    write_back(session, layout.words_end, end, &output[6 + len..total]);
+    Ok(total)
 }
 
 // The walk over a checked tree, from the session's names.

@@ -2,7 +2,7 @@
 ghost use Rattle.std.specs.Prelude.{◌≡◌, set};
 
 // Stores a value where there is room.
-// Kept: a test and an index, since a proof knows no element of a slice after its `get_mut`.
+// Kept: a test and an index: tried with `get_mut`, and the check finds no proof, since none knows an element of the slice behind it.
 pub fn store<T: Copy>(output: &mut [T], at: usize, value: T)
     ensures { output.new ≡ set output.old at value }
 {

@@ -13,6 +13,7 @@ pub struct Fields<'a> {
 
 impl<'a> Fields<'a> {
     // From an offset up to an end.
+    // Kept: the bytes with both offsets, since the items are offsets in them.
     pub fn new(bytes: &'a [u8], at: usize, end: usize) -> Self
         ensures { Begins bytes.now at end result }
     {

@@ -9,8 +9,7 @@ ghost use Rattle.definition.specs.Basic.{byte_at};
 ghost use Rattle.definition.specs.Field.{head};
 ghost use Rattle.field.specs.Layout.{Whole, after, content};
 
-// A byte as a length or an offset.
-// Kept: the library's conversion, with the bound that its callers cite.
+// A byte as a length or an offset; its bound stands here, so that no caller proves it.
 pub fn wide(x: u8) -> usize
     ensures is { result ≡ x }
     ensures small { result < 256 }
@@ -18,8 +17,7 @@ pub fn wide(x: u8) -> usize
     usize::from(x)
 }
 
-// A number of two bytes, the high one first.
-// Kept: the library's conversions, with the equation and the bound that its callers cite.
+// A number of two bytes, the high one first; its equation and its bound stand here, so that no caller proves them.
 pub fn word(high: u8, low: u8) -> usize
     ensures is { result ≡ high * 256 + low }
     ensures small { result < 65536 }

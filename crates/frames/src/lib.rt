@@ -59,13 +59,11 @@ fn place_in(count: FrameCount, size: usize, index: usize) -> Result<FramePlace, 
             len: size,
         });
     }
-    if index == count.whole {
-        if 0 < count.rest {
-            return Ok(FramePlace {
-                start: index * size,
-                len: count.rest,
-            });
-        }
+    if index == count.whole && 0 < count.rest {
+        return Ok(FramePlace {
+            start: index * size,
+            len: count.rest,
+        });
     }
     refused(Reason::NoFrame, 0)
 }
@@ -79,6 +77,7 @@ pub fn find_frame(image: &[u8], size: usize, index: usize) -> Result<FramePlace,
 }
 
 // The frame of a number from 0, as a part of the image itself; empty where it refuses, and only there.
+// Kept: without the reason, which `frame_refusal` gives: the one `Result` of both is that of `find_frame`, and each is a line over it.
 pub fn frame(image: &[u8], size: usize, index: usize) -> &[u8]
     ensures { IsFrame image.entry result size index }
 {

@@ -20,6 +20,8 @@ pub struct Progress {
 }
 
 // What judging is lent: the output, the marks and the heights.
+// Kept: that an image is sound is a clause, here, in `propose` and in the listing: `HasImage` holds the image that was read, and a ghost field
+// is to be a proposition. A check tells it, and `Parts::of` takes the image apart, in the same few lines.
 #[derive(Drop)]
 struct Judging<'a> {
     output: &'a mut [u32],

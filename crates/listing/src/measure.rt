@@ -36,6 +36,7 @@ pub struct MeasuredImage {
 }
 
 // Reads code from `start` up to `end`.
+// Kept: offsets and no slice, here and below, since a refusal names the offset in the image.
 fn measure_code(image: &[u8], start: usize, end: usize) -> Result<Measured, Malformed>
     requires { Piece image.now start end }
     ensures is { (len : ℕ) → end ≤ start + len → result ≡ code_measured (read_code (byte_at image.now) len start end) }

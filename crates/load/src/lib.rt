@@ -49,6 +49,7 @@ const PROGRAM: [Item; 10] = [
 ];
 
 // The same, with the definition of c.
+// Kept: beside `PROGRAM`, since a row is one slice, and c's definition stands in the middle of this one.
 const PROGRAM_WITH_C: [Item; 11] = [
     Definition(0x61),
     Definition(0x62),

@@ -45,12 +45,6 @@ record_small l k bytes =
     let code : ℕ = byte_at l (4 * k + 2) % 8 * 256 + byte_at l (4 * k + 3) in
     record { offset = omega arith; index = omega (arith, index_within (byte_at l (4 * k + 2) % 8 * 256 + byte_at l (4 * k + 3))); crossed = omega arith }
 
--- lengths
-pub length-filled : (l : Bytes) (n : ℕ) (xs : List ℕ) → length (filled l n xs) ≡ length xs
-unfolding filled_over
-length-filled l zero xs = refl
-length-filled l (suc n) xs = length-sets (filled l n xs) (4 * n) (row_of (record_at l n)) ∙ length-filled l n xs
-
 length-rows : (rs : List Record) → length (rows_of rs) ≡ 4 * length rs
 unfolding rows_of
 length-rows [] = refl

@@ -13,6 +13,7 @@ pub struct Instructions<'a> {
 
 impl<'a> Instructions<'a> {
     // From an offset up to another.
+    // Kept: the code with both offsets, since the items are offsets in it.
     pub fn new(code: &'a [u8], at: usize, end: usize) -> Self
         ensures code { result.code.now ≡ code.now }
         ensures at { result.at ≡ at }

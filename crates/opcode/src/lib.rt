@@ -45,7 +45,9 @@ fn table_entry(op: u8) -> Option<u8>
 }
 
 // The operand length of an instruction with this first byte, or `NO_INSTRUCTION`: the table's entry, computed without memory or a branch.
-// Kept: a number for "none", since the check of stored code reads it as a number of bits, without a test (`bytecode::decodes`).
+// Kept: a number for "none", since the check of stored code reads it as a number of bits, without a test (`bytecode::decodes`): a
+// `match` took it up to
+// three times as long (docs/PERFORMANCE.md, "Stored code").
 // `past` is 1 for a byte that begins no instruction, else 0.
 pub fn width(op: u8) -> u8
     ensures { result ≡ entry op }
@@ -67,6 +69,9 @@ pub fn operand_length(op: u8) -> usize
 
 // The length of the instruction at `at`, if it stands whole before `end`. A byte that begins no instruction is tested for by itself, so that the
 // next offset of a loop waits for the two bits alone.
+// Kept: the whole code with an offset and an end, here and in the three below, since a refusal and the offset after count from the
+// whole's start:
+// behind a slice from `at` each caller would add it again.
 pub fn size_at(code: &[u8], at: usize, end: usize) -> Option<usize>
     requires { end ≤ length code.now }
     ensures { result ≡ size_at (byte_at code.now) at end }
@@ -107,6 +112,7 @@ fn instruction_at(code: &[u8], at: usize, size: usize) -> Instruction
 }
 
 // The instruction at `at`, if it stands whole before `end`, which is within the slice; else number 16 there.
+// Kept: offsets and no slice, here and at `decode_at`, since the refusal names the offset in the code.
 fn decode_before(code: &[u8], at: usize, end: usize) -> Result<Decoded, Refusal>
     requires { end ≤ length code.now }
     ensures { result ≡ decode_answer (read_instr (byte_at code.now) at end) }

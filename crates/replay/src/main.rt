@@ -3,8 +3,8 @@
 
 ghost use Rattle.std.specs.Prelude.{◌<◌, IfOk};
 
-use definition::Refusal;
 use definition::limit::{CODE_SIZE, SESSION_SIZE, TABLE_SIZE};
+use definition::{Reason, Refusal};
 use field::{wide, word};
 use report::{Counts, as_recorded, open_cases, read_full};
 use std::io;
@@ -59,32 +59,35 @@ struct Sizes {
     table: usize,
 }
 
-// One byte of the records, 0 at their end.
-fn read_byte<R: Read>(reader: &mut R) -> io::Result<usize>
-    ensures { IfOk result (λ n. n < 256) }
-{
-    let mut b = [0u8; 1];
-    read_full(reader, &mut b)?;
-    Ok(wide(b[0]))
+// The next bytes of the records, with zeros behind their end.
+fn read_array<R: Read, const N: usize>(reader: &mut R) -> io::Result<[u8; N]> {
+    let mut bytes = [0u8; N];
+    read_full(reader, &mut bytes)?;
+    Ok(bytes)
+}
+
+// One byte as a number.
+fn read_byte<R: Read>(reader: &mut R) -> io::Result<usize> {
+    let [low] = read_array::<R, 1>(reader)?;
+    Ok(wide(low))
 }
 
 // Two bytes as a number.
 fn read_word<R: Read>(reader: &mut R) -> io::Result<usize>
     ensures { IfOk result (λ n. n < 65536) }
 {
-    let mut b = [0u8; 2];
-    read_full(reader, &mut b)?;
-    Ok(word(b[0], b[1]))
+    let [high, low] = read_array::<R, 2>(reader)?;
+    Ok(word(high, low))
 }
 
 // Three bytes as a number.
 fn read_long<R: Read>(reader: &mut R) -> io::Result<usize> {
-    let high = read_word(reader)?;
-    let low = read_byte(reader)?;
-    Ok(high * 256 + low)
+    let [high, middle, low] = read_array::<R, 3>(reader)?;
+    Ok(u32::from_be_bytes([0, high, middle, low]) as usize)
 }
 
 // So many bytes of the records.
+// Kept: the length beside the buffer, since the records tell it, and it may be more than there is room for.
 fn read_part<R: Read>(reader: &mut R, buffer: &mut [u8], length: usize) -> io::Result<()> {
     if let Some(part) = buffer.get_mut(..length) {
         read_full(reader, part)?;
@@ -98,6 +101,7 @@ fn all_are<T: Copy + PartialEq>(area: &[T], number: T) -> bool {
 }
 
 // Compiles a tree in parts of these lengths, if the buffers are as long.
+// Kept: the slices one by one, as `compile` takes them.
 fn compile_in(
     session: &mut [u8],
     tree: &[u8],
@@ -150,11 +154,15 @@ fn run_call<R: Read>(
         &mut table,
         sizes,
     );
-    let kept = (number == 0) | (before == *session);
-    let areas = if number == 1 {
-        all_are(&code, 0x5A) & all_are(&table, 7)
-    } else {
-        all_are(&code, 0) & all_are(&table, 0)
+    let kept = answer.is_ok() | (before == *session);
+    let areas = match answer {
+        Err(
+            Refusal {
+                reason: Reason::ShortBuffer,
+                ..
+            },
+        ) => { all_are(&code, 0x5A) & all_are(&table, 7) }
+        _ => all_are(&code, 0) & all_are(&table, 0),
     };
     Ok(as_recorded(answer, number, value) & (output == expected) & kept & areas)
 }
@@ -180,12 +188,18 @@ fn read_sizes<R: Read>(reader: &mut R) -> io::Result<Sizes> {
     })
 }
 
-// Makes a session in a part of so many bytes.
-fn make_in(session: &mut [u8], size: usize) -> Result<usize, Refusal> {
-    if size <= session.len() {
-        return compiler::make_session(&mut session[..size]);
+// What a call makes of the first so many bytes, if there are as many.
+fn make_in<F: Fn(&mut [u8]) -> Result<usize, Refusal>>(
+    session: &mut [u8],
+    size: usize,
+    make: F,
+) -> Result<usize, Refusal>
+    requires { F.IsAlwaysCallable make }
+{
+    match session.get_mut(..size) {
+        Some(part) => make(part),
+        None => Ok(0),
     }
-    Ok(0)
 }
 
 // Making a session: the length of its buffer, the outcome.
@@ -193,15 +207,8 @@ fn run_make<R: Read>(reader: &mut R, session: &mut [u8; SESSION_SIZE]) -> io::Re
     let size = read_long(reader)?;
     let number = read_byte(reader)?;
     let value = read_long(reader)?;
-    Ok(as_recorded(make_in(session, size), number, value))
-}
-
-// Makes a session with words in a part of so many bytes.
-fn make_words_in(session: &mut [u8], size: usize, names: &[u8]) -> Result<usize, Refusal> {
-    if size <= session.len() {
-        return compiler::make_session_words(&mut session[..size], names);
-    }
-    Ok(0)
+    let answer = make_in(session, size, compiler::make_session);
+    Ok(as_recorded(answer, number, value))
 }
 
 // Making a session with words: the length of its buffer, the name fields, the outcome.
@@ -212,28 +219,19 @@ fn run_make_words<R: Read>(reader: &mut R, session: &mut [u8; SESSION_SIZE]) -> 
     read_part(reader, &mut names, length)?;
     let number = read_byte(reader)?;
     let value = read_long(reader)?;
-    Ok(as_recorded(
-        make_words_in(session, size, &names[..length]),
-        number,
-        value,
-    ))
+    let words = &names[..length];
+    let answer = make_in(session, size, |part| {
+        compiler::make_session_words(part, words)
+    });
+    Ok(as_recorded(answer, number, value))
 }
 
-// The session's first bytes, and zeros after them.
-fn check_session<R: Read>(reader: &mut R, session: &[u8; SESSION_SIZE]) -> io::Result<bool> {
+// A session: its first bytes, and zeros after them.
+fn read_session<R: Read>(reader: &mut R) -> io::Result<[u8; SESSION_SIZE]> {
     let length = read_word(reader)?;
-    let mut expected = [0u8; SESSION_SIZE];
-    read_part(reader, &mut expected, length)?;
-    Ok(expected == *session)
-}
-
-// A session of its own: its first bytes, and zeros after them.
-fn start_session<R: Read>(reader: &mut R, session: &mut [u8; SESSION_SIZE]) -> io::Result<()> {
-    let length = read_word(reader)?;
-    let mut start = [0u8; SESSION_SIZE];
-    read_part(reader, &mut start, length)?;
-    *session = start;
-    Ok(())
+    let mut session = [0u8; SESSION_SIZE];
+    read_part(reader, &mut session, length)?;
+    Ok(session)
 }
 
 // Runs a record: whether it agrees; none of what lies between two calls.
@@ -248,11 +246,11 @@ fn run_record<R: Read>(
             Ok(None)
         }
         Record::Own => {
-            start_session(reader, session)?;
+            *session = read_session(reader)?;
             Ok(None)
         }
         Record::Call => Ok(Some(run_call(reader, session, full_sizes())?)),
-        Record::Session => Ok(Some(check_session(reader, session)?)),
+        Record::Session => Ok(Some(read_session(reader)? == *session)),
         Record::Made => Ok(Some(run_make(reader, session)?)),
         Record::CallInParts => {
             let sizes = read_sizes(reader)?;
@@ -262,12 +260,21 @@ fn run_record<R: Read>(
     }
 }
 
+// What the next record holds; none at the end, and where its number is no record's.
+fn next_record<R: Read>(reader: &mut R) -> io::Result<Option<Record>> {
+    let mut number = [0u8; 1];
+    match read_full(reader, &mut number)? {
+        0 => Ok(None),
+        _ => Ok(Record::try_from(wide(number[0])).ok()),
+    }
+}
+
 // Runs the records of a file up to the first number that is no record's: how many agree and how many differ.
 fn run_records<R: Read>(reader: &mut R, most: u64) -> io::Result<Counts> {
     let mut session = [0u8; SESSION_SIZE];
     let mut counts = Counts::default();
     for _ in 0..most {
-        let Ok(record) = Record::try_from(read_byte(reader)?) else {
+        let Some(record) = next_record(reader)? else {
             break;
         };
         match run_record(reader, &mut session, record)? {
@@ -280,6 +287,7 @@ fn run_records<R: Read>(reader: &mut R, most: u64) -> io::Result<Counts> {
 }
 
 // The records of the file that a topic names: a line of their counts.
+// Kept: beside that of `check_trees`, whose line begins behind the opening of its file, and whose every case agrees or differs.
 fn run_topic<R: Files + Print + Eprint + Alloc>(rt: &R, topic: &str) -> io::Result<()> {
     print!(rt; "{topic}: ")?;
     let Some(mut reader) = open_cases(rt, topic)? else {

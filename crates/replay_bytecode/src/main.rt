@@ -158,29 +158,31 @@ fn write_bytes<R: Print>(rt: &R, bytes: &[u8]) -> io::Result<()> {
     rt.println("")
 }
 
-// Answer a line's question, by the first letter of its word.
+// Answer a line's question, by its word; a line of another word has no answer.
 fn answer<R: Print>(rt: &R, word: &str, mut bytes: Vec<u8>) -> io::Result<()> {
-    match word.as_bytes().first() {
-        Some(b'i') => answer_image(rt, bytes.as_slice()),
-        Some(b'l') => answer_turned(
+    match word {
+        "image" => answer_image(rt, bytes.as_slice()),
+        "list" => answer_turned(
             rt,
             bytes.as_slice(),
             listing::list_image,
             write_listing::<R>,
         ),
-        Some(b'd') => answer_decode(rt, bytes.as_slice()),
-        Some(b's') => {
+        "decode" => answer_decode(rt, bytes.as_slice()),
+        "start" => {
             bytes.resize(65536, 0)?;
             answer_session(rt, bytes.as_slice())
         }
-        Some(b'c') => answer_count(rt, bytes.as_slice()),
-        Some(b'p') => answer_part(rt, bytes.as_slice()),
-        Some(b't') => answer_turned(rt, bytes.as_slice(), chin::to_chin, write_bytes::<R>),
-        _ => answer_turned(rt, bytes.as_slice(), chin::from_chin, write_bytes::<R>),
+        "count" => answer_count(rt, bytes.as_slice()),
+        "part" => answer_part(rt, bytes.as_slice()),
+        "turn" => answer_turned(rt, bytes.as_slice(), chin::to_chin, write_bytes::<R>),
+        "unturn" => answer_turned(rt, bytes.as_slice(), chin::from_chin, write_bytes::<R>),
+        _ => Ok(()),
     }
 }
 
 // Put the bytes of a text in hexadecimal behind others.
+// Kept: two offsets for a byte, since a `str` has no chunks, and a chunk of its bytes would have to be made a `str` again.
 fn push_hex(bytes: &mut Vec<u8>, text: &str) -> Result<(), AllocError> {
     for k in 0..text.len() / 2 {
         if let Some(pair) = text.get(2 * k..2 * k + 2) {

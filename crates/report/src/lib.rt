@@ -14,7 +14,9 @@ use std::io;
 use std::io::Read;
 
 // Reads until the buffer is full or the input ends: how many bytes then stand at its front.
-// Kept: the programs call it alike in a `main` of three lines: one for all would take the buffer's length and, as a closure, the rest.
+// Kept: compile_text, compile_tree, image_depths, list_image, read_script, run_image and turn_image call it alike in a `main` of three
+// lines: one for
+// all would take the buffer's length and, as a closure, the rest.
 pub fn read_full<R: Read>(reader: &mut R, buffer: &mut [u8]) -> io::Result<usize>
     ensures bound { IfOk result (λ n. n ≤ length buffer.new) }
     ensures same_length { length buffer.new ≡ length buffer.old }
@@ -22,7 +24,7 @@ pub fn read_full<R: Read>(reader: &mut R, buffer: &mut [u8]) -> io::Result<usize
     ensures end { IfOk result (λ n. n < length buffer.new → IsAtEnd (R.remaining reader.new)) }
 {
     let mut done = 0;
-    // Kept: how much a turn reads is the reader's, so a `for` would need turns of its own, and a fill of the measure beside them.
+    // Kept: how much a turn reads is the reader's, so a `for` would need a number of turns, which nothing else names.
     while done < buffer.len() {
         let n = reader.read(&mut buffer[done..])?;
         if n == 0 {

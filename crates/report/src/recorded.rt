@@ -8,6 +8,7 @@ use std::rt::Files;
 use std::{fmt, fs, io};
 
 // Whether an answer is the recorded one: the number 0 stands for the value that was answered, any other for a refusal at that place.
+// Kept: by the numbers, since a `Reason` of a number would be a `match` of all 29, for recorded cases alone.
 pub fn as_recorded(answer: Result<usize, Refusal>, number: usize, value: usize) -> bool
     ensures { result ≡ is_recorded answer number value }
 {

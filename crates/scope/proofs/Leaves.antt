@@ -5,23 +5,44 @@ use mathlib.Core.Bool.{Bool, true, false}
 use mathlib.Core.List.{[], ◌∷◌}
 use mathlib.Core.Path.{◌≡◌, refl, sym, ap, ◌∙◌}
 use lib.ListN.{length, set, length-set}
+use lib.Dec.{eqb}
 use lib.Seq.{sets, length-sets}
 use borrow.Author.Tests.{le-leb, lt-leb, lt-ltb, le-ltb, leb-true, leb-false, ltb-true, ltb-false}
-use Rattle.definition.specs.Basic.{Bytes}
+use Rattle.definition.specs.Basic.{Bytes, byte_at, pick, both}
 use Rattle.definition.specs.Limit.{code_size}
 use Rattle.definition.specs.Number
-use Rattle.definition.specs.Opcode.{Instr, instr, plain, size, bytes_of, op_pop, op_jump, op_return_value, op_return}
+use Rattle.definition.specs.Opcode.{Instr, instr, plain, size, bytes_of, op_pop, op_return_value, op_return}
 use Rattle.definition.specs.Walk.{on, refuse, bind, Go}
 use Rattle.definition.specs.Compiler.{unpatched}
 use Rattle.definition.specs.declared.reason.Refusal.{Refusal}
 use Rattle.scope.specs.declared.Chunk.{Chunk}
 use Rattle.scope.specs.declared.State.{State}
 use Rattle.scope.specs.Walked.{Walked, stopped}
-use Rattle.std.specs.Prelude.{Ok, Err}
+use Rattle.std.proofs.lemmas.Bool.{ne_eqb}
+use Rattle.std.specs.Prelude.{Ok, Err, Option, Some, None, ltb}
 use Rattle.scope.specs.View.{Symbols, View, view, Fits, Done, Jumped}
-use Rattle.scope.specs.Emission.{room_for, Adds, holds_operand, Changes}
+use Rattle.scope.specs.declared.instruction.Instruction.{Instruction}
+use Rattle.scope.specs.Emission.{instr_of, room_for, Adds, holds_operand, Changes}
 use Rattle.scope.specs.Machine.{with_chunk, here, longer, put, emit, jump, patch, last_is, without_last, dropped, returned}
-use Rattle.scope.specs.Code.{jump_and_patch}
+use Rattle.scope.specs.Code.{last}
+
+-- an answer is this byte
+abbrev pub is_byte : ℕ → Option ℕ → Bool
+is_byte o (Some x) = eqb x o
+is_byte o None = false
+
+-- another byte is not this one
+pub other_byte : {x : Option ℕ} {n o : ℕ} → (n ≡ o → ⊥) → x ≡ Some n → is_byte o x ≡ false
+other_byte {x} {n} {o} h e = rw (e, ne_eqb n o h)
+
+-- a byte where there is one, and is it
+byte_picked : (b : Bool) (x o : ℕ) → is_byte o (pick b (Some x) None) ≡ both b (eqb x o)
+byte_picked true x o = refl
+byte_picked false x o = refl
+
+-- the last instruction is of a byte where that is its byte
+is_last : (c : Bytes) (k : Chunk) {x : Option ℕ} → x ≡ last c k → (o : ℕ) → last_is o c k ≡ is_byte o x
+is_last c k l o = sym (ap (is_byte o) l ∙ byte_picked (ltb k.last k.len) (byte_at c (k.start + k.last)) o)
 
 module _ {c : Bytes} {s : State} (a : code_size ≤ length c) (g : Fits s) where
   -- a step that leaves code and state, and is a refusal
@@ -45,16 +66,16 @@ module _ {c : Bytes} {s : State} (a : code_size ≤ length c) (g : Fits s) where
     unfolding emit
     full_step h e y = simp (lt-leb (here s + size i) code_size h)
 
-  module _ (p op n x y : ℕ) {c' : Bytes} {k : Chunk} {b : Bool} (d : Adds c s.chunk (record { op = op; operands = n; a = x; b = y }) k b c') where
-    pub emit-on : b ≡ true → Done c c' (Ok s) (Ok (with_chunk k s)) (emit p (instr op x y))
+  module _ (p : ℕ) (i : Instruction) {c' : Bytes} {k : Chunk} {b : Bool} (d : Adds c s.chunk i k b c') where
+    pub emit-on : b ≡ true → Done c c' (Ok s) (Ok (with_chunk k s)) (emit p (instr_of i))
     emit-on t =
-        let r : room_for (instr op x y) s.chunk ≡ true = sym d.room ∙ t in
-        rw (d.chunk, d.code, r) (put_step p (instr op x y) (leb-true (here s + size (instr op x y)) code_size r))
+        let r : room_for (instr_of i) s.chunk ≡ true = sym d.room ∙ t in
+        rw (d.chunk, d.code, r) (put_step p (instr_of i) (leb-true (here s + size (instr_of i)) code_size r))
 
-    pub emit_full : b ≡ false → Done c c' (Ok s) (Err (stopped (record { reason = Number.code; place = p }) (with_chunk k s))) (emit p (instr op x y))
+    pub emit_full : b ≡ false → Done c c' (Ok s) (Err (stopped (record { reason = Number.code; place = p }) (with_chunk k s))) (emit p (instr_of i))
     emit_full t =
-        let r : room_for (instr op x y) s.chunk ≡ false = sym d.room ∙ t in
-        rw (d.chunk, d.code, r) (refused (full_step p (instr op x y) (leb-false (here s + size (instr op x y)) code_size r)))
+        let r : room_for (instr_of i) s.chunk ≡ false = sym d.room ∙ t in
+        rw (d.chunk, d.code, r) (refused (full_step p (instr_of i) (leb-false (here s + size (instr_of i)) code_size r)))
 
   -- The jump at a position
   module _ (at : ℕ) where
@@ -82,44 +103,44 @@ module _ {c : Bytes} {s : State} (a : code_size ≤ length c) (g : Fits s) where
         go true t = patch-on (ltb-true (s.chunk.start + at + 2) code_size t) (d.code ∙ rw t)
         go false t = rw (d.code, t) (patch_past (ltb-false (s.chunk.start + at + 2) code_size t))
 
-  -- A last Pop, or none
-  module _ {b : Bool} (l : b ≡ last_is op_pop c s.chunk) where
-    -- it is dropped
-    pub drop-on : (p : ℕ) → b ≡ true → Done c c (Ok s) (Ok (without_last s)) (dropped p)
+  -- The byte of the last instruction, if it has one
+  module _ (p : ℕ) {x : Option ℕ} (l : x ≡ last c s.chunk) where
+    -- a last Pop is dropped
+    pub drop-on : x ≡ Some op_pop → Done c c (Ok s) (Ok (without_last s)) (dropped p)
     unfolding dropped
-    drop-on p t =
+    drop-on t =
         record {
-          step = λ e y. rw (sym l ∙ t);
+          step = λ e y. rw (is_last c s.chunk l op_pop, t);
           ready = record { area = a; sound = record { room = omega (arith, g.room, g.last); last = g.prev; prev = omega arith } };
           same = refl;
         }
 
     -- the same Pop, at a function's end
-    pub return_pop : (p : ℕ) → b ≡ true → Done c (set c (s.chunk.start + s.chunk.last) op_return_value) (Ok s) (Ok s) (returned p)
+    pub return_pop : x ≡ Some op_pop → Done c (set c (s.chunk.start + s.chunk.last) op_return_value) (Ok s) (Ok s) (returned p)
     unfolding returned
-    return_pop p t = record { step = λ e y. rw (sym l ∙ t); ready = record { area = simp length-set a; sound = g }; same = refl }
+    return_pop t = record { step = λ e y. rw (is_last c s.chunk l op_pop, t); ready = record { area = simp length-set a; sound = g }; same = refl }
 
-    -- Without one
-    module _ (p : ℕ) {b' : Bool} (n : b ≡ false) (l' : b' ≡ last_is op_return_value c s.chunk) where
-      -- ReturnValue is last
-      pub return-value : b' ≡ true → Done c c (Ok s) (Ok s) (returned p)
-      unfolding returned
-      return-value t = record { step = λ e y. rw (sym l ∙ n, sym l' ∙ t); ready = record { area = a; sound = g }; same = refl }
+    -- ReturnValue is last
+    pub return-value : x ≡ Some op_return_value → Done c c (Ok s) (Ok s) (returned p)
+    unfolding returned
+    return-value t = record { step = λ e y. rw (is_last c s.chunk l op_pop, is_last c s.chunk l op_return_value, t); ready = record { area = a; sound = g }; same = refl }
 
-      -- and stays at a branch's end
-      pub drop-value : b' ≡ true → Done c c (Ok s) (Ok s) (dropped p)
+    -- and stays at a branch's end
+    pub drop-value : x ≡ Some op_return_value → Done c c (Ok s) (Ok s) (dropped p)
+    unfolding dropped
+    drop-value t = record { step = λ e y. rw (is_last c s.chunk l op_pop, is_last c s.chunk l op_return_value, t); ready = record { area = a; sound = g }; same = refl }
+
+    -- Neither is last
+    module _ (n : is_byte op_pop x ≡ false) (n' : is_byte op_return_value x ≡ false) where
+      -- a branch yields no value
+      pub drop-refused : Done c c (Ok s) (Err (stopped (record { reason = Number.no_value; place = p }) s)) (dropped p)
       unfolding dropped
-      drop-value t = record { step = λ e y. rw (sym l ∙ n, sym l' ∙ t); ready = record { area = a; sound = g }; same = refl }
-
-      -- neither is last: a branch yields no value
-      pub drop-refused : b' ≡ false → Done c c (Ok s) (Err (stopped (record { reason = Number.no_value; place = p }) s)) (dropped p)
-      unfolding dropped
-      drop-refused t = refused (λ e y. rw (sym l ∙ n, sym l' ∙ t))
+      drop-refused = refused (λ e y. rw (is_last c s.chunk l op_pop, is_last c s.chunk l op_return_value, n, n'))
 
       -- Return follows
-      pub return_more : {c' : Bytes} {r : Walked} → b' ≡ false → Done c c' (Ok s) r (emit p (plain op_return)) → Done c c' (Ok s) r (returned p)
+      pub return_more : {c' : Bytes} {r : Walked} → Done c c' (Ok s) r (emit p (plain op_return)) → Done c c' (Ok s) r (returned p)
       unfolding returned
-      return_more t d = record { step = λ e y. d.step e y ∙ rw (sym l ∙ n, sym l' ∙ t); ready = d.ready; same = d.same }
+      return_more d = record { step = λ e y. d.step e y ∙ rw (is_last c s.chunk l op_pop, is_last c s.chunk l op_return_value, n, n'); ready = d.ready; same = d.same }
 
 -- Jumps: an instruction that was emitted, with the position before it
 module _ (p o : ℕ) {c c' : Bytes} {s t : State} where
@@ -130,16 +151,3 @@ module _ (p o : ℕ) {c c' : Bytes} {s t : State} where
   pub jump_stops : {z : Refusal} → Done c c' (Ok s) (Err (stopped z t)) (emit p (instr o unpatched 0)) → Jumped c c' (Ok s) (Err z) t (jump p o)
   unfolding jump
   jump_stops d = record { step = λ e y. ap (λ x. bind x (λ _. on s.chunk.len)) (d.step e y); ready = d.ready; same = d.same }
-
--- a jump, then a patch
-module _ (p at : ℕ) {c c₁ : Bytes} {s s₁ : State} where
-  pub patch_goes : {n : ℕ} {c₂ : Bytes} {s₂ : State} → Jumped c c₁ (Ok s) (Ok n) s₁ (jump p op_jump) → Done c₁ c₂ (Ok s₁) (Ok s₂) (λ v. on tt (patch at v)) → Jumped c c₂ (Ok s) (Ok n) s₂ (jump_and_patch p at)
-  patch_goes {n} a d =
-      record {
-        step = λ e y. ap (λ x. bind x (λ _. on n)) (d.step e y) ∙ ap (λ x. bind x (λ k v. on k (patch at v))) (a.step e y);
-        ready = d.ready;
-        same = d.same ∙ a.same;
-      }
-
-  pub patch_stops : {z : Refusal} → Jumped c c₁ (Ok s) (Err z) s₁ (jump p op_jump) → Jumped c c₁ (Ok s) (Err z) s₁ (jump_and_patch p at)
-  patch_stops a = record { step = λ e y. ap (λ x. bind x (λ k v. on k (patch at v))) (a.step e y); ready = a.ready; same = a.same }

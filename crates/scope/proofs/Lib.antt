@@ -1,4 +1,2 @@
 pub mod Tables
-pub mod Written
-pub mod OnChunk
 pub mod Leaves

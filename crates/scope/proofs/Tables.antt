@@ -1,10 +1,10 @@
 -- The rules of the tables of instructions.
 use Prim.Native.Nat.{ℕ, zero, suc}
 use native.Mathlib.Omega.{arith}
-use mathlib.Core.List.{List, [], ◌∷◌, map}
+use mathlib.Core.List.{List, [], ◌∷◌}
 use mathlib.Core.Bool.{Bool, true}
 use mathlib.Core.Option as maybe
-use mathlib.Core.Path.{◌≡◌, refl, sym}
+use mathlib.Core.Path.{◌≡◌, sym}
 use lib.ListN.{get_or, get_or-eq_default}
 use lib.Dec.{eqb}
 use borrow.Author.Tests.{eqb-true}
@@ -15,7 +15,7 @@ use Rattle.std.proofs.Common.{Bor}
 use Rattle.definition.specs.Basic.{both}
 use Rattle.definition.specs.Opcode.{width}
 use Rattle.definition.proofs.Basic.{both_left, both_right}
-use Rattle.scope.specs.Code.{opcode_of, Alone}
+use Rattle.scope.specs.Code.{Alone}
 
 -- the entry for an instruction that may be missing
 abbrev pub entry_of : maybe.Option ℕ → Option ℕ
@@ -26,12 +26,6 @@ entry_of (maybe.some o) = Some o
 pub entry_at : (l : List (Option ℕ)) (o : ℕ) (r : Option (Bor (Option ℕ))) → IsItemAt l o r → option_flatten (option_copied r) ≡ get_or l o None
 entry_at l o None h = sym (get_or-eq_default l None (omega (arith, h.3)))
 entry_at l o (Some x) h = h.4 (omega arith) None
-
--- what the entries of a table stand for is what the table of what they stand for has
-pub opcode_at : (l : List (Option ℕ)) (o : ℕ) → opcode_of (get_or l o None) ≡ get_or (map opcode_of l) o maybe.none
-opcode_at [] o = refl
-opcode_at (x ∷ xs) zero = refl
-opcode_at (x ∷ xs) (suc o) = opcode_at xs o
 
 -- no instruction of a table has operands
 abbrev pub alone : List (Option ℕ) → Bool

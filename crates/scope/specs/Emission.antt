@@ -3,7 +3,7 @@ use Rattle.std.specs.Prelude.{ℕ, ◌+◌, ◌/◌, ◌%◌, ◌≤◌, Bool, [
 use Rattle.std.proofs.lemmas.List.Edits.{sets}
 use Rattle.definition.specs.Basic.{Bytes, pick}
 use Rattle.definition.specs.Limit.{code_size}
-use Rattle.definition.specs.Opcode.{Instr, instr, width, size, bytes_of}
+use Rattle.definition.specs.Opcode.{Instr, instr, size, bytes_of}
 use Rattle.scope.specs.Machine.{chunk}
 use Rattle.scope.specs.declared.Chunk.{Chunk}
 use Rattle.scope.specs.declared.instruction.Instruction.{Instruction}
@@ -11,10 +11,6 @@ use Rattle.scope.specs.declared.instruction.Instruction.{Instruction}
 -- the instruction that the code's record stands for
 abbrev pub instr_of : Instruction → Instr
 instr_of i = instr i.op i.a i.b
-
--- the code's record has the right number of operand bytes
-pub record Sized (i : Instruction) : Type 0 where
-  pub is : i.operands ≡ width i.op
 
 -- a chunk within a code area of full size
 pub record Within (ys : Bytes) (c : Chunk) : Type 0 where

@@ -1,7 +1,7 @@
 // Emission and patching: the chunk record is lent by mutable reference.
 ghost use Rattle.std.specs.Prelude.{◌≡◌, ◌+◌, ◌≤◌};
 ghost use Rattle.definition.specs.Limit.{code_size};
-ghost use Rattle.scope.specs.Emission.{longer_chunk, Within, Sized, Adds, Changes};
+ghost use Rattle.scope.specs.Emission.{longer_chunk, Within, Adds, Changes};
 
 use super::Chunk;
 use super::instruction::{Instruction, write_instruction, write_word};
@@ -21,8 +21,9 @@ fn longer(c: Chunk, n: usize) -> Chunk
 }
 
 // Adds an instruction to the chunk that is lent, and says whether there was room.
+// Kept: a flag, since no value stands beside it: only the caller knows the place that a refusal names.
 pub fn add_instruction(code: &mut [u8], chunk: &mut Chunk, i: Instruction) -> bool
-    requires { Within code.old chunk.old × Sized i }
+    requires { Within code.old chunk.old }
     ensures { Adds code.old chunk.old i chunk.new result code.new }
 {
     let at = (chunk.start + chunk.len) as usize;
@@ -36,6 +37,7 @@ pub fn add_instruction(code: &mut [u8], chunk: &mut Chunk, i: Instruction) -> bo
 }
 
 // The jump at a position of the chunk that is lent goes to the chunk's end, where its operand is within the code area.
+// Kept: lent by mutable reference though it is only read, since document 01 wants the chunk's record lent so to emission and patching.
 pub fn change_operand(code: &mut [u8], chunk: &mut Chunk, at: usize)
     requires { Within code.old chunk.old }
     ensures { Changes code.old chunk.old at chunk.new code.new }

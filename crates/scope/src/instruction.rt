@@ -3,13 +3,14 @@ ghost use Rattle.std.specs.Prelude.{◌≡◌, [], ◌∷◌, ◌+◌, ◌/◌, 
 ghost use Rattle.std.proofs.lemmas.List.Edits.{sets};
 ghost use Rattle.definition.specs.Opcode.{instr, size, width, operands, bytes_of};
 
-// An instruction to emit: its byte, the number of its operand bytes, and what they are made of.
+// An instruction to emit: its byte, the number of its operand bytes, which is its byte's, and what they are made of.
 #[derive(Clone, Copy)]
 pub struct Instruction {
     pub op: u8,
     pub operands: usize,
     pub a: usize,
     pub b: usize,
+    pub ghost sized: { operands ≡ width op },
 }
 
 // The low byte of a number.
@@ -50,9 +51,9 @@ fn write_operands(code: &mut [u8], at: usize, i: Instruction)
     }
 }
 
-// Writes an instruction, with the number of operand bytes that its first byte has.
+// Writes an instruction.
 pub fn write_instruction(code: &mut [u8], at: usize, i: Instruction)
-    requires { (at + size (instr i.op i.a i.b) ≤ length code.old) × (i.operands ≡ width i.op) }
+    requires { at + size (instr i.op i.a i.b) ≤ length code.old }
     ensures { code.new ≡ sets code.old at (bytes_of (instr i.op i.a i.b)) }
 {
     code[at] = i.op;

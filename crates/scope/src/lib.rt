@@ -7,7 +7,7 @@ ghost use Rattle.std.proofs.Math.Option.{none};
 ghost use Rattle.definition.specs.Opcode.{instr, plain, width, op_closure};
 ghost use Rattle.definition.specs.Walk.{on, operate, prefixes, infixes};
 ghost use Rattle.scope.specs.Machine;
-ghost use Rattle.scope.specs.Code.{opcode_of, Alone, jump_and_patch};
+ghost use Rattle.scope.specs.Code.{opcode_of, Alone, jump_and_patch, last};
 ghost use Rattle.scope.specs.Lent.{Emits, Jumps, Patches};
 
 mod emission;
@@ -59,9 +59,8 @@ fn without_last(s: State) -> State
 }
 
 impl<'a> Scope<'a> {
-    // Emits an instruction, with the number of its operand bytes.
+    // Emits an instruction.
     fn emit_instruction(&mut self, place: usize, i: Instruction) -> Result<(), Refusal>
-        requires n_value { i.operands ≡ width i.op }
         ensures { Emits self.old self.new result (Machine.emit place (instr i.op i.a i.b)) }
     {
         if add_instruction(self.code, &mut self.state.chunk, i) {
@@ -149,41 +148,44 @@ impl<'a> Scope<'a> {
         Ok(away)
     }
 
-    // Whether the chunk's last instruction is of that byte.
-    fn last_is(&self, op: u8) -> bool
-        ensures { result ≡ Machine.last_is op self.now.code.now self.now.state.chunk }
+    // The byte of the chunk's last instruction, if it has one.
+    fn last(&self) -> Option<u8>
+        ensures { result ≡ last self.now.code.now self.now.state.chunk }
     {
         let c = self.state.chunk;
-        c.last < c.len && self.code[(c.start + c.last) as usize] == op
+        if c.len <= c.last {
+            return None;
+        }
+        Some(self.code[(c.start + c.last) as usize])
     }
 
     // Ends a branch of the if at a place: its last Pop is dropped, a last ReturnValue stays; without either it yields no value.
     pub fn drop_pop(&mut self, place: usize) -> Result<(), Refusal>
         ensures { Emits self.old self.new result (Machine.dropped place) }
     {
-        if self.last_is(opcodes::POP) {
-            self.state = without_last(self.state);
-            return Ok(());
+        match self.last() {
+            Some(opcodes::POP) => {
+                self.state = without_last(self.state);
+                Ok(())
+            }
+            Some(opcodes::RETURN_VALUE) => Ok(()),
+            _ => refused(Reason::NoValue, place),
         }
-        if self.last_is(opcodes::RETURN_VALUE) {
-            return Ok(());
-        }
-        refused(Reason::NoValue, place)
     }
 
     // Ends a function's chunk: its last Pop becomes ReturnValue; where ReturnValue isn't last, Return follows.
     pub fn returned(&mut self, place: usize) -> Result<(), Refusal>
         ensures { Emits self.old self.new result (Machine.returned place) }
     {
-        if self.last_is(opcodes::POP) {
-            let c = self.state.chunk;
-            self.code[(c.start + c.last) as usize] = opcodes::RETURN_VALUE;
-            return Ok(());
+        match self.last() {
+            Some(opcodes::POP) => {
+                let c = self.state.chunk;
+                self.code[(c.start + c.last) as usize] = opcodes::RETURN_VALUE;
+                Ok(())
+            }
+            Some(opcodes::RETURN_VALUE) => Ok(()),
+            _ => self.emit(place, opcodes::RETURN),
         }
-        if self.last_is(opcodes::RETURN_VALUE) {
-            return Ok(());
-        }
-        self.emit(place, opcodes::RETURN)
     }
 
     // Emits a boolean's instruction.

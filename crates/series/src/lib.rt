@@ -9,7 +9,7 @@ use compiler::{compile, make_session};
 use definition::Refusal;
 
 // Makes a session, and compiles a row of trees in it, so many bytes each and one behind the other: the last call's answer and image.
-// Kept: the slices one by one, as `compile` takes them, since C lends them so.
+// Kept: the lent slices one by one, as `compile` takes them.
 pub fn compile_row(
     session: &mut [u8],
     trees: &[u8],

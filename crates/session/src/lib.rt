@@ -16,6 +16,7 @@ use definition::{Reason, Refusal, refused, tag};
 use words::raise;
 
 // Writes a fresh session of two fields to the first 65,536 bytes, and leaves the others; a shorter buffer is refused, and nothing in it touched.
+// Kept: beside `begin_session`: what both have is one call of `restore` and two of `put_head`, at offsets of their own.
 pub fn write_fresh(session: &mut [u8]) -> Result<usize, Refusal>
     ensures { made session.old ≡ record { answer = result; session = session.new } }
 {

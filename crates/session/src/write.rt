@@ -4,8 +4,8 @@ ghost use Rattle.std.proofs.lemmas.List.Edits.{sets};
 ghost use Rattle.definition.specs.Field.{field};
 ghost use Rattle.session.specs.Write.{heading};
 
-// Copies bytes to an offset.
-// Kept: the library's `copy_from_slice`, with the equation on the whole of the bytes that its callers cite.
+// Copies bytes to an offset: the library's `copy_from_slice`, with the equation on the whole of the bytes, which each caller would else
+// prove.
 pub fn copy(out: &mut [u8], at: usize, from: &[u8])
     requires { at + length from.now ≤ length out.old }
     ensures { out.new ≡ sets out.old at from.now }

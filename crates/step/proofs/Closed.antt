@@ -47,9 +47,6 @@ module _ (tree : Bytes) (t : List ℕ) (o s : State) (l : s.level ≡ o.level + 
 
 -- The state outside again
 module _ (o : State) where
-  pub outside_fits : (s : State) → Fits o → Fits (outside o s)
-  outside_fits s f = record { room = f.room; last = f.last; prev = f.prev }
-
   outside_fine : (tree : Bytes) (m : Rest) {s : State} → s.level ≡ o.level + 1 → FineState tree m s → FineState tree m (outside o s)
   outside_fine tree m {s} h f =
       record {

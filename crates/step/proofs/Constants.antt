@@ -1,5 +1,5 @@
 -- A constant more behind the pool.
-use Prim.Native.Nat.{ℕ, ◌+◌, ◌-◌, ◌≤◌, ◌<◌}
+use Prim.Native.Nat.{ℕ, ◌+◌, ◌≤◌, ◌<◌}
 use native.Mathlib.Omega.{arith}
 use mathlib.Core.Bool.{Bool, true, false}
 use mathlib.Core.List.{List}
@@ -9,7 +9,7 @@ use lib.ListN.{length}
 use lib.Seq.{sets, length-sets}
 use borrow.Author.Tests.{le-leb, lt-leb, leb-true, leb-false}
 use Rattle.definition.specs.Basic.{Bytes, pick}
-use Rattle.definition.specs.Limit.{code_size, constants_limit, pool_limit, session_size}
+use Rattle.definition.specs.Limit.{code_size, constants_limit, pool_limit}
 use Rattle.definition.specs.Number
 use Rattle.definition.specs.Field.{field}
 use Rattle.definition.specs.Opcode.{instr, op_constant}
@@ -27,32 +27,8 @@ use Rattle.step.specs.Memory.{rest, symbols_of, memory, RoomyState, FineState}
 use Rattle.step.specs.Contract.{Steps, StepsBeside, has_room, Adds}
 use Rattle.step.proofs.Memory.{follow, stop_deeper, on_deeper, deeper_keeps, done_steps}
 
--- two tests of one order
-leb_iff : (a b c d : ℕ) → (a ≤ b → c ≤ d) → (c ≤ d → a ≤ b) → leb a b ≡ leb c d
-leb_iff a b c d f g = go (leb a b) refl
-  where
-    go : (t : Bool) → leb a b ≡ t → t ≡ leb c d
-    go true e = sym (le-leb c d (f (leb-true a b e)))
-    go false e = sym (other (leb c d) refl)
-      where
-        other : (t : Bool) → leb c d ≡ t → leb c d ≡ false
-        other true q = absurd (let x = g (leb-true c d q) in let y = leb-false a b e in omega arith)
-        other false q = q
-
 -- The test for room
 module _ (n : ℕ) (s : State) where
-  pub room_none : constants_limit ≤ s.constants → false ≡ has_room n s
-  room_none h = rw (le-leb constants_limit s.constants h)
-
-  module _ (h : s.constants < constants_limit) where
-    pub room_full : s.names_end + 3 ≤ s.pool_end → pool_limit < s.pool_end - s.names_end → false ≡ has_room n s
-    room_full b g = rw (lt-leb constants_limit s.constants h, lt-leb (s.pool_end + (3 + n)) (s.names_end + 3 + pool_limit) (omega arith))
-
-    pub room_rest : s.names_end + 3 ≤ s.pool_end → s.pool_end - s.names_end ≤ pool_limit → leb n (pool_limit - (s.pool_end - s.names_end)) ≡ has_room n s
-    room_rest b g =
-        rw (lt-leb constants_limit s.constants h)
-        (leb_iff n (pool_limit - (s.pool_end - s.names_end)) (s.pool_end + (3 + n)) (s.names_end + 3 + pool_limit) (λ x. omega arith) (λ x. omega arith))
-
   -- what it says where it holds
   pub room_true : {b : Bool} → b ≡ has_room n s → b ≡ true → (s.constants < constants_limit) × (s.pool_end + (3 + n) ≤ s.names_end + 3 + pool_limit)
   room_true q t = go (leb constants_limit s.constants) refl (sym q ∙ t)
@@ -66,12 +42,6 @@ module _ (n : ℕ) (s : State) where
 module _ {e : Bytes} {s : State} (m : RoomyState e s) (n : ℕ) {t : Bool} (h : t ≡ has_room n s) (y : t ≡ true) where
   pub roomy_write : s.pool_end + (3 + n) ≤ length e
   roomy_write = let r = room_true n s h y in omega (arith, m)
-
-  pub roomy_count : s.constants < constants_limit
-  roomy_count = (room_true n s h y).0
-
-  pub roomy_size : s.pool_end + (3 + n) ≤ session_size
-  roomy_size = let r = room_true n s h y in omega (arith, m)
 
 -- The machine's step by that test
 module _ (p tag : ℕ) (b : Bytes) (v : View) where

@@ -101,6 +101,3 @@ module _ (p : ℕ) (r : List ℕ) (n : ℕ) {s : Scope} where
           done = subst (λ x. Done s.code.now u.code.now (Ok s.state) (Err (stopped z u.state)) (loads p (originals_of r x))) e (loads_stopped p r (i + 1) m (loads_more p r i h.done q j d.done));
           same = d.same ∙ h.same;
         }
-
-  pub load_ends : {t : Scope} {i : ℕ} → LoadTurn p r n s t i → n ≤ i → Emits s t (Ok tt) (loads p (originals_of r n))
-  load_ends h l = let e : _ ≡ n = omega (arith, h.within) in record { done = rw (← e) h.done; same = h.same }

@@ -1,11 +1,9 @@
 -- Steps on the lent memory in a row, and steps on the code area alone.
-use Prim.Native.Nat.{ℕ, ◌+◌, ◌≤◌}
+use Prim.Native.Nat.{ℕ, ◌+◌}
 use native.Mathlib.Omega.{arith}
 use mathlib.Core.List.{[]}
-use lib.ListN.{length}
 use mathlib.Core.Path.{◌≡◌, refl, sym, ap, ◌∙◌}
 use Rattle.definition.specs.Basic.{Bytes}
-use Rattle.definition.specs.Limit.{code_size}
 use Rattle.definition.specs.Walk.{Res, on, stop, bind, Go}
 use Rattle.definition.specs.declared.reason.Refusal.{Refusal}
 use Rattle.scope.specs.declared.State.{State}
@@ -122,13 +120,13 @@ pub done_done : {c c₁ c₂ : Bytes} {w v r : Walked} {f g : Go View} → Done 
 done_done {c = c} {w = w} {f = f} {g = g} d h =
     record { step = λ e y. h.step e y ∙ ap (λ x. then x g) (d.step e y) ∙ assoc (ended c e y w) (λ _. f) (λ _. g); ready = h.ready; same = h.same ∙ d.same }
 
+-- a walk that has stopped stays as it is
+pub done_stays : {c : Bytes} {z : Stopped} {k : Go View} → Ready c (Err z) → Done c c (Err z) (Err z) k
+done_stays h = record { step = λ _ _. refl; ready = h; same = refl }
+
 -- after a step that is refused nothing more is done
 pub done_stops : {c c' : Bytes} {w : Walked} {z : Stopped} {f : Go View} (g : Go View) → Done c c' w (Err z) f → Done c c' w (Err z) (λ s. then (f s) g)
-done_stops g d = done_done {g = g} d (record { step = λ _ _. refl; ready = d.ready; same = refl })
-
--- a walk that has stopped stays as it is
-pub stays : {tree c : Bytes} {m : Rest} {k : Go View} {z : Stopped} → code_size ≤ length c → Steps tree k c c m m (Err z) (Err z)
-stays {z = z} h = record { step = λ _ _. refl; ready = record { area = h; sound = tt }; fine = tt; keeps = keeps_refl (Err z) }
+done_stops g d = done_done {g = g} d (done_stays d.ready)
 
 -- what a scope that is lent is always: ready, whatever a step on it answered
 pub always_ready : {A : Type 0} (r : Result A Refusal) (s : Scope) → Ready s.code.now (walked r s.state)

@@ -1,22 +1,19 @@
 -- Definitions and lookups in the table area.
-use Prim.Native.Nat.{ℕ, ◌+◌, ◌≤◌, ◌<◌}
-use native.Mathlib.Omega.{arith}
+use Prim.Native.Nat.{ℕ, ◌+◌, ◌≤◌}
 use mathlib.Core.List.{List}
 use mathlib.Core.Path.{◌≡◌, refl, sym, ap, ◌∙◌}
 use lib.ListN.{length}
-use lib.Seq.{length-take-le}
 use Rattle.definition.specs.Basic.{Bytes}
-use Rattle.definition.specs.Limit.{code_size, nesting_limit}
+use Rattle.definition.specs.Limit.{code_size}
 use Rattle.definition.specs.Opcode.{instr}
 use Rattle.definition.specs.SymbolTable.{Table, load_of}
 use Rattle.definition.specs.Decode.{words_in}
 use Rattle.definition.specs.Walk.{refuse}
-use Rattle.symbol_table.specs.Layout.{part_size, base, symbol_of, globals_of, tables_of, Good}
+use Rattle.symbol_table.specs.Layout.{symbol_of, globals_of, tables_of, Good}
 use Rattle.symbol_table.specs.Contract as Symbol
 use Rattle.symbol_table.specs.Contract.{lookup_reason, define_reason, Lookup, Definition, defined_of, resolved_of, Resolves}
 use Rattle.symbol_table.specs.declared.Found.{Found}
 use Rattle.symbol_table.specs.declared.Slot.TheVariants.{Global, Local}
-use Rattle.symbol_table.specs.declared.DefineError.{DefineError}
 use Rattle.symbol_table.specs.declared.LookupError.{LookupError}
 use Rattle.symbol_table.specs.declared.LookupError.TheVariants.{Undefined, Full}
 use Rattle.std.specs.Prelude.{Ok, Err, Result}
@@ -37,30 +34,11 @@ use Rattle.definition.specs.declared.reason.Reason.{Reason}
 table_fine : {tree e : Bytes} {t t' : List ℕ} {s : State} → length t' ≡ length t → Good tree (names_of e s) s.level t' → FineState tree (rest e t) s → FineState tree (rest e t') s
 table_fine n g f = record { words = f.words; symbols = g; level = f.level; area = rw n f.area; pool = f.pool }
 
--- What the code needs of the table area
-module _ {tree : Bytes} {t : List ℕ} {s : State} (h : FineBeside tree t s) where
-  pub beside-base : base s.level ≤ length t
-  beside-base = omega (arith, h.fine.level, h.fine.area)
+-- what a definition needs of the table area
+pub beside_good : {tree : Bytes} {t : List ℕ} {s : State} → FineBeside tree t s → (names : Bytes) × Good tree names s.level t
+beside_good {s = s} h = (names_of h.session s, h.fine.symbols)
 
-  pub beside-part : s.level < nesting_limit → base s.level + part_size ≤ length t
-  beside-part l = omega (arith, h.fine.area)
-
-  pub beside_good : (names : Bytes) × Good tree names s.level t
-  beside_good = (names_of h.session s, h.fine.symbols)
-
--- What a lookup needs, and the names as a part of the session
-module _ (tree e : Bytes) (t : List ℕ) {s : State} (f : FineState tree (rest e t) s) where
-  pub fine_base : base s.level ≤ length t
-  fine_base = omega (arith, f.level, f.area)
-
-  pub names-length : s.names_end ≡ length (names_of e s)
-  names-length = sym (length-take-le s.names_end e (omega (arith, f.pool)))
-
--- A definition's answer, as the code tells it
-pub placed_err : (p : ℕ) {a : Definition} {k : Reason} {u : DefineError} → a ≡ Err u → k ≡ define_reason u → Err (refusal k p) ≡ placed_at p a
-placed_err p q i = rw (q, i)
-
--- and as the machine takes it
+-- A definition's answer, as the machine takes it
 module _ (tree c e : Bytes) (t : List ℕ) (p : ℕ) (s : State) where
   place-step : (y : Symbols) (a : Definition)
       → answered tree c (rest e t) (instr_of (placed_at p a)) s ≡ settled (placed p (view c e y s) (defined_of a (symbols_of tree (rest e t) s).globals (symbols_of tree (rest e t) s).tables))

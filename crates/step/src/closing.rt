@@ -1,8 +1,8 @@
 // A function is closed over the code outside it.
-ghost use Rattle.std.specs.Prelude.{◌≡◌, ◌+◌, ◌*◌, ◌≤◌, length};
+ghost use Rattle.std.specs.Prelude.{◌≡◌, ◌*◌, ◌≤◌};
 ghost use Rattle.definition.specs.Limit.{free_limit};
 ghost use Rattle.definition.specs.Opcode.{instr, op_closure};
-ghost use Rattle.symbol_table.specs.Layout.{part_size, base, part, originals_of};
+ghost use Rattle.symbol_table.specs.Layout.{originals_of};
 ghost use Rattle.scope.specs.View.{then};
 ghost use Rattle.scope.specs.Lent.{Emits};
 ghost use Rattle.scope.specs.Machine as machine;
@@ -13,35 +13,24 @@ use super::pool::add_function;
 use definition::limit::CODE_SIZE;
 use definition::{Reason, Refusal, refused};
 use scope::{Scope, State};
-use symbol_table::leaving::{captures, definitions, original};
-use symbol_table::load_of;
+use symbol_table::{Part, load_of};
 
-// How long the loads of the first `n` captured originals are together.
-fn loads_size(table: &[u32], level: usize, n: usize) -> usize
-    requires part_size_in_bounds { base level + part_size ≤ length table.now }
-    requires n_le_free_limit { n ≤ free_limit }
-    ensures is { result ≡ machine.loads_size (originals_of (part level table.now) n) }
+// How long the loads of the first `n` originals that a function has captured are together.
+fn loads_size(part: Part<'_>, n: usize) -> usize
+    requires { n ≤ free_limit }
+    ensures is { result ≡ machine.loads_size (originals_of part.entry.numbers.now n) }
     ensures small { result ≤ 4 * n }
 {
-    (0..n)
-        .map(|i| 1 + load_of(original(table, level, i)).operands)
-        .sum()
+    (0..n).map(|i| 1 + load_of(part.original(i)).operands).sum()
 }
 
 // Emits the loads of the first `n` captured originals, the first one first.
-fn loads(
-    scope: &mut Scope<'_>,
-    table: &[u32],
-    place: usize,
-    level: usize,
-    n: usize,
-) -> Result<(), Refusal>
-    requires part_size_in_bounds { base level + part_size ≤ length table.now }
-    requires n_le_free_limit { n ≤ free_limit }
-    ensures { Emits scope.old scope.new result (machine.loads place (originals_of (part level table.now) n)) }
+fn loads(scope: &mut Scope<'_>, part: Part<'_>, place: usize, n: usize) -> Result<(), Refusal>
+    requires { n ≤ free_limit }
+    ensures { Emits scope.old scope.new result (machine.loads place (originals_of part.entry.numbers.now n)) }
 {
     for i in 0..n {
-        let l = load_of(original(table, level, i));
+        let l = load_of(part.original(i));
         scope.emit_operand(place, l.op, l.operands, l.operand as usize)?;
     }
     Ok(())
@@ -50,17 +39,15 @@ fn loads(
 // Outside a function whose constant was added at an index: the loads of the `n` originals that it captures, and Closure.
 fn emit_function(
     scope: &mut Scope<'_>,
-    table: &[u32],
+    part: Part<'_>,
     index: usize,
     place: usize,
     n: usize,
 ) -> Result<(), Refusal>
-    requires part_size_in_bounds { base scope.old.state.level + part_size ≤ length table.now }
-    requires n_le_free_limit { n ≤ free_limit }
-    ensures { Emits scope.old scope.new result (λ v. then (machine.loads place (originals_of (part scope.old.state.level table.now) n) v) (machine.emit place (instr op_closure index n))) }
+    requires { n ≤ free_limit }
+    ensures { Emits scope.old scope.new result (λ v. then (machine.loads place (originals_of part.entry.numbers.now n) v) (machine.emit place (instr op_closure index n))) }
 {
-    let level = scope.state.level as usize;
-    loads(scope, table, place, level, n)?;
+    loads(scope, part, place, n)?;
     scope.emit_closure(place, index, n)
 }
 
@@ -88,15 +75,15 @@ pub fn close(
     requires { Closable session.old table.now outer scope.old.state }
     ensures { Closes place params scope.old scope.new session.old session.new table.now outer result }
 {
-    let level = outer.level as usize;
-    let n = captures(table, level);
+    let part = Part::of(table, outer.level as usize);
+    let n = part.captures();
     let end = outer.chunk.start + outer.chunk.len + scope.state.chunk.len;
-    if CODE_SIZE < end as usize + loads_size(table, level, n) {
+    if CODE_SIZE < end as usize + loads_size(part, n) {
         return refused(Reason::Code, place);
     }
-    let locals = definitions(table, level);
+    let locals = part.definitions();
     let code = &mut *scope.code;
     let index = add_function(session, code, &mut scope.state, place, locals, params)?;
     scope.state = outside(outer, scope.state);
-    emit_function(scope, table, index, place, n)
+    emit_function(scope, part, index, place, n)
 }

@@ -21,7 +21,7 @@ use field::{after_at, content_at};
 use opcode::opcodes;
 use pool::add_constant;
 use scope::{Chunk, Scope, State};
-use symbol_table::{DefineError, Slot, load_of, resolve_name};
+use symbol_table::{DefineError, Key, Slot, load_of, resolve_name};
 
 // The open functions, as a level.
 const NESTING_LIMIT: u32 = limit::NESTING_LIMIT as u32;
@@ -65,7 +65,7 @@ pub fn load(
 {
     let end = scope.state.names_end as usize;
     let level = scope.state.level as usize;
-    match resolve_name(tree, &session[..end], table, level, at) {
+    match resolve_name(Key::new(tree, at), &session[..end], table, level) {
         Ok(found) => {
             let l = load_of(found.code);
             scope.emit_operand(at, l.op, l.operands, l.operand as usize)
@@ -100,7 +100,7 @@ pub fn define(tree: &[u8], table: &mut [u32], state: State, at: usize) -> Result
 {
     placed(
         at,
-        symbol_table::define(tree, table, state.level as usize, at + 3),
+        symbol_table::define(Key::new(tree, at + 3), table, state.level as usize),
     )
 }
 
@@ -144,7 +144,7 @@ pub fn enter(
         return refused(Reason::TooMany, at);
     }
     let row = after_at(tree, at + 3) + 3;
-    symbol_table::enter(tree, table, level as usize, at + 3, row, n);
+    symbol_table::enter(Key::new(tree, at + 3), table, level as usize, row, n);
     scope.state = inside(scope.state);
     Ok(())
 }

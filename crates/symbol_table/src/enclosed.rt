@@ -6,7 +6,7 @@ ghost use Rattle.definition.specs.Limit.{tree_limit, locals_limit, free_limit, a
 ghost use Rattle.definition.specs.SymbolTable.{find};
 ghost use Rattle.field.specs.Layout.{len};
 ghost use Rattle.symbol_table.specs.Name.{Row};
-ghost use Rattle.symbol_table.specs.Layout.{part_size, entries_at, base, part, entries, table_of, Sized, GoodTable};
+ghost use Rattle.symbol_table.specs.Layout.{part_size, entries_at, originals_at, base, part, entries, table_of, Sized, GoodTable};
 ghost use Rattle.symbol_table.specs.Store.{entered_in, local_in, free_in};
 ghost use Rattle.symbol_table.specs.Contract.{hit_of, PassedOver, Few, Crosses, DefinesLocal, Params, Opens};
 
@@ -30,23 +30,47 @@ pub fn part_range(level: usize) -> Range<usize>
     start..start + PART_SIZE
 }
 
-// The part of the function at a level.
-// Kept: where a part is written, its range stands at the call. Tried: `part_mut(table, level) -> &mut [u32]`, whose clause on what
-// comes back did not close: the check proves one of a field or of a call's result, and not of a part of a slice.
-pub fn part(table: &[u32], level: usize) -> &[u32]
-    requires { base level + part_size ≤ length table.now }
-    ensures { result.now ≡ part level table.now }
-{
-    &table[part_range(level)]
+// The part of an open function, which is read.
+#[derive(Clone, Copy)]
+pub struct Part<'a> {
+    pub numbers: &'a [u32],
+    pub ghost size: { length numbers.now ≡ part_size },
 }
 
-// A number of the part of the function at a level.
-pub fn number_at(table: &[u32], level: usize, i: usize) -> u32
-    requires part_size_in_bounds { base level + part_size ≤ length table.now }
-    requires i_lt_part_size { i < part_size }
-    ensures { result ≡ get_or (part level table.now) i 0 }
-{
-    part(table, level)[i]
+// Kept: where a part is written, its range stands at the call. Tried: `part_mut(table, level) -> &mut [u32]`, whose clause on what
+// comes back did not close: the check proves one of a field or of a call's result, and not of a part of a slice.
+impl<'a> Part<'a> {
+    // That of the function at a level.
+    pub fn of(table: &'a [u32], level: usize) -> Self
+        requires { base level + part_size ≤ length table.now }
+        ensures { result.numbers.now ≡ part level table.now }
+    {
+        Part {
+            numbers: &table[part_range(level)],
+        }
+    }
+
+    // Its definitions.
+    pub fn definitions(self) -> usize
+        ensures { result ≡ get_or self.entry.numbers.now 1 0 }
+    {
+        self.numbers[1] as usize
+    }
+
+    // How many originals it has captured.
+    pub fn captures(self) -> usize
+        ensures { result ≡ get_or self.entry.numbers.now 2 0 }
+    {
+        self.numbers[2] as usize
+    }
+
+    // The code of an original that it has captured.
+    pub fn original(self, i: usize) -> u32
+        requires { i < free_limit }
+        ensures { result ≡ get_or self.entry.numbers.now (originals_at + i) 0 }
+    {
+        self.numbers[ORIGINALS_AT + i]
+    }
 }
 
 // How many entries a function's table has.

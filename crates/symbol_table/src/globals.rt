@@ -281,7 +281,8 @@ fn clear_heads(globals: &mut [u32; GLOBALS_SIZE])
 }
 
 // The names of a session become the globals: the fields from an offset up to an end.
-// Kept: the bytes with both offsets, since the session's bytes before the end stay what the globals' numbers are read in.
+// Kept: the bytes with both offsets, since the session's bytes before the end stay what the globals' numbers are read in. Tried: a struct of
+// the three, whose ghost field is `HasItems`: that holds the names themselves, and a ghost field is to be a proposition.
 pub fn start_in(session: &[u8], globals: &mut [u32; GLOBALS_SIZE], from: usize, end: usize)
     requires session_len_bound { length session.now ≤ session_size }
     requires has_items { HasItems session.now from end }

@@ -5,7 +5,6 @@
 mod enclosed;
 mod globals;
 pub mod layout;
-pub mod leaving;
 mod marks;
 mod name;
 mod query;
@@ -18,16 +17,18 @@ ghost use Rattle.definition.specs.Opcode.{instr, width};
 ghost use Rattle.definition.specs.SymbolTable.{load_of};
 ghost use Rattle.definition.specs.Decode.{words_in};
 ghost use Rattle.field.specs.Layout.{after};
-ghost use Rattle.symbol_table.specs.Name.{Stands, Row};
+ghost use Rattle.symbol_table.specs.Name.{Row};
 ghost use Rattle.symbol_table.specs.Layout.{globals_size, part_size, base, part, symbol_of, Sized, Good};
 ghost use Rattle.symbol_table.specs.Symbols.{meant_by};
 ghost use Rattle.symbol_table.specs.Contract.{lookup_reason, define_reason, Inside, Resolves, DefinesLocal, Defines, Enters, HasWords, HasNames, HasItems, StartsFrom, Starts};
 
 use definition::Reason;
+pub use enclosed::Part;
 use enclosed::{open_in, part_range, place_in};
 use globals::{place_global, start_in};
 use layout::{BUILTIN, FREE, GLOBAL, LOCAL};
-use name::{Key, Label};
+pub use name::Key;
+use name::Label;
 use opcode::opcodes;
 use query::{Known, Query};
 
@@ -119,20 +120,16 @@ pub struct Load {
 
 // A name's symbol, with the builtins that the session begins with, or document 01's.
 pub fn resolve_name(
-    tree: &[u8],
+    key: Key<'_>,
     names: &[u8],
     table: &mut [u32],
     level: usize,
-    name: usize,
 ) -> Result<Found, LookupError>
     requires has_words { HasWords names.now }
     requires level_in_bounds { base level ≤ length table.old }
-    requires good { Good tree.now names.now level table.old }
-    requires stands { Stands tree.now name }
-    requires name_lt_tree_limit { name < tree_limit }
-    ensures { Resolves (words_in names.now) tree.now names.now level name result table.old table.new }
+    requires good { Good key.tree.now names.now level table.old }
+    ensures { Resolves (words_in names.now) key.entry.tree.now names.now level key.entry.at result table.old table.new }
 {
-    let key = Key::new(tree, name);
     if level == 0 {
         return Query { key, names }.find_outermost(table);
     }
@@ -149,19 +146,11 @@ fn place_at(table: &mut [u32], level: usize, label: Label) -> Result<Slot, Defin
 }
 
 // A definition more, in the innermost of so many open functions, or among the globals.
-pub fn define(
-    tree: &[u8],
-    table: &mut [u32],
-    level: usize,
-    name: usize,
-) -> Result<Slot, DefineError>
+pub fn define(key: Key<'_>, table: &mut [u32], level: usize) -> Result<Slot, DefineError>
     requires level_in_bounds { base level ≤ length table.old }
-    requires good { (names : Bytes) × Good tree.now names level table.old }
-    requires stands { Stands tree.now name }
-    requires name_lt_tree_limit { name < tree_limit }
-    ensures { Defines tree.now level name result table.old table.new }
+    requires good { (names : Bytes) × Good key.tree.now names level table.old }
+    ensures { Defines key.entry.tree.now level key.entry.at result table.old table.new }
 {
-    let key = Key::new(tree, name);
     if level == 0 {
         let Some(globals) = table.first_chunk_mut() else {
             unreachable!()
@@ -172,15 +161,14 @@ pub fn define(
 }
 
 // One function more is open, with its name and its parameters.
-pub fn enter(tree: &[u8], table: &mut [u32], level: usize, name: usize, row: usize, n: usize)
+pub fn enter(key: Key<'_>, table: &mut [u32], level: usize, row: usize, n: usize)
     requires part_size_in_bounds { base level + part_size ≤ length table.old }
-    requires tree_len_bound { length tree.now ≤ tree_limit }
-    requires stands { Stands tree.now name }
-    requires row { Row tree.now n row }
+    requires tree_len_bound { length key.tree.now ≤ tree_limit }
+    requires row { Row key.tree.now n row }
     requires n_le_arguments_limit { n ≤ arguments_limit }
-    ensures { Enters tree.now level name row n table.old table.new }
+    ensures { Enters key.entry.tree.now level key.entry.at row n table.old table.new }
 {
-    open_in(&mut table[part_range(level)], &Key::new(tree, name), row, n);
+    open_in(&mut table[part_range(level)], &key, row, n);
 }
 
 // The table area as a walk starts: the names from an offset up to an end are the globals, and no function is open.

@@ -1,12 +1,13 @@
 // The marks of an open function's part: by them a lookup of a builtin or a global passes the function's table over.
-// Kept: a part is a slice, and an area with a level a part of it, as in `enclosed`.
+// Kept: a part that is written is a slice, and an area with a level a part of it, as in `enclosed`: a struct of `&mut` numbers would have a
+// clause in each promise that they are the same slice, in the place of the one on the length.
 ghost use Rattle.std.specs.Prelude.{◌≡◌, false, ◌+◌, ◌<◌, ◌≤◌, length, get_or};
-ghost use Rattle.symbol_table.specs.Layout.{part_size, marked_at, marks_at, base, part, entries, IsMarked, Sized};
+ghost use Rattle.symbol_table.specs.Layout.{part_size, marked_at, marks_at, base, part, IsMarked};
 ghost use Rattle.symbol_table.specs.Store.{mark_in};
 ghost use Rattle.symbol_table.specs.Lookups.{Opened, IsKnown, MarksEntries, Lacks};
 ghost use Rattle.symbol_table.specs.Contract.{Inside, SameBelow, BeginsMarks, MarksNext, code_or};
 
-use super::enclosed::{count, number_at, part, part_range};
+use super::enclosed::{Part, part_range};
 use super::layout::{CODE_UNIT, ENTRIES_AT, MARKED_AT, MARKS, MARKS_AT, SHORT};
 use super::name::Key;
 use super::query::{Known, Query};
@@ -33,12 +34,11 @@ fn mark(part: &mut [u32], code: u32)
 }
 
 // Whether the mark of a code is set.
-fn is_marked(part: &[u32], code: u32) -> bool
-    requires { length part.now ≡ part_size }
-    ensures { result ≡ false → IsMarked part.now code → ⊥ }
+fn is_marked(part: Part<'_>, code: u32) -> bool
+    ensures { result ≡ false → IsMarked part.entry.numbers.now code → ⊥ }
 {
     let k = code % MARKS;
-    let v = part[MARKS_AT + (k / 32) as usize];
+    let v = part.numbers[MARKS_AT + (k / 32) as usize];
     (v >> (k % 32)) % 2 == 1
 }
 
@@ -77,31 +77,14 @@ fn next_at(table: &mut [u32], level: usize, code: Option<u32>)
     mark_next(&mut table[part_range(level)], code);
 }
 
-// Whether the mark of a code is set in the part of the function at a level.
-fn is_marked_at(table: &[u32], level: usize, code: u32) -> bool
-    requires { base level + part_size ≤ length table.now }
-    ensures { result ≡ false → IsMarked (part level table.now) code → ⊥ }
-{
-    is_marked(part(table, level), code)
-}
-
-// How many entries the function at a level has.
-pub fn count_at(table: &[u32], level: usize) -> usize
-    requires part_size_in_bounds { base level + part_size ≤ length table.now }
-    requires sized { Sized (part level table.now) }
-    ensures { result ≡ entries (part level table.now) }
-{
-    count(part(table, level))
-}
-
 // The entries of the function at a level, n of them, are marked, those that are not yet.
 fn mark_entries(query: &Query, table: &mut [u32], level: usize, n: usize)
     requires { Opened query.now level n table.old }
     ensures { MarksEntries query.now level table.old table.new }
 {
-    let from = number_at(table, level, MARKED_AT) as usize;
+    let from = Part::of(table, level).numbers[MARKED_AT] as usize;
     for i in from..n {
-        let name = (number_at(table, level, ENTRIES_AT + i) % CODE_UNIT) as usize;
+        let name = (Part::of(table, level).numbers[ENTRIES_AT + i] % CODE_UNIT) as usize;
         let other = Query {
             key: Key::new(query.key.tree, name),
             names: query.names,
@@ -124,7 +107,7 @@ pub fn is_absent(query: &Query, table: &mut [u32], level: usize, n: usize, known
         return false;
     }
     mark_entries(query, table, level, n);
-    if is_marked_at(table, level, code) {
+    if is_marked(Part::of(table, level), code) {
         return false;
     }
     true

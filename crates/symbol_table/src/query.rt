@@ -4,10 +4,10 @@ ghost use Rattle.symbol_table.specs.Layout.{part_size, base, part, Sized};
 ghost use Rattle.symbol_table.specs.Contract.{Few, Inside, Crosses};
 ghost use Rattle.symbol_table.specs.Lookups.{Outside, Opened, Standing, IsKnown, HasCode, IsOutermost, IsEntry, Remarks, IsResolved};
 
-use super::enclosed::{cross_in, find_in, part, part_range};
+use super::enclosed::{Part, count, cross_in, find_in, part_range};
 use super::globals::find_global;
 use super::layout::{GLOBALS_SIZE, PART_SIZE, SHORT};
-use super::marks::{count_at, is_absent};
+use super::marks::is_absent;
 use super::name::{Key, Label};
 use super::words::find_builtin;
 use super::{Found, LookupError};
@@ -51,7 +51,12 @@ impl<'a> Query<'a> {
         requires { Opened self.now level n table.now }
         ensures { IsEntry self.now level table.now result }
     {
-        find_in(&self.key.name, self.key.tree, part(table, level), n)
+        find_in(
+            &self.key.name,
+            self.key.tree,
+            Part::of(table, level).numbers,
+            n,
+        )
     }
 
     // The global or the builtin of the name: outside all functions, globals come before builtins.
@@ -140,7 +145,7 @@ impl<'a> Query<'a> {
             return self.resolve_outermost(table, known);
         }
         let l = level - 1;
-        let n = count_at(table, l);
+        let n = count(Part::of(table, l).numbers);
         let outside = self.known_for(table, n, known);
         if let Some(code) = self.look_at(table, l, n, outside) {
             return Ok(Found { code, crossed: 0 });

@@ -6,7 +6,7 @@ ghost use Rattle.definition.specs.Field.{field};
 ghost use Rattle.definition.specs.Tag.{tag_name, tag_operator};
 ghost use Rattle.definition.specs.Node.{larger as largerOf};
 ghost use Rattle.text.specs.Parse.{NamesRow, ParametersRow};
-ghost use Rattle.text.specs.Shape.{separating as separatingOf, operand_tag};
+ghost use Rattle.text.specs.Shape.{separating as separatingOf};
 ghost use Rattle.text.specs.Kind.{number_of};
 ghost use Rattle.text.specs.declared.kind.Kind.TheVariants as kinds;
 ghost use Rattle.text.specs.Parts.{end_of, head_of, Sees, Holds, content_of, PutToken, Ready, Writes, WritesNode, Skips, Passes, Named, joined_of, moved_on, closed_of};
@@ -183,29 +183,13 @@ fn put_content(text: &[u8], output: &mut [u8], token: Token, to: usize) -> usize
     }
 }
 
-// A field of such content.
-fn put_field(text: &[u8], output: &mut [u8], tag: u8, token: Token, to: usize) -> Part
+// A field of such content: a name's, or that of an operand that is one token.
+pub fn put_field(text: &[u8], output: &mut [u8], tag: u8, token: Token, to: usize) -> Part
     requires { Holds text.now token × (to < 1000000) }
     ensures { PutToken tag text.now token to output.old output.new result }
 {
     let end = put_content(text, output, token, to + 3);
     close(output, to, tag, Part::empty(token.end, end))
-}
-
-// An operand that is one token.
-pub fn put_leaf(text: &[u8], output: &mut [u8], token: Token, to: usize) -> Part
-    requires { Holds text.now token × (to < 1000000) }
-    ensures { PutToken (operand_tag (number_of token.kind)) text.now token to output.old output.new result }
-{
-    put_field(text, output, token.kind.operand_tag(), token, to)
-}
-
-// A name's field.
-pub fn put_name(text: &[u8], output: &mut [u8], token: Token, to: usize) -> Part
-    requires { Holds text.now token × (to < 1000000) }
-    ensures { PutToken tag_name text.now token to output.old output.new result }
-{
-    put_field(text, output, tag::NAME, token, to)
 }
 
 // A name of no bytes.
@@ -237,7 +221,7 @@ fn put_names(text: &[u8], output: &mut [u8], at: usize, to: usize) -> Part
     let mut names = Part::empty(at, to);
     for token in Tokens::new(text, at) {
         match token.kind {
-            Kind::Name => names = names.joined(put_name(text, output, token, names.to)),
+            Kind::Name => names = names.joined(put_field(text, output, tag::NAME, token, names.to)),
             Kind::Comma => names = names.moved_on(token.end),
             _ => return names.moved_on(token.end),
         }
@@ -269,7 +253,7 @@ pub fn named(text: &[u8], output: &mut [u8], name: Token, to: usize, value: Part
     }
     let by = name.end - name.start;
     make_room(output, to + 6, value.to, by);
-    put_name(text, output, name, to + 3);
+    put_field(text, output, tag::NAME, name, to + 3);
     put_head(output, to, tag::FUNCTION, value.to + by);
     Part {
         to: value.to + by,

@@ -34,6 +34,7 @@ pub fn put_head(output: &mut [u8], to: usize, tag: u8, end: usize)
 }
 
 // Moves the bytes from an offset up to another further back.
+// Kept: offsets and no slice, since an output of no bytes measures, and has no such part.
 pub fn make_room(output: &mut [u8], from: usize, end: usize, by: usize)
     requires { (from ≤ end) × (end < 1048576) × (by < 10000) }
     ensures { output.new ≡ moved_by output.old from end by }

@@ -6,15 +6,16 @@ ghost use Rattle.text.specs.Parts.{end_of, Sees, Ready, Writes, WritesNode, Spar
 
 use crate::kind::Kind;
 use crate::part::{
-    Part, close, item_start, named, put_empty_name, put_leaf, put_name, put_operator,
-    put_parameters, skip_groups, token_at,
+    Part, close, item_start, named, put_empty_name, put_field, put_operator, put_parameters,
+    skip_groups, token_at,
 };
 use crate::put::make_room;
 use crate::scan::Token;
 use definition::tag;
 
 // Kept: text and output stay two parameters, one lent to be read and one to be written: a struct of both would say in each contract
-// below that the text and the output's place are as they were.
+// below that the text and the output's place are as they were. `Ready` stays a clause: how much room it asks for differs, and as a ghost
+// field the least would stand beside the clauses that ask for more.
 // From where a part is put: its offsets in the text and in the output, and how many levels are left.
 #[derive(Clone, Copy)]
 struct Place {
@@ -59,25 +60,19 @@ fn write_expression(text: &[u8], output: &mut [u8], from: Place, least: usize) -
             if token.kind.ends_at(opened, least) {
                 return so_far;
             }
-            so_far = write_continued(text, output, token, to, so_far, left);
+            so_far = write_continued(text, output, token, from, so_far);
         }
     }
 }
 
 // A call, an index or an infix operator behind its left operand, which moves to make room for a head.
 #[cycle(write)]
-fn write_continued(
-    text: &[u8],
-    output: &mut [u8],
-    token: Token,
-    to: usize,
-    before: Part,
-    left: usize,
-) -> Part
-    requires ready { Ready 140003 text.now before.at before.to left × (before.at < token.end) × (token.end ≤ end_of text.now) × (to ≤ before.to) }
-    requires levels_bound { before.levels ≤ left + 2 }
-    ensures { Continues text.now token to before left output.old output.new result }
+fn write_continued(text: &[u8], output: &mut [u8], token: Token, from: Place, before: Part) -> Part
+    requires ready { Ready 140003 text.now before.at before.to from.left × (before.at < token.end) × (token.end ≤ end_of text.now) × (from.to ≤ before.to) }
+    requires levels_bound { before.levels ≤ from.left + 2 }
+    ensures { Continues text.now token from.to before from.left output.old output.new result }
 {
+    let Place { to, left, .. } = from;
     if left <= before.levels {
         return Part::deep(text, before.to, left);
     }
@@ -102,7 +97,7 @@ fn write_operand(text: &[u8], output: &mut [u8], from: Place) -> Part
     let token = token_at(text, at);
     match token.kind {
         Kind::Ended => Part::empty(token.end, to),
-        kind if kind.is_leaf() => put_leaf(text, output, token, to),
+        kind if kind.is_leaf() => put_field(text, output, kind.operand_tag(), token, to),
         kind => {
             let behind = Place {
                 at: token.end,
@@ -293,7 +288,7 @@ fn write_let(text: &[u8], output: &mut [u8], from: Place) -> Part
     ensures { Writes LetRow text.now from.at from.to 11 from.left output.old output.new result }
 {
     let name = token_at(text, from.at);
-    let first = put_name(text, output, name, from.to);
+    let first = put_field(text, output, tag::NAME, name, from.to);
     let token = token_at(text, name.end);
     let behind = Place {
         at: token.end,

@@ -119,41 +119,8 @@ fn log_lent(session: &[u8], tree: &[u8], code: &mut [u8], table: &mut [u32], nam
     )
 }
 
-// A call with fewer records than Identifiers: without an output, so that no tree is accepted.
-fn trace_few(
-    session: &mut [u8],
-    tree: &[u8],
-    output: &mut [u8],
-    code: &mut [u8],
-    table: &mut [u32],
-) -> Result<CallTrace, Refusal>
-    requires { Long session.old code.old table.old }
-    ensures { (o : Outlook) → LooksAhead tree.now (take session_size session.old) o → (room : ℕ) → room < o.count → Traces tree.now (lent_of session.old output.old code.old table.old) room result (lent_of session.new output.new code.new table.new) }
-{
-    let answer = compile(session, tree, &mut output[..0], code, table);
-    Err(few(answer))
-}
-
-// A call with enough records: where the tree is accepted they are logged.
-fn trace_enough(
-    session: &mut [u8],
-    tree: &[u8],
-    output: &mut [u8],
-    code: &mut [u8],
-    table: &mut [u32],
-    names: usize,
-) -> Result<CallTrace, Refusal>
-    requires long { Long session.old code.old table.old }
-    requires looks_ahead { (o : Outlook) × LooksAhead tree.now (take session_size session.old) o × (o.names ≡ names) }
-    ensures { (o : Outlook) → LooksAhead tree.now (take session_size session.old) o → (room : ℕ) → o.count ≤ room → Traces tree.now (lent_of session.old output.old code.old table.old) room result (lent_of session.new output.new code.new table.new) }
-{
-    let length = compile(session, tree, output, code, table)?;
-    let count = log_lent(session, tree, code, table, names);
-    clear_table(table);
-    Ok(CallTrace { length, count })
-}
-
-// Compiles a tree, and logs the records of one that is accepted, in buffers that are large enough.
+// Compiles a tree, and logs the records of one that is accepted, in buffers that are large enough. With fewer records than Identifiers it
+// compiles without an output, so that no tree is accepted.
 fn trace_lent(
     session: &mut [u8],
     tree: &[u8],
@@ -167,9 +134,13 @@ fn trace_lent(
 {
     let ahead = look_lent(session, tree, code, table);
     if room < ahead.count {
-        return trace_few(session, tree, output, code, table);
+        let answer = compile(session, tree, &mut output[..0], code, table);
+        return Err(few(answer));
     }
-    trace_enough(session, tree, output, code, table, ahead.names)
+    let length = compile(session, tree, output, code, table)?;
+    let count = log_lent(session, tree, code, table, ahead.names);
+    clear_table(table);
+    Ok(CallTrace { length, count })
 }
 
 // Compiles a tree in a session with so many records, and leaves all as such a call does but for two things: the records to be written are in a log at

@@ -9,6 +9,7 @@ use records::{Kind, Record};
 use symbol_table::Symbol;
 
 // Writes record n behind those before it: an Identifier's offset, its symbol's code and the functions crossed.
+// Kept: packed by hand, four bytes for each record, since the log is a part of the code area, which is lent.
 pub fn put_entry(log: &mut [u8], n: usize, at: usize, code: usize, crossed: usize)
     requires n_in_bounds { 4 * n + 4 ≤ length log.old }
     requires at_lt_tree_limit { at < tree_limit }

@@ -18,7 +18,7 @@ use definition::operator::LESS_THAN;
 use definition::tag;
 use field::after_at;
 use field::fields::Fields;
-use symbol_table::{define, enter, resolve_name, start_from};
+use symbol_table::{Key, define, enter, resolve_name, start_from};
 use tree::count_fields;
 
 // Whether the names of a field of a tag are those of its children, in order.
@@ -47,6 +47,8 @@ struct Namer<'a> {
     count: usize,
 }
 
+// Kept: tree, names and level stay parameters, and what stands well is a clause of each method: a struct of the four slices would say in
+// each promise that tree and names are as they were, and the level differs inside a function.
 impl<'a> Namer<'a> {
     // Looks an Identifier up, and logs its record.
     fn log_identifier(&mut self, tree: &[u8], names: &[u8], level: usize, at: usize)
@@ -54,7 +56,7 @@ impl<'a> Namer<'a> {
         requires standing { Stands tree.now names.now level self.old 4 }
         ensures { Names tree.now names.now level Anything (λ _. look_up at (content tree.now at)) 4 self.old self.new }
     {
-        if let Ok(found) = resolve_name(tree, names, self.table, level, at) {
+        if let Ok(found) = resolve_name(Key::new(tree, at), names, self.table, level) {
             put_entry(self.log, self.count, at, found.code as usize, found.crossed);
             self.count += 1;
         }
@@ -81,6 +83,7 @@ impl<'a> Namer<'a> {
     }
 
     // Logs the records of the fields from an offset up to an end.
+    // Kept: both offsets, as `Fields` takes them.
     #[cycle(pass)]
     fn name_row(&mut self, tree: &[u8], names: &[u8], level: usize, from: usize, end: usize)
         requires some { Some (ReadsNodes tree.now from end) }
@@ -95,20 +98,18 @@ impl<'a> Namer<'a> {
     // A let: its name is defined before its value.
     #[cycle(pass)]
     fn name_let(&mut self, tree: &[u8], names: &[u8], level: usize, at: usize)
-        requires whole { Whole tree.now at }
         requires some { Some (LetAt tree.now (ReadsExpr tree.now) at) }
         requires standing { Stands tree.now names.now level self.old (3 + len tree.now at) }
         ensures { Names tree.now names.now level (LetAt tree.now (ReadsExpr tree.now) at) (walk_stmt naming) (3 + len tree.now at) self.old self.new }
     {
         let end = after_at(tree, at);
-        let _ = define(tree, self.table, level, at + 3);
+        let _ = define(Key::new(tree, at + 3), self.table, level);
         self.name_row(tree, names, level, at + 3, end)
     }
 
     // An infix: for `<` its right operand comes first.
     #[cycle(pass)]
     fn name_infix(&mut self, tree: &[u8], names: &[u8], level: usize, at: usize)
-        requires whole { Whole tree.now at }
         requires some { Some (InfixAt tree.now (ReadsExpr tree.now) at) }
         requires standing { Stands tree.now names.now level self.old (3 + len tree.now at) }
         ensures { Names tree.now names.now level (InfixAt tree.now (ReadsExpr tree.now) at) (walk_expr naming) (3 + len tree.now at) self.old self.new }
@@ -138,7 +139,7 @@ impl<'a> Namer<'a> {
         if ARGUMENTS_LIMIT < k {
             return;
         }
-        enter(tree, self.table, level, at + 3, params + 3, k);
+        enter(Key::new(tree, at + 3), self.table, level, params + 3, k);
         self.name_field(tree, names, level + 1, body)
     }
 
@@ -155,6 +156,7 @@ impl<'a> Namer<'a> {
 }
 
 // Logs the records of a whole tree that was checked, with the session's names from an offset up to an end. How many there are.
+// Kept: the slices one by one, with both offsets, as `start_from` takes them.
 pub fn name_tree(
     session: &[u8],
     tree: &[u8],

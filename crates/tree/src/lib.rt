@@ -49,7 +49,7 @@ fn outcome(n: usize) -> Result<(), Refusal>
 }
 
 // Whether a whole field that is wanted stands at `at`, before `end`: its tag, its length and its own bytes.
-// Kept: offsets and no slice, since a refusal names the offset in the tree.
+// Kept: offsets and no slice: `check_all` reads at offsets in the tree, and a slice needs a lemma that moves what it says to them.
 fn good_field(tree: &[u8], wanted: Wanted, at: usize, end: usize) -> bool
     requires { (at ≤ end) × (end ≤ length tree.now) }
     ensures { result ≡ good_wanted (byte_at tree.now) wanted at end }
@@ -70,6 +70,7 @@ fn good_field(tree: &[u8], wanted: Wanted, at: usize, end: usize) -> bool
 
 // The children of the field at `parent`, whose content goes up to `end`, in order; then whether one is missing. The answer is a refusal's number.
 // Kept: `field::fields::Fields` goes over fields that are known to be whole, and here each is tested before the next can be found.
+// `k` is counted beside `at`: `kinds.iter().cycle()` would answer an `Option` that is never `None`, and behind the loop it is read, too.
 fn check_children(tree: &[u8], levels: usize, parent: usize, end: usize) -> usize
     requires { (parent + 3 ≤ end) × (end ≤ length tree.now) × (end ≤ tree_limit) }
     ensures { outcome_of result ≡ check_all (byte_at tree.now) levels parent end }
@@ -106,22 +107,14 @@ pub fn check(tree: &[u8]) -> Result<(), Refusal>
     ensures { result ≡ verdict (read_tree tree.now) }
 {
     let n = tree.len();
-    if n < 3 {
-        return refused(Reason::BadTree, 0);
-    }
-    if TREE_LIMIT < n {
-        return refused(Reason::BadTree, 0);
-    }
-    if tree[0] != tag::PROGRAM {
-        return refused(Reason::BadTree, 0);
-    }
-    if 3 + length_at(tree, 0) != n {
+    if n < 3 || TREE_LIMIT < n || tree[0] != tag::PROGRAM || 3 + length_at(tree, 0) != n {
         return refused(Reason::BadTree, 0);
     }
     outcome(check_children(tree, LEVEL_LIMIT - 1, 0, n))
 }
 
 // How many fields stand in a row, from an offset up to an end.
+// Kept: both offsets, as `Fields` takes them.
 pub fn count_fields(tree: &[u8], from: usize, end: usize) -> usize
     requires { Some (InRow tree.now from end) }
     ensures { Counted tree.now from end result }

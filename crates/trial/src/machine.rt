@@ -58,6 +58,7 @@ fn keep(work: &mut [u64], at: usize, x: Value)
 }
 
 // The top of a stack that is so high.
+// Kept: the whole work area with a height, here and below, since a value's kind stands KINDS numbers behind its word, outside the stack.
 fn top(work: &[u64], height: usize) -> Value
     requires { (length work.now ≡ work_size) × (1 ≤ height) × (height ≤ 1024) }
     ensures { (st : List Value) → Stacked work.now height st → result ≡ topmost st }

@@ -26,8 +26,23 @@ fn runnable(program: Program<'_>, i: Instruction) -> bool
     match i.op {
         opcodes::CONSTANT => integer_at(program, usize::from(i.operand)).is_some(),
         opcodes::GET_GLOBAL | opcodes::SET_GLOBAL => usize::from(i.operand) < GLOBALS_LIMIT,
-        opcodes::RETURN_VALUE => true,
-        op => op < opcodes::ARRAY,
+        opcodes::ADD
+        | opcodes::POP
+        | opcodes::SUB
+        | opcodes::MUL
+        | opcodes::DIV
+        | opcodes::TRUE
+        | opcodes::FALSE
+        | opcodes::EQUAL
+        | opcodes::NOT_EQUAL
+        | opcodes::GREATER_THAN
+        | opcodes::MINUS
+        | opcodes::BANG
+        | opcodes::JUMP_NOT_TRUTHY
+        | opcodes::JUMP
+        | opcodes::NULL
+        | opcodes::RETURN_VALUE => true,
+        _ => false,
     }
 }
 

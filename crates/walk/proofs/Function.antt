@@ -13,20 +13,10 @@ use Rattle.scope.specs.Walked.{Walked, Stopped}
 use Rattle.scope.specs.declared.State.{State}
 use Rattle.std.specs.Prelude.{Ok, Err}
 use Rattle.step.specs.Memory.{Rest, symbols_of, settled, memory, Deeper, Keeps, Walks}
-use Rattle.step.specs.Contract.{HeadAt, Enters, Leaves, Inside}
+use Rattle.step.specs.Contract.{Enters, Leaves, Inside}
 use Rattle.step.proofs.Memory.{chain, stop_deeper, deeper_keeps}
 use Rattle.tree.specs.At.{FunctionAt}
-use Rattle.tree.specs.Reads.{Some, ReadsBlock, ReadsStmts, Counted}
-use Rattle.tree.proofs.Inside as tree_inside
-use Rattle.tree.proofs.Inside.{function_inside}
-
--- a function's body lies inside it
-pub body_inside : {tree : Bytes} {at params body : ℕ} → params ≡ after tree (at + 3) → body ≡ after tree params → Some (FunctionAt tree (ReadsBlock tree) at) → tree_inside.Inside tree body at
-body_inside q p (e, i) = rw (p, q) (function_inside i).2
-
--- its name and its counted parameters
-pub function-head : {tree : Bytes} {at params body n : ℕ} → params ≡ after tree (at + 3) → body ≡ after tree params → Counted tree (params + 3) body n → Some (FunctionAt tree (ReadsBlock tree) at) → HeadAt tree at n
-function-head {n = n} q p k (e, i) = record { named = i.named.whole; params = (i.params, i.on_params); counted = rw (p, q) at k }
+use Rattle.tree.specs.Reads.{ReadsBlock, ReadsStmts, Counted}
 
 -- behind a body that was walked inside it, all stands inside it still
 pub inside_walked : {o i s : State} → Deeper 1 (Ok o) (Ok i) → Keeps (Ok i) (Ok s) → Inside o s

@@ -15,10 +15,9 @@ use Rattle.scope.specs.declared.State.{State}
 use Rattle.std.specs.Prelude.{Ok, Err}
 use Rattle.step.specs.Memory.{Rest, Fine, Walks}
 use Rattle.tree.specs.At.{IfAt}
-use Rattle.tree.specs.Reads.{Some, Branches, ReadsStmts, ReadsExpr, ReadsBlock, ReadsOther, ReadsBranches}
+use Rattle.tree.specs.Reads.{Branches, ReadsStmts, ReadsExpr, ReadsBlock, ReadsOther, ReadsBranches}
 use Rattle.step.proofs.Memory.{done_steps}
 use Rattle.tree.proofs.Children.{has_else, no-else}
-use Rattle.tree.proofs.Inside.{Inside, else_inside}
 use Rattle.walk.specs.Parts.{walk_branch, walk_other, walk_branches}
 use Rattle.walk.proofs.Sequence.{walks_as, walk_walk, walk_done, jump_walk, jump_refused}
 
@@ -29,14 +28,6 @@ pub branch_walks : {tree : Bytes} {at end : ℕ} (place : ℕ) {c c₁ c₂ : By
 branch_walks place q d e = walks_as (λ b i. (b, rw q i.body, refl)) (walk_done d e)
 
 module _ {tree : Bytes} {place branch at end : ℕ} where
-  -- there is another branch
-  pub else_first : branch ≡ after tree (place + 3) → at ≡ after tree branch → end ≡ after tree place → at < end → Some (ReadsOther tree place) → Some (ReadsBlock tree at)
-  else_first q p z h (o, i) = let j = has_else o (rw (p, q, z) at h) i in (j.0, rw (p, q) j.2)
-
-  -- inside the if
-  pub other_inside : branch ≡ after tree (place + 3) → at ≡ after tree branch → end ≡ after tree place → at < end → Some (ReadsOther tree place) → Inside tree at place
-  other_inside q p z h (o, i) = let j = has_else o (rw (p, q, z) at h) i in rw (p, q) (else_inside (rw j.1 at i))
-
   pub else_walks : {c c₁ : Bytes} {m m₁ : Rest} {w r : Walked} → branch ≡ after tree (place + 3) → at ≡ after tree branch → end ≡ after tree place → at < end
       → Walks tree (ReadsBlock tree at) (walk_branch place) c c₁ m m₁ w r → Walks tree (ReadsOther tree place) (walk_other place) c c₁ m m₁ w r
   unfolding walk_expr

@@ -13,7 +13,6 @@ use Rattle.scope.specs.Walked.{Walked, Stopped, walked, stopped}
 use Rattle.scope.specs.declared.State.{State}
 use Rattle.std.specs.Prelude.{Ok, Err, Result}
 use Rattle.step.specs.Memory.{Rest, symbols_of, settled, answered, memory, Fine, Walks}
-use Rattle.walk.specs.Parts.{Standing}
 use Rattle.step.proofs.Memory.{chain, follow, keeps_refl, deeper_keeps, same_symbols, done_steps}
 
 -- Walks in a row
@@ -26,10 +25,6 @@ module _ {tree : Bytes} {A : Type 0} {R : A → Type 0} {k : A → Go View} {c c
   -- the same walk, of what stands there by another name
   pub walks_as : {B : Type 0} {Q : B → Type 0} {l : B → Go View} {w r : Walked} → ((b : B) → Q b → (a : A) × R a × (l b ≡ k a)) → Walks tree R k c c' m m' w r → Walks tree Q l c c' m m' w r
   walks_as f d = record { step = λ b q. let i = f b q in rw i.2 (d.step i.0 i.1); ready = d.ready; fine = d.fine; keeps = d.keeps }
-
-  -- where it goes on all stands well still
-  pub onward : {s t : State} → Standing tree m s → Walks tree R k c c' m m' (Ok s) (Ok t) → Standing tree m' t
-  onward s d = record { fine = d.fine; short = s.short }
 
 -- a walk, and then a walk
 pub walk_walk : {tree : Bytes} {A B : Type 0} {R : A → Type 0} {Q : B → Type 0} {k : A → Go View} {l : B → Go View} {c c₁ c₂ : Bytes} {m m₁ m₂ : Rest} {w v r : Walked}
@@ -53,9 +48,6 @@ done_refuses h q = rw q (record { step = λ _ _. refl; ready = record { area = h
 
 -- A walk that has stopped stays as it is
 module _ {c : Bytes} {z : Stopped} (h : Ready c (Err z)) where
-  pub done_stays : {k : Go View} → Done c c (Err z) (Err z) k
-  done_stays = record { step = λ _ _. refl; ready = h; same = refl }
-
   pub walk_stays : {tree : Bytes} {A : Type 0} {R : A → Type 0} {k : A → Go View} {m : Rest} → Walks tree R k c c m m (Err z) (Err z)
   walk_stays = record { step = λ _ _. refl; ready = h; fine = tt; keeps = keeps_refl (Err z) }
 
@@ -74,10 +66,6 @@ module _ {c c' : Bytes} {s t : State} {f : View → Res View ℕ} where
   jumped_answer : (tree : Bytes) (m : Rest) (r : Result ℕ Refusal) → Jumped c c' (Ok s) r t f → answered tree c' m r t ≡ settled (bind (memory tree c m (Ok s)) (λ _. f))
   jumped_answer tree m (Ok n) d = ap (λ y. on n (view c' m.session y t)) (same_symbols tree m s t d.same) ∙ ap settled (d.step m.session (symbols_of tree m s))
   jumped_answer tree m (Err z) d = ap settled (d.step m.session (symbols_of tree m s))
-
-  -- after it all stands well still
-  pub jumped_on : {tree : Bytes} {m : Rest} {n : ℕ} → Standing tree m s → Jumped c c' (Ok s) (Ok n) t f → Standing tree m t
-  jumped_on {n = n} h d = record { fine = (done_steps h.fine (jumped_done (Ok n) d)).fine; short = h.short }
 
   module _ {tree : Bytes} {A : Type 0} {R : A → Type 0} (k : ℕ → A → Go View) {m : Rest} (h : Fine tree m (Ok s)) where
     -- a walk after it, to which its position is given

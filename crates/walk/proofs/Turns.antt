@@ -4,7 +4,7 @@ use native.Mathlib.Omega.{arith}
 use mathlib.Core.Path.{◌≡◌, refl, sym, ap, ◌∙◌}
 use Rattle.definition.specs.Basic.{Bytes}
 use Rattle.definition.specs.Walk.{on, Go, walk_stmt, walk_stmts, walk_expr, walk_exprs}
-use Rattle.field.specs.Layout.{after, Whole}
+use Rattle.field.specs.Layout.{after}
 use Rattle.scope.specs.View.{View, then, Ready}
 use Rattle.scope.specs.Machine.{machine}
 use Rattle.scope.specs.Walked.{Walked, Stopped}
@@ -115,15 +115,9 @@ module _ {tree : Bytes} {at end : ℕ} where
   pub stmts_fit : at < end → Some (ReadsStmts tree at end) → after tree at ≤ end
   stmts_fit h (b, r) = (first_stmt b h r).fits
 
-  pub stmts_whole : at < end → Some (ReadsStmts tree at end) → Whole tree at
-  stmts_whole h (b, r) = (first_stmt b h r).here.field.whole
-
   -- the expression likewise
   pub exprs_first : at < end → Some (ReadsExprs tree at end) → Some (ReadsExpr tree at)
   exprs_first h (b, r) = let i = first_expr b h r in (i.one, i.here)
 
   pub exprs_fit : at < end → Some (ReadsExprs tree at end) → after tree at ≤ end
   exprs_fit h (b, r) = (first_expr b h r).fits
-
-  pub exprs_whole : at < end → Some (ReadsExprs tree at end) → Whole tree at
-  exprs_whole h (b, r) = (first_expr b h r).here.field.whole

@@ -23,6 +23,8 @@ use step::{define, enter, leave, literal, load};
 use tree::count_fields;
 
 // The memory that a walk is lent: the session, the table area, the code area with the state.
+// Kept: that all stands well is a clause of the methods, since a ghost field would have to hold after a refusal, too, when a lookup may have
+// captured in outer tables. The tree is their parameter: it is only read, so nothing need be said of it afterwards.
 #[derive(Drop)]
 struct Compiler<'a, 's> {
     session: &'a mut [u8],

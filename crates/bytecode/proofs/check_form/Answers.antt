@@ -8,10 +8,10 @@ pub returns-in_err-at : goal.returns-in_err-at
 returns-in_err-at c =
     rw (passed_on c.from_residual.ensures.1) (main_wrong c.args.form c.args.image.now c.check_main.ensures c.in_err-at.was)
 
-pub check_pool-requires : goal.check_pool-requires
-check_pool-requires c =
+pub invariant_of-rest : goal.invariant_of-rest
+invariant_of-rest c =
     let f = main_within c.args.form c.args.image.now c.check_main.ensures c.in_ok-at.was in
-    record { order = omega arith; within = omega arith }
+    record { within = record { order = omega arith; within = omega arith } }
 
 pub returns-in_err-pool : goal.returns-in_err-pool
 returns-in_err-pool c =

@@ -4,12 +4,16 @@ use Rattle.bytecode.proofs.Words.{own_row, own_good, own_repeated}
 use Rattle.bytecode.proofs.check_words.Goals as goal
 
 pub distinct_names-requires : goal.distinct_names-requires
-distinct_names-requires c = own_row c.args.session.now (first_is _ _ _ c.first.ensures.value c.ne.ensures c.if-ne.false) c.check_names.ensures c.in_ok-words.was
+distinct_names-requires c =
+    let e = c.whole.ensures in
+    own_row c.args.session.now (first_is _ _ _ c.first.ensures.value c.ne.ensures c.if-ne.false) (rw (e.bytes, e.at, e.end) at c.check_names.ensures) c.in_ok-words.was
 
 pub returns-then-distinct_names : goal.returns-then-distinct_names
 returns-then-distinct_names c =
-    own_good c.args.session.now (first_is _ _ _ c.first.ensures.value c.ne.ensures c.if-ne.false) c.check_names.ensures c.in_ok-words.was c.distinct_names.ensures c.if-distinct_names.true
+    let e = c.whole.ensures in
+    own_good c.args.session.now (first_is _ _ _ c.first.ensures.value c.ne.ensures c.if-ne.false) (rw (e.bytes, e.at, e.end) at c.check_names.ensures) c.in_ok-words.was c.distinct_names.ensures c.if-distinct_names.true
 
 pub returns : goal.returns
 returns c =
-    own_repeated c.args.session.now (first_is _ _ _ c.first.ensures.value c.ne.ensures c.if-ne.false) c.check_names.ensures c.in_ok-words.was c.distinct_names.ensures c.if-distinct_names.false
+    let e = c.whole.ensures in
+    own_repeated c.args.session.now (first_is _ _ _ c.first.ensures.value c.ne.ensures c.if-ne.false) (rw (e.bytes, e.at, e.end) at c.check_names.ensures) c.in_ok-words.was c.distinct_names.ensures c.if-distinct_names.false

@@ -3,13 +3,13 @@ use native.Mathlib.Omega.{arith}
 use Rattle.bytecode.proofs.Sessions.{was_ok, was_err, words_within, names_within, pool_broken, pool_within, tail_broken, layout_sound}
 use Rattle.bytecode.proofs.read_behind.Goals as goal
 
-pub check_names-requires : goal.check_names-requires
-check_names-requires c = record { order = words_within c.args.session.now c.requires; within = omega arith }
+pub invariant_of-rest : goal.invariant_of-rest
+invariant_of-rest c = record { within = record { order = words_within c.args.session.now c.requires; within = omega arith } }
 
-pub check_pool-requires : goal.check_pool-requires
-check_pool-requires c =
+pub invariant_of-behind : goal.invariant_of-behind
+invariant_of-behind c =
     let f = names_within c.args.session.now c.requires c.check_names.ensures (was_ok _ c.in_ok-names.ensures.value) in
-    record { order = omega arith; within = omega arith }
+    record { within = record { order = omega arith; within = omega arith } }
 
 pub returns-in_err-pool : goal.returns-in_err-pool
 returns-in_err-pool c =

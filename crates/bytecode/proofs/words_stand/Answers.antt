@@ -3,7 +3,11 @@ use Rattle.bytecode.proofs.Words.{handed-row, handed_tested}
 use Rattle.bytecode.proofs.words_stand.Goals as goal
 
 pub distinct_names-requires : goal.distinct_names-requires
-distinct_names-requires c = handed-row c.args.names.now c.check_name_fields.ensures c.in-Ok.is
+distinct_names-requires c =
+    let e = c.whole.ensures in
+    handed-row c.args.names.now (rw (e.bytes, e.at, e.end) at c.check_name_fields.ensures) c.in-Ok.is
 
 pub returns-in-Ok : goal.returns-in-Ok
-returns-in-Ok c = handed_tested c.args.names.now c.check_name_fields.ensures c.in-Ok.is c.distinct_names.ensures
+returns-in-Ok c =
+    let e = c.whole.ensures in
+    handed_tested c.args.names.now (rw (e.bytes, e.at, e.end) at c.check_name_fields.ensures) c.in-Ok.is c.distinct_names.ensures

@@ -28,17 +28,17 @@ returns-in_err-check_form c =
       writes = sym (ap (λ g. output_of g a.output.now) wrong);
     }
 
-pub returns-in-Err : goal.returns-in-Err
-returns-in-Err c =
+pub returns-in_err-put_form : goal.returns-in_err-put_form
+returns-in_err-put_form c =
     let a = c.args in
     let b = a.image.now in
     let put = c.put_form in
     let h = (let a = c.args in
     let bytes = are_bytes c.type_inv.image in
     sound_form a.from a.image.now c.check_form.ensures c.in_ok-check_form.was bytes) in
-    let bad = bad_form a.from b h.is (subst (λ r. TurnsImage a.from h.image b [] put.new.output r) c.in-Err.is (put.ensures h.image h.is)) in
+    let bad = bad_form a.from b h.is (subst (λ r. TurnsImage a.from h.image b [] put.new.output r) c.in_err-put_form.was (put.ensures h.image h.is)) in
     record {
-      answers = c.refused.ensures ∙ sym (ap (λ g. answer_of g (length a.output.now)) bad);
+      answers = passed_on c.from_residual-in_err-put_form.ensures.1 ∙ sym (ap (λ g. answer_of g (length a.output.now)) bad);
       writes = empty-part put.new.output a.output.now put.auto.output ∙ sym (ap (λ g. output_of g a.output.now) bad);
     }
 
@@ -51,7 +51,7 @@ returns c =
     let h = (let a = c.args in
     let bytes = are_bytes c.type_inv.image in
     sound_form a.from a.image.now c.check_form.ensures c.in_ok-check_form.was bytes) in
-    let fine = subst (λ r. TurnsImage a.from h.image b [] put.new.output r) c.in_default.is (put.ensures h.image h.is) in
+    let fine = subst (λ r. TurnsImage a.from h.image b [] put.new.output r) c.in_ok-put_form.was (put.ensures h.image h.is) in
     let copied = subst (λ o. Copied a.from h.image o write.result write.new.output) (empty-part put.new.output a.output.now put.auto.output) (write.ensures h.image h.is) in
     record {
       answers = fine_answer a.from b h.is fine copied;

@@ -1,5 +1,6 @@
 -- `step::enter` meets its contract: number 14, number 8, then a table and a chunk more.
 use mathlib.Core.Path.{refl}
+use native.Mathlib.Omega.{arith}
 use Rattle.step.proofs.Functions.{params_stand, enter-nested, enter-many, enter-on}
 use Rattle.step.proofs.enter.Goals as goal
 
@@ -9,8 +10,14 @@ returns-then-level-ge-NESTING_LIMIT c = rw c.refused.ensures (enter-nested c.req
 pub returns-then-n-gt-ARGUMENTS_LIMIT : goal.returns-then-n-gt-ARGUMENTS_LIMIT
 returns-then-n-gt-ARGUMENTS_LIMIT c = rw c.refused-then-n-gt-ARGUMENTS_LIMIT.ensures (enter-many c.requires.head_at c.if-level-ge-NESTING_LIMIT.false c.if-n-gt-ARGUMENTS_LIMIT.true)
 
+pub new-requires : goal.new-requires
+new-requires c = let h = c.requires.head_at.named.fits in record { stands = h; within = omega (arith, h, c.requires.tree_len_bound) }
+
+pub enter-requires-clause-tree_len_bound : goal.enter-requires-clause-tree_len_bound
+enter-requires-clause-tree_len_bound c = rw c.new.ensures.tree c.requires.tree_len_bound
+
 pub enter-requires-clause-row : goal.enter-requires-clause-row
-enter-requires-clause-row c = search params_stand
+enter-requires-clause-row c = rw c.new.ensures.tree (params_stand c.requires.head_at c.after_at-row.ensures.is)
 
 pub returns : goal.returns
-returns c = let s = c.args.scope.now in record { enters = λ e f. enter-on c.requires.head_at s.state c.if-level-ge-NESTING_LIMIT.false c.if-n-gt-ARGUMENTS_LIMIT.false c.after_at-row.ensures.is c.enter.ensures s.area s.fits c.enter.auto.table c.inside-scope.ensures e f; code = refl; same = refl }
+returns c = let s = c.args.scope.now in record { enters = λ e f. enter-on c.requires.head_at s.state c.if-level-ge-NESTING_LIMIT.false c.if-n-gt-ARGUMENTS_LIMIT.false c.after_at-row.ensures.is (rw (c.new.ensures.tree, c.new.ensures.at) at c.enter.ensures) s.area s.fits c.enter.auto.table c.inside-scope.ensures e f; code = refl; same = refl }

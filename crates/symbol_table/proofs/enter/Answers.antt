@@ -14,4 +14,4 @@ open_in-requires-clause-part_len c =
 pub returns : goal.returns
 returns c =
     let r = c.part_range.ensures in
-    entered _ _ _ _ _ _ _ (at_range c.args.level c.args.table.now r.start r.end _ _ c.requires.part_size_in_bounds c.open_in.auto.part (rw (c.new.ensures.tree, c.new.ensures.at) at c.open_in.ensures))
+    entered _ _ _ _ _ _ _ (at_range c.args.level c.args.table.now r.start r.end _ _ c.requires.part_size_in_bounds c.open_in.auto.part c.open_in.ensures)

@@ -8,9 +8,9 @@ find_outermost-requires c =
     record {
       words = c.requires.has_words;
       size = omega arith;
-      globals = rw c.new-key.ensures.tree (good-globals _ _ _ _ c.requires.good);
+      globals = good-globals _ _ _ _ c.requires.good;
     }
 
 pub returns-then-level-eq0 : goal.returns-then-level-eq0
 returns-then-level-eq0 c =
-    resolved_outermost _ _ _ _ _ _ c.requires.good _ c.if-level-eq0.true c.find_outermost.ensures.crossed (rw (c.new-key.ensures.tree, c.new-key.ensures.at) at c.find_outermost.ensures.resolved)
+    resolved_outermost _ _ _ _ _ _ c.requires.good _ c.if-level-eq0.true c.find_outermost.ensures.crossed c.find_outermost.ensures.resolved

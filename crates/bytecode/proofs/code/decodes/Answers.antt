@@ -5,7 +5,7 @@ use Rattle.bytecode.proofs.Backward.{back_begins, back_again, back_ends}
 use Rattle.bytecode.proofs.code.decodes.Goals as goal
 
 pub loop-at-init : goal.loop-at-init
-loop-at-init c = back_begins (byte_at c.args.code.bytes.now) c.args.code.end c.requires.order
+loop-at-init c = back_begins (byte_at c.args.code.bytes.now) c.args.code.end c.args.code.within.order
 
 pub loop-at-preserved : goal.loop-at-preserved
 loop-at-preserved c =

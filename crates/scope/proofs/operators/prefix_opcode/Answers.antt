@@ -5,12 +5,12 @@ use lib.ListN.{get_or}
 use Rattle.std.specs.Prelude.{None}
 use Rattle.std.specs.Option.{option_flatten}
 use Rattle.definition.specs.Walk.{prefixes}
-use Rattle.scope.specs.Code.{opcode_of, Alone}
-use Rattle.scope.proofs.Tables.{entry_of, entry_at, opcode_at, alone_at}
+use Rattle.scope.specs.Code.{Alone}
+use Rattle.scope.proofs.Tables.{entry_of, entry_at, alone_at}
 use Rattle.scope.proofs.operators.prefix_opcode.Goals as goal
 
-pub returns : goal.returns
-returns c =
+pub returns-clause-alone : goal.returns-clause-alone
+returns-clause-alone c =
     let t = map entry_of prefixes in
     let e = c.flatten.ensures ∙ ap option_flatten c.copied.ensures ∙ entry_at t c.from.result c.get.result c.get.ensures.lookup ∙ ap (λ o. get_or t o None) c.from.ensures in
-    record { is = ap opcode_of e ∙ opcode_at t c.args.o; alone = subst Alone (sym e) (alone_at t c.args.o refl) }
+    subst Alone (sym e) (alone_at t c.args.o refl)

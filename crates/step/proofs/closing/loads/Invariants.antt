@@ -1,7 +1,6 @@
 -- `step::closing::loads` meets its contract: the loads of the originals passed are done.
-use Rattle.symbol_table.specs.Layout.{part}
 use Rattle.step.proofs.Loads.{LoadTurn}
 use Rattle.step.proofs.closing.loads.Given as goal
 
 abbrev pub invariant-loop-i : goal.invariant-loop-i
-invariant-loop-i l = LoadTurn l.place (part l.level l.table) l.n l.initial.scope l.scope l.i
+invariant-loop-i l = LoadTurn l.place l.part.numbers.now l.n l.initial.scope l.scope l.i

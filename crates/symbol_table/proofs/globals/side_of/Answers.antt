@@ -1,6 +1,5 @@
 -- `symbol_table::globals::side_of` meets its contract.
 use borrow.Author.Tests.{lt-ltb, le-ltb, lt-leb, le-leb}
-use mathlib.Core.Path.{◌∙◌}
 use Rattle.symbol_table.specs.Search.{side_of}
 use Rattle.symbol_table.proofs.globals.side_of.Goals as goal
 

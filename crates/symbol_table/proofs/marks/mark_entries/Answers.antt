@@ -17,5 +17,5 @@ pub loop-i-preserved : goal.loop-i-preserved
 loop-i-preserved c =
     let l = c.loop-i in
     marks_next _ _ _ _ _ c.requires.good _ _ l.invariant (omega (arith, c.requires.count)) _ _ c.requires.size
-    (rw (c.new.ensures.tree, c.new.ensures.at, globals_then _ _ _ _ _ c.requires.good _ l.invariant.remarked, c.number_at.ensures) at c.code_outermost-code.ensures.outermost)
+    (rw (c.new.ensures.tree, c.new.ensures.at, globals_then _ _ _ _ _ c.requires.good _ l.invariant.remarked, c.of-in-loop-i.ensures) at c.code_outermost-code.ensures.outermost)
     c.next_at.auto.table c.next_at.ensures

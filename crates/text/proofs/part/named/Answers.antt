@@ -10,4 +10,4 @@ pub returns-then-value-to : goal.returns-then-value-to
 returns-then-value-to c = named_short (tag_is _ _ (sym c.ne.ensures ∙ c.if-ne.false)) c.if-value-to.true refl
 
 pub returns : goal.returns
-returns c = named_writes (tag_is _ _ (sym c.ne.ensures ∙ c.if-ne.false)) c.make_room.ensures c.put_name.ensures c.put_head.ensures refl
+returns c = named_writes (tag_is _ _ (sym c.ne.ensures ∙ c.if-ne.false)) c.make_room.ensures c.put_field.ensures c.put_head.ensures refl

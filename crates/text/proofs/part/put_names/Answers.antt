@@ -11,8 +11,8 @@ use Rattle.text.proofs.Numbers.{apart}
 use native.Mathlib.Omega.{arith}
 use Rattle.text.proofs.part.put_names.Goals as goal
 
-pub put_name-requires : goal.put_name-requires
-put_name-requires c =
+pub put_field-requires : goal.put_field-requires
+put_field-requires c =
     let i = c.loop-token.invariant in
     let b = (i.so_far 0).bounds in
     let s = given_seen i.text i.at b.within c.in-Some.ensures.steps in
@@ -26,13 +26,13 @@ loop-token-preserved-in-Name c =
     let s = given_seen i.text i.at w n in
     let k = ap number_of c.in-Name.is in
     let j = c.joined-names.ensures in
-    let p = c.put_name.ensures.part in
+    let p = c.put_field.ensures.part in
     let l = ap (λ p. p.levels) p in
     record {
       text = n.text ∙ i.text;
       at = omega (arith, n.at, ap (λ p. p.at) j, ap (λ p. p.at) p);
-      so_far = λ left. names_name (i.so_far left) s k (sees_ahead s w (λ z. omega arith)) c.put_name.ensures j;
-      flat = omega (arith, ap (λ p. p.levels) j, (larger_is c.loop-token.names.levels c.put_name.result.levels).least 1 i.flat (omega arith));
+      so_far = λ left. names_name (i.so_far left) s k (sees_ahead s w (λ z. omega arith)) c.put_field.ensures j;
+      flat = omega (arith, ap (λ p. p.levels) j, (larger_is c.loop-token.names.levels c.put_field.result.levels).least 1 i.flat (omega arith));
     }
 
 pub loop-token-preserved : goal.loop-token-preserved

@@ -139,7 +139,7 @@ write_inside-returns-in_default-2 t c =
 
 pub write_let-returns : goal.write_let-returns
 write_let-returns t c =
-    let_writes c.token_at-name.ensures c.put_name-first.ensures c.token_at-token.ensures (sees_on c.token_at-token.ensures) (sees_on c.token_at-name.ensures) c.write_expression-value.ensures.writes c.named.ensures c.joined.ensures
+    let_writes c.token_at-name.ensures c.put_field-first.ensures c.token_at-token.ensures (sees_on c.token_at-token.ensures) (sees_on c.token_at-name.ensures) c.write_expression-value.ensures.writes c.named.ensures c.joined.ensures
 
 pub write_list-returns-then-closes_list : goal.write_list-returns-then-closes_list
 write_list-returns-then-closes_list t c =
@@ -183,7 +183,7 @@ write_operand-returns-in-Ended t c =
 pub write_operand-returns-in_default : goal.write_operand-returns-in_default
 write_operand-returns-in_default t c =
     let s = c.token_at-token.ensures in
-    let facts = operand_leaf s (sees_ahead s c.requires.0.within (apart _ Ended c.in_default.not-Ended)) (sym c.is_leaf.ensures ∙ c.if-is_leaf.true) c.put_leaf.ensures in
+    let facts = operand_leaf s (sees_ahead s c.requires.0.within (apart _ Ended c.in_default.not-Ended)) (sym c.is_leaf.ensures ∙ c.if-is_leaf.true) (rw c.operand_tag.ensures at c.put_field.ensures) in
     record { writes = facts.0; spares = facts.1 }
 
 pub write_operand-write_inside-inside-requires : goal.write_operand-write_inside-inside-requires
@@ -196,7 +196,7 @@ write_operand-write_inside-inside-requires t c =
 pub write_operand-returns-in_default-2 : goal.write_operand-returns-in_default-2
 write_operand-returns-in_default-2 t c =
     let s = c.token_at-token.ensures in
-    let g = c.operand_tag.ensures in
+    let g = c.operand_tag-in_default-2.ensures in
     let k = c.requires.1 in
     let facts = operand_deeper (omega arith) s (sees_ahead s c.requires.0.within (apart _ Ended c.in_default.not-Ended)) (sym c.is_leaf.ensures ∙ c.if-is_leaf.false) c.write_inside-inside.ensures (rw g at c.close.ensures.part) (rw g at c.close.ensures.stored) in
     record { writes = facts.0; spares = facts.1 }

@@ -1,22 +1,8 @@
 -- `name_tree` meets its contract: the tables from the names, then the pass over the statements.
-use mathlib.Core.Path.{sym}
 use borrow.Author.Rules.{rules}
 use native.Mathlib.Omega.{arith}
-use lib.Seq.{length-take-le}
 use Rattle.trace.proofs.Tree.{good_reads, tree_row, tree_standing, tree_passes}
 use Rattle.trace.proofs.pass.name_tree.Goals as goal
-
-pub start_from-requires : goal.start_from-requires
-start_from-requires c =
-    record {
-      session_len_bound = c.requires.session_len_bound;
-      has_items = c.requires.has_items;
-      globals_size_in_bounds = omega (arith, c.requires.table_size_in_bounds);
-    }
-
-pub slice_bounds-name_statements-end : goal.slice_bounds-name_statements-end
-slice_bounds-name_statements-end c =
-    sym (length-take-le c.args.end c.args.session.now c.requires.has_items.within)
 
 pub name_statements-requires : goal.name_statements-requires
 name_statements-requires c =

@@ -10,7 +10,8 @@ use Rattle.walk.proofs.Calls.{many_walks, few_walks, call_walks, array_walks, ha
 use Rattle.walk.proofs.Expressions.{expr_walks, identifier_walks, integer_walks, string_walks, boolean_byte, boolean_walks, macro_walks, index_walks, less_walks, infix_walks, prefix_walks}
 use Rattle.walk.proofs.Function.{inside_walked, leaves_stays, function_walks}
 use Rattle.walk.proofs.If.{branch_walks, branches_walks, behind_walks, behind_refused, else_walks, null_walks, if_walks}
-use Rattle.walk.proofs.Sequence.{done_refuses, done_stays, walk_stays, jump_walk, jump_refused}
+use Rattle.walk.proofs.Sequence.{done_refuses, walk_stays, jump_walk, jump_refused}
+use Rattle.step.proofs.Memory.{done_stays}
 use Rattle.walk.proofs.Statements.{let_walks, let_refused, stmt_walks, expr_stmt_walks, block_walks, return_walks}
 use Rattle.walk.proofs.Turns.{stmts_first, stmts_fit, exprs_first, exprs_fit}
 use Rattle.walk.proofs.Compiled.{loop_holds, turn_at, stmt_turn, expr_turn, stmt_refused, expr_refused, stmts_walked, exprs_walked}

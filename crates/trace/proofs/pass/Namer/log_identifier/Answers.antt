@@ -4,26 +4,30 @@ use native.Mathlib.Omega.{arith}
 use Rattle.trace.proofs.Passing.{within_area, found_code, found_far, found_passes, nothing_passes}
 use Rattle.trace.proofs.pass.Namer.log_identifier.Goals as goal
 
+pub new-requires : goal.new-requires
+new-requires c = record {
+  stands = c.requires.whole.fits;
+  within = omega (arith, c.requires.whole.fits, c.requires.standing.short);
+}
+
 pub resolve_name-requires : goal.resolve_name-requires
 resolve_name-requires c = record {
   has_words = c.requires.standing.words;
   level_in_bounds = within_area c.requires.standing;
-  good = c.requires.standing.symbols;
-  stands = c.requires.whole.fits;
-  name_lt_tree_limit = omega (arith, c.requires.whole.fits, c.requires.standing.short);
+  good = rw c.new.ensures.tree c.requires.standing.symbols;
 }
 
 pub put_entry-requires : goal.put_entry-requires
 put_entry-requires c = record {
   n_in_bounds = c.requires.standing.room;
   at_lt_tree_limit = omega (arith, c.requires.whole.fits, c.requires.standing.short);
-  code_bound = found_code c.requires.standing c.in-Ok.is c.resolve_name.ensures;
-  crossed_bound = found_far c.requires.standing c.in-Ok.is c.resolve_name.ensures;
+  code_bound = found_code c.requires.standing c.in-Ok.is (rw (c.new.ensures.tree, c.new.ensures.at) at c.resolve_name.ensures);
+  crossed_bound = found_far c.requires.standing c.in-Ok.is (rw (c.new.ensures.tree, c.new.ensures.at) at c.resolve_name.ensures);
 }
 
 pub returns-in-Ok : goal.returns-in-Ok
 returns-in-Ok c = record {
-  passes = found_passes c.requires.standing c.in-Ok.is c.resolve_name.ensures c.put_entry.ensures;
+  passes = found_passes c.requires.standing c.in-Ok.is (rw (c.new.ensures.tree, c.new.ensures.at) at c.resolve_name.ensures) c.put_entry.ensures;
   table = c.resolve_name.auto.table;
   log = c.put_entry.auto.log;
   same = refl;
@@ -31,7 +35,7 @@ returns-in-Ok c = record {
 
 pub returns-in_default : goal.returns-in_default
 returns-in_default c = record {
-  passes = nothing_passes c.requires.standing _ c.in_default.is c.resolve_name.ensures;
+  passes = nothing_passes c.requires.standing _ c.in_default.is (rw (c.new.ensures.tree, c.new.ensures.at) at c.resolve_name.ensures);
   table = c.resolve_name.auto.table;
   log = refl;
   same = refl;
