@@ -4,5 +4,5 @@ use Rattle.bytecode.specs.Checked.{Part}
 use Rattle.bytecode.specs.declared.section.Section.{Section}
 
 -- a section from another offset
-abbrev pub from : (s : Section) (at : ℕ) → Part s.bytes.now at s.end → Section
-from s at w = record { bytes = s.bytes; at = at; end = s.end; within = w }
+abbrev pub from : (s : Section) (at : ℕ) → Part s.span.bytes.now at s.span.end → Section
+from s at w = record { span = record { bytes = s.span.bytes; start = at; end = s.span.end }; within = w }

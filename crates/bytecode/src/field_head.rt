@@ -5,7 +5,7 @@ ghost use Rattle.definition.specs.Field.{Head as FieldHead};
 ghost use Rattle.definition.specs.Decode.{read_head};
 ghost use Rattle.bytecode.specs.Checked.{Part, head_of, is_constant, is_pool, is_main, is_name, found};
 
-use crate::{Form, Malformed, Section};
+use crate::{Form, Malformed, Section, Span};
 use definition::{limit, tag};
 
 // A field's tag and content length.
@@ -60,5 +60,10 @@ pub fn head_where<F: Fn(Head) -> bool>(
     requires calls { F.IsAlwaysCallable test }
     ensures { (good : FieldHead → Bool) → ((h : Head) (r : Bool) → F.post test h r → r ≡ good (head_of h)) → result ≡ found (read_head (byte_at bytes.now) good at end) }
 {
-    Section { bytes, at, end }.head_where(test)
+    let span = Span {
+        bytes,
+        start: at,
+        end,
+    };
+    Section { span }.head_where(test)
 }

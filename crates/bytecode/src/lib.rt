@@ -18,6 +18,7 @@ ghost use Rattle.bytecode.specs.Checked.{item, checked, name_fields, main_code, 
 
 use code::check_code;
 use definition::{Reason, Refusal, limit, tag};
+use field::fields::Fields;
 use field::names::distinct_names;
 pub use field_head::{Head, head_where};
 use item_check::Items;
@@ -95,24 +96,19 @@ pub struct SessionLayout {
 impl<'a> Section<'a> {
     // Check the constant that it begins with: the offset after it.
     fn check_constant(self, form: Form) -> Result<usize, Malformed>
-        ensures { result ≡ item (read_const_in form (byte_at self.entry.bytes.now) self.entry.at self.entry.end) }
+        ensures { result ≡ item (read_const_in form (byte_at self.entry.span.bytes.now) self.entry.span.start self.entry.span.end) }
     {
         let head = self.head_where(|head| head.is_constant(form))?;
-        let next = self.at + 3 + head.len;
+        let content = self.behind(head);
         if head.tag != form.tags().function {
-            return Ok(next);
+            return Ok(content.span.end);
         }
-        let code = Section {
-            bytes: self.bytes,
-            at: self.at + 3 + 3,
-            end: next,
-        };
-        check_code(code)
+        check_code(content.from(content.span.start + 3))
     }
 
     // Check the pool that it begins with: how many constants it has, and the offset after it.
     fn check_pool(self, form: Form) -> Result<Items, Malformed>
-        ensures { result ≡ checked (read_pool_in form (byte_at self.entry.bytes.now) self.entry.at self.entry.end) }
+        ensures { result ≡ checked (read_pool_in form (byte_at self.entry.span.bytes.now) self.entry.span.start self.entry.span.end) }
     {
         let head = self.head_where(|head| head.is_pool())?;
         self.behind(head)
@@ -121,22 +117,22 @@ impl<'a> Section<'a> {
 
     // Check the name that it begins with: the offset after it.
     fn check_name(self) -> Result<usize, Malformed>
-        ensures { result ≡ item (read_name_field (byte_at self.entry.bytes.now) self.entry.at self.entry.end) }
+        ensures { result ≡ item (read_name_field (byte_at self.entry.span.bytes.now) self.entry.span.start self.entry.span.end) }
     {
         let head = self.head_where(|head| head.is_name())?;
-        Ok(self.at + 3 + head.len)
+        Ok(self.span.start + 3 + head.len)
     }
 
     // Check that names, at most so many, fill it.
     fn check_name_fields(self, most: usize) -> Result<Items, Malformed>
-        ensures { result ≡ checked (name_fields (byte_at self.entry.bytes.now) most self.entry.at self.entry.end) }
+        ensures { result ≡ checked (name_fields (byte_at self.entry.span.bytes.now) most self.entry.span.start self.entry.span.end) }
     {
         self.check_items(most, |rest| rest.check_name())
     }
 
     // Check the field of names that it begins with, of a tag, and at most so many.
     fn check_names(self, tag: u8, most: usize) -> Result<Items, Malformed>
-        ensures { result ≡ checked (read_name_fields (byte_at self.entry.bytes.now) tag most self.entry.at self.entry.end) }
+        ensures { result ≡ checked (read_name_fields (byte_at self.entry.span.bytes.now) tag most self.entry.span.start self.entry.span.end) }
     {
         let head = self.head_where(|head| head.tag == tag)?;
         self.behind(head).check_name_fields(most)
@@ -157,12 +153,7 @@ pub fn check_form(image: &[u8], form: Form) -> Result<usize, Refusal>
     ensures { result ≡ image_answer (read_form form image.now) }
 {
     let at = check_main(image, form)?;
-    let rest = Section {
-        bytes: image,
-        at,
-        end: image.len(),
-    };
-    let pool = rest.check_pool(form)?;
+    let pool = Section::whole(image).from(at).check_pool(form)?;
     if pool.end != image.len() {
         return Err(Refusal::from(Malformed { place: pool.end }));
     }
@@ -184,7 +175,7 @@ fn check_words(session: &[u8]) -> Result<usize, Malformed>
         return Ok(0);
     }
     let words = Section::whole(session).check_names(tag::WORDS, limit::WORDS_LIMIT)?;
-    if distinct_names(session, 3, words.end) {
+    if distinct_names(Fields::new(session, 3, words.end)) {
         return Ok(words.end);
     }
     Err(Malformed { place: words.end })
@@ -195,7 +186,7 @@ pub fn words_stand(names: &[u8]) -> bool
     ensures { result ≡ is_read (read_handed names.now) }
 {
     match Section::whole(names).check_name_fields(limit::WORDS_LIMIT) {
-        Ok(words) => distinct_names(names, 0, words.end),
+        Ok(words) => distinct_names(Fields::new(names, 0, words.end)),
         Err(_) => false,
     }
 }
@@ -205,19 +196,12 @@ fn read_behind(session: &[u8], start: usize) -> Option<SessionLayout>
     requires { WordsEnd session.now start }
     ensures { result ≡ layout_of session.now }
 {
-    let end = session.len();
-    let rest = Section {
-        bytes: session,
-        at: start,
-        end,
-    };
-    let names = rest.check_names(tag::NAMES, limit::GLOBALS_LIMIT).ok()?;
-    let behind = Section {
-        bytes: session,
-        at: names.end,
-        end,
-    };
-    let pool = behind.check_pool(Form::Plain).ok()?;
+    let whole = Section::whole(session);
+    let names = whole
+        .from(start)
+        .check_names(tag::NAMES, limit::GLOBALS_LIMIT)
+        .ok()?;
+    let pool = whole.from(names.end).check_pool(Form::Plain).ok()?;
     if all_zero(&session[pool.end..]) {
         return Some(SessionLayout {
             words_end: start,

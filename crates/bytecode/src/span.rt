@@ -1,8 +1,9 @@
 // Parts of an image.
 ghost use Rattle.std.specs.Prelude.{◌≡◌, ◌≤◌, length};
-ghost use Rattle.bytecode.specs.Parts.{Divides};
+ghost use Rattle.bytecode.specs.Parts.{Divides, function_code};
 
 use crate::constants::Constants;
+use definition::tag;
 use field::length_at;
 use opcode::instructions::Instructions;
 
@@ -31,6 +32,19 @@ impl<'a> Span<'a> {
         ensures end { result.end ≡ self.entry.end }
     {
         Constants::new(self.bytes, self.start, self.end)
+    }
+
+    // Of a constant, if it is a function: its code, behind the head and three bytes of numbers.
+    pub fn function(self) -> Option<Span<'a>>
+        ensures { result ≡ function_code self.entry }
+    {
+        match self.bytes.get(self.start) {
+            Some(&tag::FUNCTION_CONST) => Some(Span {
+                start: self.start + 3 + 3,
+                ..self
+            }),
+            _ => None,
+        }
     }
 }
 

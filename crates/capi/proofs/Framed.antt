@@ -1,7 +1,7 @@
 -- Counts, places and refusals of frames fit an answer's halves, and the low half is the pair.
 use Prim.Native.Nat.{ℕ, ◌%◌, ◌<◌}
 use native.Mathlib.Omega.{arith}
-use mathlib.Core.Path.{◌≡◌, subst}
+use mathlib.Core.Path.{◌≡◌, subst, ap, ◌∙◌}
 use Rattle.std.specs.Prelude.{Result, Err}
 use Rattle.std.specs.Result.{result_err}
 use Rattle.definition.specs.Basic.{Bytes}
@@ -12,7 +12,10 @@ use Rattle.frames.specs.declared.FrameCount.{FrameCount}
 use Rattle.frames.specs.declared.FramePlace.{FramePlace}
 use Rattle.frames.proofs.Small.{SmallRefusal, SmallCount, SmallPlace, count_small, place_small}
 use Rattle.capi.specs.Packed.{half_bound, Fits, Packs}
-use Rattle.capi.specs.Framed.{paired, Pairs, count_answer, place_answer, refusal_answer}
+use Rattle.definition.specs.Answer.{Answer}
+use Rattle.capi.specs.Framed.{paired, Pairs, pair_answer, count_answer, place_answer, refusal_answer, CountsPacked, PlacesPacked}
+use Rattle.capi.proofs.Fits.{fits_as, packs_as}
+use Rattle.capi.proofs.Mapped.{IsMapped, counted, count_mapped, found, place_mapped}
 
 -- a refusal of these calls fits
 small_fits : {r : Refusal} → SmallRefusal r → Fits (Err r)
@@ -60,3 +63,25 @@ place-pairs b a size k {v} p start n e =
   where
     below : SmallPlace (place_is start n) → n < 65536
     below (SmallPlace.inside s l) = l
+
+-- counting frames: what `map` takes out of the count fits, and its number is the count's
+module _ {b : Bytes} (size : ℕ) {P : FrameCount → ℕ × ℕ → Type 0} (a : Result FrameCount Refusal) (m : Result (ℕ × ℕ) Refusal) (s : AreBytes b) (e : a ≡ count_frames b size) (g : (x : FrameCount) (y : ℕ × ℕ) → P x y → y ≡ counted x) (c : IsMapped P a m) where
+  counts : pair_answer m ≡ count_answer (count_frames b size)
+  counts = count_mapped g a m c ∙ ap count_answer e
+
+  pub counts_fit : Fits (pair_answer m)
+  counts_fit = fits_as counts (count_fits b s size)
+
+  pub packs_counts : {x : Answer} {v : ℕ} → x ≡ pair_answer m → Packs x v → CountsPacked b size v
+  packs_counts q p = let r = packs_as (q ∙ counts) p in record { answer = r; parts = count-pairs b s size r }
+
+-- finding a frame, likewise
+module _ {b : Bytes} (size k : ℕ) {P : FramePlace → ℕ × ℕ → Type 0} (a : Result FramePlace Refusal) (m : Result (ℕ × ℕ) Refusal) (s : AreBytes b) (e : a ≡ find_frame b size k) (g : (x : FramePlace) (y : ℕ × ℕ) → P x y → y ≡ found x) (c : IsMapped P a m) where
+  places : pair_answer m ≡ place_answer (find_frame b size k)
+  places = place_mapped g a m c ∙ ap place_answer e
+
+  pub places_fit : Fits (pair_answer m)
+  places_fit = fits_as places (place-fits b s size k)
+
+  pub packs_places : {x : Answer} {v : ℕ} → x ≡ pair_answer m → Packs x v → PlacesPacked b size k v
+  packs_places q p = let r = packs_as (q ∙ places) p in record { answer = r; parts = place-pairs b s size k r }

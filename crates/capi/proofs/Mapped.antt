@@ -26,25 +26,25 @@ module _ {T : Type 0} {P : T → ℕ × ℕ → Type 0} where
   mapped g f h o e (Err r) b m = ap pair_answer m ∙ e r
 
 -- the calls that answer two numbers, each with the two
-abbrev counted : FrameCount → ℕ × ℕ
+abbrev pub counted : FrameCount → ℕ × ℕ
 counted c = (c.whole, c.rest)
 
 pub count_mapped : {P : FrameCount → ℕ × ℕ → Type 0} → ((x : FrameCount) (y : ℕ × ℕ) → P x y → y ≡ counted x) → (a : Result FrameCount Refusal) (b : Result (ℕ × ℕ) Refusal) → IsMapped P a b → pair_answer b ≡ count_answer a
 count_mapped h = mapped count_answer counted h (λ _. refl) (λ _. refl)
 
-abbrev found : FramePlace → ℕ × ℕ
+abbrev pub found : FramePlace → ℕ × ℕ
 found p = (p.start, p.len)
 
 pub place_mapped : {P : FramePlace → ℕ × ℕ → Type 0} → ((x : FramePlace) (y : ℕ × ℕ) → P x y → y ≡ found x) → (a : Result FramePlace Refusal) (b : Result (ℕ × ℕ) Refusal) → IsMapped P a b → pair_answer b ≡ place_answer a
 place_mapped h = mapped place_answer found h (λ _. refl) (λ _. refl)
 
-abbrev run : Ran → ℕ × ℕ
+abbrev pub run : Ran → ℕ × ℕ
 run r = (r.globals, r.steps)
 
 pub ran_mapped : {P : Ran → ℕ × ℕ → Type 0} → ((x : Ran) (y : ℕ × ℕ) → P x y → y ≡ run x) → (a : Result Ran Refusal) (b : Result (ℕ × ℕ) Refusal) → IsMapped P a b → pair_answer b ≡ ran_answer a
 ran_mapped h = mapped ran_answer run h (λ _. refl) (λ _. refl)
 
-abbrev named : CallTrace → ℕ × ℕ
+abbrev pub named : CallTrace → ℕ × ℕ
 named t = (t.count, t.length)
 
 pub names_mapped : {P : CallTrace → ℕ × ℕ → Type 0} → ((x : CallTrace) (y : ℕ × ℕ) → P x y → y ≡ named x) → (a : Result CallTrace Refusal) (b : Result (ℕ × ℕ) Refusal) → IsMapped P a b → pair_answer b ≡ names_answer (answer_of a) (count_of a)

@@ -19,10 +19,11 @@ use Rattle.trace.specs.declared.CallTrace.{CallTrace}
 use Rattle.trace.specs.Promise.{answer_of, count_of}
 use Rattle.names.specs.Promise.{call_names, blanks, Names}
 use Rattle.capi.specs.Packed.{half_bound, Fits, Packs}
-use Rattle.capi.specs.Framed.{Pairs}
+use Rattle.capi.specs.Framed.{Pairs, pair_answer}
 use Rattle.capi.specs.Named.{names_answer, NamesPacked}
 use Rattle.capi.proofs.Fits.{fits_as, packs_as}
 use Rattle.capi.proofs.Framed.{pairs}
+use Rattle.capi.proofs.Mapped.{IsMapped, named, names_mapped}
 use Rattle.definition.specs.Number.{number_of}
 
 -- the call's answer is within the plain call's bounds
@@ -53,8 +54,12 @@ module _ {tree : Bytes} {l l' : Lent} {xs xs' : List ℕ} {r : Result CallTrace 
   same : names_answer (answer_of r) (count_of r) ≡ names_answer (call_names tree l xs).called.answer (call_names tree l xs).count
   same = λ i. names_answer (h.answer i) (h.count i)
 
-  pub fits-names : Fits (names_answer (answer_of r) (count_of r))
-  fits-names = fits_as same (names-fits tree l xs a (subst (λ n. 4 * n ≤ code_size) h.count h.few))
+  module _ {P : CallTrace → ℕ × ℕ → Type 0} (m : Result (ℕ × ℕ) Refusal) (g : (x : CallTrace) (y : ℕ × ℕ) → P x y → y ≡ named x) (c : IsMapped P r m) where
+    mapped : pair_answer m ≡ names_answer (call_names tree l xs).called.answer (call_names tree l xs).count
+    mapped = names_mapped g r m c ∙ same
 
-  pub packs_names : {x : Answer} {v : ℕ} → x ≡ names_answer (answer_of r) (count_of r) → Packs x v → NamesPacked tree l xs v l' xs'
-  packs_names e p = let q = packs_as (e ∙ same) p in record { answer = q; parts = names-pairs tree l xs a q; lent = h.lent; rows = h.rows }
+    pub pair_fits : Fits (pair_answer m)
+    pair_fits = fits_as mapped (names-fits tree l xs a (subst (λ n. 4 * n ≤ code_size) h.count h.few))
+
+    pub packs_names : {x : Answer} {v : ℕ} → x ≡ pair_answer m → Packs x v → NamesPacked tree l xs v l' xs'
+    packs_names e p = let q = packs_as (e ∙ mapped) p in record { answer = q; parts = names-pairs tree l xs a q; lent = h.lent; rows = h.rows }

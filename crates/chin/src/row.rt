@@ -62,8 +62,7 @@ pub fn turn_code(
     requires { HasCode image.now start end }
     ensures { (c : Code) → CodeAt image.now start end c → TurnsCode (jump_of from) image.now start end c output.old output.new result }
 {
-    // Kept: two offsets, here and in the two below, since with a `Span` in their place a translation takes 7 to 15 % more
-    // instructions, and the bar is 3 %.
+    // Kept: two offsets, here and in the two below: with a `Span` a translation takes 7 to 15 % more instructions, and the bar is 3 %.
     for (at, _, next) in Instructions::new(image, start, end) {
         turn_instruction(output, image, start, at, next - at, from)?;
     }

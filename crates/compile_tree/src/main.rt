@@ -3,12 +3,14 @@
 #![tactic(auto)]
 
 use definition::limit::TREE_LIMIT;
-use report::{read_full, write_compiled};
+use report::{with_input, write_compiled};
 use std::io;
 
 // A tree has at most 32,768 bytes: a longer one is refused as its first 32,769 are.
 fn main(rt: HostRuntime) -> io::Result<()> {
-    let mut tree = [0u8; TREE_LIMIT + 1];
-    let length = read_full(&mut rt.reader(), &mut tree)?;
-    write_compiled(&rt, "compile_tree", &tree[..length])
+    with_input(
+        &rt,
+        &mut [0u8; TREE_LIMIT + 1],
+        |tree| write_compiled(&rt, "compile_tree", tree),
+    )
 }

@@ -7,6 +7,7 @@ use lib.ListN.{length, get_or, take, drop, length-append, length-drop}
 use lib.Seq.{sets, sets-eq, length-sets, length-take-le, take-nil, take-take, get_or-take}
 use borrow.Author.Tests.{lt-ltb, le-ltb}
 use Rattle.std.specs.List.{copy_within}
+use Rattle.std.proofs.lemmas.List.{get_or-drop}
 use Rattle.definition.specs.Basic.{Bytes}
 use Rattle.definition.specs.Tag.{tag_name}
 use Rattle.definition.specs.Session.{name_bytes, names_bytes}
@@ -139,6 +140,22 @@ module _ {tree e : Bytes} {at v : ℕ} (h : HasName tree e at v) where
       record { session = q ∙ ap (λ x. sets e at (name_bytes x)) same; end = omega arith }
 
 -- Names in a row
+
+-- the globals of a table from an index on: how many they are, and what each is
+module _ (t : List ℕ) {xs : List ℕ} {n : ℕ} (from : ℕ) (e : xs ≡ take n (drop 1 t)) (h : n < length t) where
+  globals_all : length xs ≡ n
+  globals_all = ap length e ∙ length-take-le n (drop 1 t) (omega (arith, length-drop 1 t))
+
+  pub globals_left : length (take (length xs - from) (drop from xs)) ≡ n - from
+  globals_left = length-take-le (length xs - from) (drop from xs) (omega (arith, length-drop from xs)) ∙ ap (λ m. m - from) globals_all
+
+  pub global_at : (i : ℕ) → from + i < n → get_or (take (length xs - from) (drop from xs)) i 0 ≡ get_or t (1 + (from + i)) 0
+  global_at i l =
+      get_or-take (length xs - from) (drop from xs) i 0 (omega (arith, globals_all))
+      ∙ get_or-drop from xs i 0
+      ∙ ap (λ l. get_or l (from + i) 0) e
+      ∙ get_or-take n (drop 1 t) (from + i) 0 l
+      ∙ get_or-drop 1 t (from + i) 0
 
 -- the fields of later names: that of the first, then those of the others
 later_first : (tree names : Bytes) (t : List ℕ) (k to : ℕ) → k < to → later_fields tree names t k to ≡ name_bytes (global_name tree names (get_or t (1 + k) 0)) ++ later_fields tree names t (k + 1) to

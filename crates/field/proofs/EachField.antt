@@ -1,5 +1,5 @@
 -- Going over fields that stand one after the other.
-use Rattle.std.proofs.Common.{◌≡◌, ℕ, ◌<◌, ◌≤◌, List, length, sym, ap, ◌∙◌, subst, arith}
+use Rattle.std.proofs.Common.{◌≡◌, ℕ, ◌<◌, ◌≤◌, List, length, refl, sym, ap, ◌∙◌, subst, arith}
 use Rattle.definition.specs.Basic.{Bytes}
 use Rattle.field.specs.Layout.{after, Whole}
 use Rattle.field.specs.Row.{RowTo, HasRow}
@@ -13,6 +13,10 @@ row_to l (RowTo.more e f r) = FieldsTo.more (omega arith) f (row_to l r)
 
 pub row_fields : {b : Bytes} {from to : ℕ} → HasRow b from to → FieldsTo b to from
 row_fields h = row_to h.within h.row
+
+-- fields that are handed over go over their own bytes
+pub begins_there : (s : Fields) → Begins s.bytes.now s.at s.end s
+begins_there s = record { bytes = refl; at = refl; end = refl }
 
 -- it goes over these bytes, up to this offset
 pub record Over (b : Bytes) (to : ℕ) (s : Fields) : Type 0 where

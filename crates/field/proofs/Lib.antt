@@ -1,4 +1,5 @@
 pub mod Content
+pub mod Before
 pub mod First
 pub mod Same
 pub mod Rows

@@ -1,7 +1,7 @@
 -- The fields in some bytes, by their offsets.
-use Rattle.std.specs.Prelude.{ℕ, ◌+◌, ◌≤◌, length, take, drop}
-use Rattle.definition.specs.Basic.{Bytes, byte_at}
-use Rattle.definition.specs.Field.{head}
+use Rattle.std.specs.Prelude.{ℕ, ◌+◌, ◌≤◌, length, take, drop, Option, Some, None}
+use Rattle.definition.specs.Basic.{Bytes, byte_at, pick}
+use Rattle.definition.specs.Field.{head, fits}
 
 -- the tag of the field at an offset
 abbrev pub tag : Bytes → ℕ → ℕ
@@ -10,6 +10,10 @@ tag tree at = byte_at tree at
 -- the length of its content
 abbrev pub len : Bytes → ℕ → ℕ
 len tree at = (head (byte_at tree) at).len
+
+-- and of a field that stands whole before an end
+abbrev pub len_before : Bytes → ℕ → ℕ → Option ℕ
+len_before tree at end = pick (fits at end (head (byte_at tree) at)) (Some (len tree at)) None
 
 -- the offset after it
 abbrev pub after : Bytes → ℕ → ℕ

@@ -4,10 +4,10 @@
 pub mod fields;
 pub mod names;
 
-ghost use Rattle.std.specs.Prelude.{◌≡◌, ◌+◌, ◌*◌, ◌<◌, length};
+ghost use Rattle.std.specs.Prelude.{◌≡◌, ◌+◌, ◌*◌, ◌≤◌, ◌<◌, length};
 ghost use Rattle.definition.specs.Basic.{byte_at};
 ghost use Rattle.definition.specs.Field.{head};
-ghost use Rattle.field.specs.Layout.{Whole, after, content};
+ghost use Rattle.field.specs.Layout.{Whole, after, content, len_before};
 
 // A byte as a length or an offset; its bound stands here, so that no caller proves it.
 pub fn wide(x: u8) -> usize
@@ -32,6 +32,22 @@ pub fn length_at(bytes: &[u8], at: usize) -> usize
     ensures small { result < 65536 }
 {
     word(bytes[at + 1], bytes[at + 2])
+}
+
+// The content length of the field at `at`, if the field stands whole before `end`.
+#[inline(always)]
+pub fn length_before(bytes: &[u8], at: usize, end: usize) -> Option<usize>
+    requires { (at ≤ end) × (end ≤ length bytes.now) }
+    ensures { result ≡ len_before bytes.now at end }
+{
+    if end < at + 3 {
+        return None;
+    }
+    let len = length_at(bytes, at);
+    if end < at + 3 + len {
+        return None;
+    }
+    Some(len)
 }
 
 // The offset after the field at `at`.

@@ -1,14 +1,13 @@
 // Names in fields one after the other.
 ghost use Rattle.std.specs.Prelude.{◌≡◌};
 ghost use Rattle.definition.specs.SymbolTable.{same, find_builtin, distinct};
-ghost use Rattle.field.specs.Row.{HasRow, found_of};
+ghost use Rattle.field.specs.Row.{RowOf, found_of};
 
 use super::fields::Fields;
 use super::{after_at, content_at};
 
 // Whether two names are the same.
-// Kept: a loop with an index, tried otherwise: with `==` of slices, which is made for long ones, a call on names takes up to a sixth more
-// instructions, over `zip` 7 to 13 % more on chosen names, and the bar is 3 % (docs/PERFORMANCE.md, "The bar").
+// Kept: tried otherwise: a call on names takes up to a sixth more instructions with `==` of slices, 7 to 13 % over `zip`; the bar is 3 %.
 pub fn same_name(x: &[u8], y: &[u8]) -> bool
     ensures { result ≡ same x.now y.now }
 {
@@ -23,27 +22,30 @@ pub fn same_name(x: &[u8], y: &[u8]) -> bool
     true
 }
 
-// The first field of a name, among those from an offset up to an end.
-// Kept: the bytes with both offsets, since a row of fields stands amid others whose bytes its callers keep.
-pub fn find_name(bytes: &[u8], from: usize, to: usize, name: &[u8]) -> Option<usize>
-    requires { HasRow bytes.now from to }
-    ensures { (h : HasRow bytes.now from to) → found_of result ≡ find_builtin name.now h.names 0 }
+// The first of the fields that has a name.
+pub fn find_name(fields: Fields<'_>, name: &[u8]) -> Option<usize>
+    requires { RowOf fields }
+    ensures { (h : RowOf fields.entry) → found_of result ≡ find_builtin name.now h.names 0 }
 {
-    for (k, at) in Fields::new(bytes, from, to).enumerate() {
-        if same_name(name, content_at(bytes, at)) {
+    for (k, at) in fields.enumerate() {
+        if same_name(name, content_at(fields.bytes, at)) {
             return Some(k);
         }
     }
     None
 }
 
-// Whether no name stands twice among the fields from an offset up to an end.
-pub fn distinct_names(bytes: &[u8], from: usize, to: usize) -> bool
-    requires { HasRow bytes.now from to }
-    ensures { (h : HasRow bytes.now from to) → result ≡ distinct h.names }
+// Whether no name stands twice among the fields.
+pub fn distinct_names(fields: Fields<'_>) -> bool
+    requires { RowOf fields }
+    ensures { (h : RowOf fields.entry) → result ≡ distinct h.names }
 {
-    for at in Fields::new(bytes, from, to) {
-        if find_name(bytes, after_at(bytes, at), to, content_at(bytes, at)).is_some() {
+    for at in fields {
+        let rest = Fields {
+            at: after_at(fields.bytes, at),
+            ..fields
+        };
+        if find_name(rest, content_at(fields.bytes, at)).is_some() {
             return false;
         }
     }

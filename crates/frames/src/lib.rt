@@ -77,7 +77,7 @@ pub fn find_frame(image: &[u8], size: usize, index: usize) -> Result<FramePlace,
 }
 
 // The frame of a number from 0, as a part of the image itself; empty where it refuses, and only there.
-// Kept: without the reason, which `frame_refusal` gives: the one `Result` of both is that of `find_frame`, and each is a line over it.
+// Kept: no `Result` of part or refusal: docs/FORMAT.md answers both, the part empty where it refuses; `find_frame` is the `Result`.
 pub fn frame(image: &[u8], size: usize, index: usize) -> &[u8]
     ensures { IsFrame image.entry result size index }
 {

@@ -20,6 +20,7 @@ use Rattle.bytecode.specs.Checked.{image_answer}
 use Rattle.listing.specs.Reads.{ImageAt, HasImage}
 use Rattle.heights.specs.Pass.{Verdict, judged, verdict_answer, verdict_into, heights_answer, heights_into}
 use Rattle.heights.specs.Chunks.{pool_answer, PoolJudges}
+use Rattle.heights.specs.declared.image.BadChunk.{BadChunk}
 
 -- an empty part in front
 pub empty-part : (l o : List ℕ) → length l ≡ 0 → l ++ o ≡ o
@@ -55,16 +56,16 @@ module _ (b : Bytes) {m : Image} (i : ImageAt b m) (hs out : List ℕ) where
   )
 
   -- a chunk fails
-  pub fails : {r : Result ℕ ℕ} {place : ℕ} {o o₁ : List ℕ} → PoolJudges hs m m.pool o r o₁ → r ≡ Err place
-      → (Err (refusal bad_heights place) ≡ heights_answer (read_image b) hs (length out)) × (out ≡ heights_into (read_image b) hs out)
-  fails {place = place} k e = go (judged hs m m.pool) refl (sym e ∙ k.answers)
+  pub fails : {r : Result ℕ BadChunk} {bad : BadChunk} {o o₁ : List ℕ} → PoolJudges hs m m.pool o r o₁ → r ≡ Err bad
+      → (Err (refusal bad_heights bad.place) ≡ heights_answer (read_image b) hs (length out)) × (out ≡ heights_into (read_image b) hs out)
+  fails {bad = bad} k e = go (judged hs m m.pool) refl (sym e ∙ k.answers)
     where
-      go : (v : Verdict) → judged hs m m.pool ≡ v → Err place ≡ pool_answer v → (Err (refusal bad_heights place) ≡ heights_answer (read_image b) hs (length out)) × (out ≡ heights_into (read_image b) hs out)
+      go : (v : Verdict) → judged hs m m.pool ≡ v → Err bad ≡ pool_answer v → (Err (refusal bad_heights bad.place) ≡ heights_answer (read_image b) hs (length out)) × (out ≡ heights_into (read_image b) hs out)
       go (Verdict.tops ns) j q = let z : ◌≡◌ {A = ℕ} 0 1 = cc in absurd (omega arith)
-      go (Verdict.fails at) j q = let s : place ≡ at = cc in by_verdict j (ap (λ p. Err (refusal bad_heights p)) s) refl
+      go (Verdict.fails at) j q = let s : bad ≡ record { place = at } = cc in by_verdict j (ap (λ (b : BadChunk). Err (refusal bad_heights b.place)) s) refl
 
   -- all pass
-  module _ {r : Result ℕ ℕ} {count : ℕ} {o o₁ : List ℕ} (k : PoolJudges hs m m.pool o r o₁) (e : r ≡ Ok count) where
+  module _ {r : Result ℕ BadChunk} {count : ℕ} {o o₁ : List ℕ} (k : PoolJudges hs m m.pool o r o₁) (e : r ≡ Ok count) where
     record Passed : Type 0 where
       tops : List ℕ
       is : judged hs m m.pool ≡ Verdict.tops tops
@@ -85,7 +86,7 @@ module _ (b : Bytes) {m : Image} (i : ImageAt b m) (hs out : List ℕ) where
         by_verdict p.is (sym (ap (λ t. pick t (Ok (length p.tops)) (Err (refusal output_short 0))) l)) (sym (ap (λ t. pick t (over p.tops out) out) l))
 
     -- room: judged again, and stored
-    pub written : count ≤ length out → {s : Result ℕ ℕ} {last : List ℕ} → PoolJudges hs m m.pool out s last
+    pub written : count ≤ length out → {s : Result ℕ BadChunk} {last : List ℕ} → PoolJudges hs m m.pool out s last
         → (Ok count ≡ heights_answer (read_image b) hs (length out)) × (last ≡ heights_into (read_image b) hs out)
     written h t =
         let p = passed in

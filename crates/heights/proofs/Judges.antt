@@ -5,7 +5,7 @@ use mathlib.Core.List.{List, ◌∷◌}
 use mathlib.Core.Path.{◌≡◌, refl, sym, ap, subst, ◌∙◌}
 use mathlib.Core.Bool.{Bool, true, false}
 use lib.Dec.{eqb}
-use lib.ListN.{length, set}
+use lib.ListN.{length, drop, set}
 use borrow.Author.Tests.{eqb-true}
 use Rattle.definition.specs.Basic.{Bytes, byte_at}
 use Rattle.definition.specs.Limit.{constants_limit}
@@ -22,37 +22,36 @@ use Rattle.heights.specs.Judgement.{instructions}
 use Rattle.heights.specs.declared.chunk.Kind.{Kind}
 use Rattle.heights.specs.declared.chunk.Kind.TheVariants.{Function}
 use Rattle.heights.specs.Pass.{Top, top_of}
-use Rattle.heights.specs.Marks.{Blank, chunk_answer, ChunkReady, ChunkEnds}
-use Rattle.heights.specs.Chunks.{top_answer, top_into, constant_answer, constant_into, Judges, Standing, ConstantReady}
+use Rattle.heights.specs.Marks.{Blank, passes_with, chunk_answer, ChunkReady, ChunkEnds}
+use Rattle.heights.specs.Chunks.{comes_to, top_answer, top_into, constant_answer, constant_into, Judges, Standing, ConstantReady}
 use Rattle.heights.specs.declared.chunk.ChunkTop.{ChunkTop}
 use Rattle.heights.specs.declared.image.Progress.{Progress}
 use Rattle.std.specs.Prelude.{Option, Some, None}
 
 -- what fails does not go on
-pub not_on : {p : Progress} {A : Type 0} → None ≡ Some p → A
+pub not_on : {p : ℕ × List ℕ} {A : Type 0} → None ≡ Some p → A
 not_on {p} e = let z : ◌≡◌ {A = ℕ} 0 1 = cc in absurd (omega arith)
 
-module _ {hs : List ℕ} {kind : Kind} {end : ℕ} {c : Code} (p : Progress) {r : Option ChunkTop} {l : List ℕ} (e : ChunkEnds hs kind p.heights end c r l) (out : List ℕ) where
+module _ {hs : List ℕ} {kind : Kind} {end : ℕ} {c : Code} (chunks : ℕ) {r : Option ChunkTop} {l : List ℕ} (e : ChunkEnds hs kind end c r l) (out : List ℕ) where
   -- a chunk that fails
-  pub judged_fails : r ≡ None → {r₁ : Option Progress} → r₁ ≡ None → Judges end (top_answer (top_of hs kind p.heights c) p (length c)) (top_into (top_of hs kind p.heights c) p.chunks out) r₁ out l
-  judged_fails f q = subst (λ r. Judges end (top_answer (top_of hs kind p.heights c) p (length c)) (top_into (top_of hs kind p.heights c) p.chunks out) r out l) (sym q) (go (top_of hs kind p.heights c) (sym f ∙ e.answer))
+  pub judged_fails : r ≡ None → {r₁ : Option Progress} → r₁ ≡ None → Judges end (top_answer (top_of hs kind 0 c) chunks (drop (length c) hs)) (top_into (top_of hs kind 0 c) chunks out) r₁ out l
+  judged_fails f q = subst (λ r. Judges end (top_answer (top_of hs kind 0 c) chunks (drop (length c) hs)) (top_into (top_of hs kind 0 c) chunks out) r out l) (sym q) (go (top_of hs kind 0 c) (sym (ap passes_with f) ∙ e.answer))
     where
-      go : (t : Top) → None ≡ chunk_answer t (p.heights + length c) → Judges end (top_answer t p (length c)) (top_into t p.chunks out) None out l
-      go (Top.top n) q = let z : ◌≡◌ {A = ℕ} 0 1 = cc in absurd (omega arith)
-      go Top.fails q = record { answers = refl; stores = refl; blank = λ p g. not_on g }
+      go : (t : Top) → None ≡ chunk_answer t (drop (length c) hs) → Judges end (top_answer t chunks (drop (length c) hs)) (top_into t chunks out) None out l
+      go (Top.top n) q = not_on q
+      go Top.fails q = record { answers = refl; stores = refl; blank = λ p g. not_on (ap comes_to g) }
 
   -- a chunk that passes
-  pub judged-on : {t : ChunkTop} {out₁ : List ℕ} → r ≡ Some t → out₁ ≡ set out p.chunks t.top
-      → Judges end (top_answer (top_of hs kind p.heights c) p (length c)) (top_into (top_of hs kind p.heights c) p.chunks out) (Some (record { chunks = p.chunks + 1; heights = t.heights })) out₁ l
-  judged-on {t} {out₁} f s = go (top_of hs kind p.heights c) (sym f ∙ e.answer)
+  pub judged-on : {t : ChunkTop} {out₁ : List ℕ} → r ≡ Some t → out₁ ≡ set out chunks t.top
+      → Judges end (top_answer (top_of hs kind 0 c) chunks (drop (length c) hs)) (top_into (top_of hs kind 0 c) chunks out) (Some (record { chunks = chunks + 1; heights = t.rest })) out₁ l
+  judged-on {t} {out₁} f s = go (top_of hs kind 0 c) (sym (ap passes_with f) ∙ e.answer)
     where
-      go : (u : Top) → Some t ≡ chunk_answer u (p.heights + length c)
-          → Judges end (top_answer u p (length c)) (top_into u p.chunks out) (Some (record { chunks = p.chunks + 1; heights = t.heights })) out₁ l
+      go : (u : Top) → Some (t.top, t.rest.now) ≡ chunk_answer u (drop (length c) hs)
+          → Judges end (top_answer u chunks (drop (length c) hs)) (top_into u chunks out) (Some (record { chunks = chunks + 1; heights = t.rest })) out₁ l
       go (Top.top n) q =
-          let a : t.top ≡ n = cc in
-          let b : t.heights ≡ p.heights + length c = cc in
-          record { answers = ap (λ h. Some (record { chunks = p.chunks + 1; heights = h })) b; stores = s ∙ ap (set out p.chunks) a; blank = λ _ _. e.after t f }
-      go Top.fails q = let z : ◌≡◌ {A = ℕ} 0 1 = cc in absurd (omega arith)
+          let a : ◌≡◌ {A = ℕ × List ℕ} (t.top, t.rest.now) (n, drop (length c) hs) = cc in
+          record { answers = ap (λ (a : ℕ × List ℕ). Some (chunks + 1, a.1)) a; stores = s ∙ ap (λ (a : ℕ × List ℕ). set out chunks a.0) a; blank = λ _ _. e.after t f }
+      go Top.fails q = not_on (sym q)
 
 -- nothing arrives from a later offset on either
 pub blank_later : {l : List ℕ} {i j : ℕ} → i ≤ j → Blank l i → Blank l j
@@ -85,10 +84,10 @@ module _ (b : Bytes) {at next : ℕ} {x : Const} (s : Standing b at next x) wher
   no_instructions n = no_function n (λ x. instructions x ≡ 0) (λ c. refl) (λ c. refl)
 
   -- and no chunk
-  pub no_chunk : (byte_at b at ≡ tag_function_const → ⊥) → (hs : List ℕ) (p : Progress) (out l : List ℕ) → Blank l (suc at) → Judges next (constant_answer hs x p) (constant_into hs x p out) (Some p) out l
-  no_chunk n hs p out l e =
+  pub no_chunk : (byte_at b at ≡ tag_function_const → ⊥) → (p : Progress) (out l : List ℕ) → Blank l (suc at) → Judges next (constant_answer x p) (constant_into x p out) (Some p) out l
+  no_chunk n p out l e =
       let k : Blank l (suc next) = blank_later (let w = standing_head in omega arith) e in
-      no_function n (λ x. Judges next (constant_answer hs x p) (constant_into hs x p out) (Some p) out l) (λ c. record { answers = refl; stores = refl; blank = λ _ _. k }) (λ c. record { answers = refl; stores = refl; blank = λ _ _. k })
+      no_function n (λ x. Judges next (constant_answer x p) (constant_into x p out) (Some p) out l) (λ c. record { answers = refl; stores = refl; blank = λ _ _. k }) (λ c. record { answers = refl; stores = refl; blank = λ _ _. k })
 
   -- a function's chunk
   module _ (e : byte_at b at ≡ tag_function_const) where
@@ -102,13 +101,13 @@ module _ (b : Bytes) {at next : ℕ} {x : Const} (s : Standing b at next x) wher
         let f = function_is b at s.end s.constant (λ i. omega arith) refl (λ i. omega arith) s.constant.within in
         record { code = f.code; stands = subst (λ n. CodeAt b (at + 3 + 3) n f.code) (sym s.sized) f.stands; is = f.is }
 
-    pub chunk_judges : (hs : List ℕ) (p : Progress) (out : List ℕ) {out₁ l : List ℕ} {r : Option Progress}
-        → Judges next (top_answer (top_of hs Function p.heights chunk.code) p (length chunk.code)) (top_into (top_of hs Function p.heights chunk.code) p.chunks out) r out₁ l
-        → Judges next (constant_answer hs x p) (constant_into hs x p out) r out₁ l
-    chunk_judges hs p out {out₁} {l} {r} j = subst (λ x. Judges next (constant_answer hs x p) (constant_into hs x p out) r out₁ l) chunk.is j
+    pub chunk_judges : (p : Progress) (out : List ℕ) {out₁ l : List ℕ} {r : Option Progress}
+        → Judges next (top_answer (top_of p.heights.now Function 0 chunk.code) p.chunks (drop (length chunk.code) p.heights.now)) (top_into (top_of p.heights.now Function 0 chunk.code) p.chunks out) r out₁ l
+        → Judges next (constant_answer x p) (constant_into x p out) r out₁ l
+    chunk_judges p out {out₁} {l} {r} j = subst (λ x. Judges next (constant_answer x p) (constant_into x p out) r out₁ l) chunk.is j
 
 -- a function's chunk can be judged
-pub chunk_ready : (b : Bytes) (l : List ℕ) {at next : ℕ} {p : Progress} → ConstantReady l b at next p → byte_at b at ≡ tag_function_const → ChunkReady l b (at + 3 + 3) next × (p.chunks < 131072)
+pub chunk_ready : (b : Bytes) (l : List ℕ) {at next chunks : ℕ} → ConstantReady l b at next chunks → byte_at b at ≡ tag_function_const → ChunkReady l b (at + 3 + 3) next × (chunks < 131072)
 chunk_ready b l h e =
     let c = chunk b h.stands.is e in
     let w = standing_head b h.stands.is in

@@ -4,7 +4,9 @@ use native.Mathlib.Omega.{arith}
 use mathlib.Core.Bool.{Bool, true, false}
 use mathlib.Core.List.{List, [], ◌∷◌}
 use mathlib.Core.Path.{◌≡◌, refl, sym, ap, subst, ◌∙◌}
-use lib.ListN.{length, get_or}
+use Rattle.std.proofs.Common.{take, take_all}
+use lib.ListN.{length, drop, get_or, length-drop}
+use lib.Seq.{drop-cons}
 use lib.Dec.{leb, ltb, eqb}
 use borrow.Author.Tests.{lt-ltb, le-ltb}
 use Rattle.definition.specs.Basic.{Bytes, byte_at, pick, both}
@@ -21,8 +23,9 @@ use Rattle.listing.specs.Reads.{CodeAt}
 use Rattle.listing.proofs.Items.{Reading, begins, ends, Next, next, all_read}
 use Rattle.listing.proofs.Lines.{whole-read}
 use Rattle.heights.specs.Pass.{Marks, greater, behind, arrived, leapt, fallen, Passing, Passed, onwards, steps_well, stepped, starting, pass}
-use Rattle.heights.specs.Marks.{marks_from, Spot, Stepped, chunk_top, pass_answer, PassReady, PassEnds}
-use Rattle.std.specs.Prelude.{None, Result, Err}
+use Rattle.heights.specs.Marks.{marks_from, Spot, Stepped, pass_answer, PassReady, PassEnds}
+use Rattle.std.specs.Prelude.{Some, None, Result, Err}
+use Rattle.heights.specs.declared.chunk.ChunkTop.{ChunkTop}
 use Rattle.heights.proofs.Stepping.{greater_is}
 use Rattle.heights.proofs.Tables.{gives_one}
 
@@ -73,22 +76,22 @@ module _ (hs : List ℕ) (first n : ℕ) (i : Instr) (c : Code) where
   pass_failed e = ap (λ q. onwards q Passed.failed (λ s. pick (tests s) (Passed.passed (stepped (size_of c) i s)) Passed.failed)) e
 
 -- the loop at an offset of code from `start` up to `end`
-module _ (b : Bytes) (start end : ℕ) (hs : List ℕ) (first : ℕ) where
-  pub record PassLoop (l₀ l : List ℕ) (at k top : ℕ) : Type 0 where
+module _ (b : Bytes) (start end : ℕ) (hs : List ℕ) where
+  pub record PassLoop (l₀ l : List ℕ) (at : ℕ) (rest : List ℕ) (top : ℕ) : Type 0 where
     pub code : Code
     pub reading : Reading (read_instr (byte_at b)) end (end - start) start code at
     pub order : at ≤ end
     pub size_is : start + size_of code ≡ at
     pub few : length code ≤ size_of code
     pub state : Passing
-    pub passed : pass hs first (end - start) code ≡ Passed.passed state
+    pub passed : pass hs 0 (end - start) code ≡ Passed.passed state
     pub marks_are : marks_from l start ≡ state.marks
     pub top_is : top ≡ state.top
-    pub index : k ≡ first + length code
+    pub rest_is : rest ≡ drop (length code) hs
     pub small : Small state.marks (length code)
     pub long : length l ≡ length l₀
 
-  pub loop_begins : (l : List ℕ) → PassReady l b start end → PassLoop l l start first 0
+  pub loop_begins : (l : List ℕ) → PassReady l b start end → PassLoop l l start hs 0
   unfolding pass
   loop_begins l h =
       record {
@@ -101,20 +104,20 @@ module _ (b : Bytes) (start end : ℕ) (hs : List ℕ) (first : ℕ) where
         passed = refl;
         marks_are = h.begins;
         top_is = refl;
-        index = omega arith;
+        rest_is = refl;
         small = small_start;
         long = refl;
       }
 
-  module _ {l₀ l : List ℕ} {at k top : ℕ} (p : PassLoop l₀ l at k top) where
+  module _ {l₀ l : List ℕ} {at : ℕ} {rest : List ℕ} {top : ℕ} (p : PassLoop l₀ l at rest top) where
     -- at the end all was passed
-    pub loop_ends : end ≤ at → (c : Code) → CodeAt b start end c → PassEnds hs first (end - start) start c (chunk_top top k) l
-    loop_ends h c a =
+    pub loop_ends : end ≤ at → (c : Code) → CodeAt b start end c → {t : ChunkTop} → t.top ≡ top → t.rest.now ≡ rest → PassEnds hs (end - start) start c (Some t) l
+    loop_ends h c a {t} u v =
         let e : at ≡ end = omega (arith, p.order) in
         let q = ends (read_instr (byte_at b)) end (end - start) start p.reading a.reads e in
-        let d : pass hs first (end - start) c ≡ Passed.passed p.state = ap (pass hs first (end - start)) (sym q) ∙ p.passed in
+        let d : pass hs 0 (end - start) c ≡ Passed.passed p.state = ap (pass hs 0 (end - start)) (sym q) ∙ p.passed in
         record {
-          answer = (λ j. chunk_top (p.top_is j) ((p.index ∙ ap (λ c. first + length c) q) j)) ∙ sym (ap (λ r. pass_answer r (first + length c)) d);
+          answer = (λ j. Some ((u ∙ p.top_is) j, (v ∙ p.rest_is ∙ ap (λ c. drop (length c) hs) q) j)) ∙ sym (ap (λ r. pass_answer r (drop (length c) hs)) d);
           after = λ s f. p.marks_are ∙ same s (sym d ∙ f);
         }
       where
@@ -132,12 +135,12 @@ module _ (b : Bytes) (start end : ℕ) (hs : List ℕ) (first : ℕ) where
       not_refused t = unanswered e found.found t
 
       -- what failed once has failed
-      fails : {l₁ : List ℕ} → pass hs first (end - start) (found.x ∷ p.code) ≡ Passed.failed → (c : Code) → CodeAt b start end c → PassEnds hs first (end - start) start c None l₁
+      fails : {l₁ : List ℕ} → pass hs 0 (end - start) (found.x ∷ p.code) ≡ Passed.failed → (c : Code) → CodeAt b start end c → PassEnds hs (end - start) start c None l₁
       fails f c a =
           let g = found.reading in
-          let d : pass hs first (end - start) c ≡ Passed.failed =
-          all_read (read_instr (byte_at b)) end (λ c _. pass hs first (end - start) c ≡ Passed.failed) (λ xs _ x _ q _. pass_failed hs first (end - start) x xs q) g.rest (found.x ∷ p.code) found.next (sym g.same ∙ a.reads) f in
-          record { answer = sym (ap (λ r. pass_answer r (first + length c)) d); after = λ s q. never s (sym d ∙ q) }
+          let d : pass hs 0 (end - start) c ≡ Passed.failed =
+          all_read (read_instr (byte_at b)) end (λ c _. pass hs 0 (end - start) c ≡ Passed.failed) (λ xs _ x _ q _. pass_failed hs 0 (end - start) x xs q) g.rest (found.x ∷ p.code) found.next (sym g.same ∙ a.reads) f in
+          record { answer = sym (ap (λ r. pass_answer r (drop (length c) hs)) d); after = λ s q. never s (sym d ∙ q) }
         where
           never : {A : Type 0} (s : Passing) → Passed.failed ≡ Passed.passed s → A
           never s q = let z : ◌≡◌ {A = ℕ} 0 1 = cc in absurd (omega arith)
@@ -177,28 +180,40 @@ module _ (b : Bytes) (start end : ℕ) (hs : List ℕ) (first : ℕ) where
             }
 
         -- too few heights
-        pub too_few : {l₁ : List ℕ} → length hs ≤ k → (c : Code) → CodeAt b start end c → PassEnds hs first (end - start) start c None l₁
+        pub too_few : {l₁ : List ℕ} → length rest ≡ 0 → (c : Code) → CodeAt b start end c → PassEnds hs (end - start) start c None l₁
         unfolding tests
-        too_few m = fails (pass_more hs first (end - start) found.x p.code p.state p.passed
-            ∙ ap (λ s. pick (both s (steps_well (end - start) p.state.marks (size_of p.code) (get_or hs (first + length p.code) 0) found.x (behind found.x (p.state.marks (size_of p.code))))) (Passed.passed (stepped (size_of p.code) found.x p.state)) Passed.failed)
-            (le-ltb (first + length p.code) (length hs) (omega (arith, p.index))))
+        too_few m = fails (pass_more hs 0 (end - start) found.x p.code p.state p.passed
+            ∙ ap (λ s. pick (both s (steps_well (end - start) p.state.marks (size_of p.code) (get_or hs (0 + length p.code) 0) found.x (behind found.x (p.state.marks (size_of p.code))))) (Passed.passed (stepped (size_of p.code) found.x p.state)) Passed.failed)
+            (le-ltb (0 + length p.code) (length hs) (omega (arith, ap length p.rest_is, length-drop (length p.code) hs))))
 
-        module _ (m : k < length hs) {s : Bool} {l₁ : List ℕ} (g : Stepped l start end at (get_or hs k 0) (instr_of i) s l₁) where
-          pass_next : pass hs first (end - start) (found.x ∷ p.code) ≡ pick s (Passed.passed (stepped (size_of p.code) found.x p.state)) Passed.failed
+        module _ {x : ℕ} {left : List ℕ} (m : rest ≡ x ∷ left) {s : Bool} {l₁ : List ℕ} (g : Stepped l start end at x (instr_of i) s l₁) where
+          enough : length p.code < length hs
+          enough = omega (arith, ap length m, ap length p.rest_is, length-drop (length p.code) hs)
+
+          both_parts : x ∷ left ≡ get_or hs (length p.code) 0 ∷ drop (suc (length p.code)) hs
+          both_parts = sym m ∙ p.rest_is ∙ drop-cons hs (length p.code) 0 enough
+
+          offered_is : x ≡ get_or hs (0 + length p.code) 0
+          offered_is = ap (λ l. get_or l 0 0) both_parts ∙ ap (λ k. get_or hs k 0) (omega arith)
+
+          left_is : left ≡ drop (suc (length p.code)) hs
+          left_is = ap (λ l. drop 1 l) both_parts
+
+          pass_next : pass hs 0 (end - start) (found.x ∷ p.code) ≡ pick s (Passed.passed (stepped (size_of p.code) found.x p.state)) Passed.failed
           unfolding tests
           pass_next =
               let q : at - start ≡ size_of p.code = omega (arith, p.size_is) in
-              let u : s ≡ steps_well (end - start) p.state.marks (size_of p.code) (get_or hs (first + length p.code) 0) found.x (behind found.x (p.state.marks (size_of p.code))) =
-              g.answer ∙ (λ j. steps_well (end - start) (p.marks_are j) (q j) (get_or hs (p.index j) 0) (turn.is j) (behind (turn.is j) (level_is j))) in
-              let v = lt-ltb (first + length p.code) (length hs) (omega (arith, p.index)) in
-              pass_more hs first (end - start) found.x p.code p.state p.passed ∙ (λ j. pick (both (v j) (sym u j)) (Passed.passed (stepped (size_of p.code) found.x p.state)) Passed.failed)
+              let u : s ≡ steps_well (end - start) p.state.marks (size_of p.code) (get_or hs (0 + length p.code) 0) found.x (behind found.x (p.state.marks (size_of p.code))) =
+              g.answer ∙ (λ j. steps_well (end - start) (p.marks_are j) (q j) (offered_is j) (turn.is j) (behind (turn.is j) (level_is j))) in
+              let v = lt-ltb (0 + length p.code) (length hs) (omega (arith, enough)) in
+              pass_more hs 0 (end - start) found.x p.code p.state p.passed ∙ (λ j. pick (both (v j) (sym u j)) (Passed.passed (stepped (size_of p.code) found.x p.state)) Passed.failed)
 
           -- the step fails
-          pub step_fails : {l₂ : List ℕ} → s ≡ false → (c : Code) → CodeAt b start end c → PassEnds hs first (end - start) start c None l₂
+          pub step_fails : {l₂ : List ℕ} → s ≡ false → (c : Code) → CodeAt b start end c → PassEnds hs (end - start) start c None l₂
           step_fails z = fails (pass_next ∙ ap (λ s. pick s (Passed.passed (stepped (size_of p.code) found.x p.state)) Passed.failed) z)
 
           -- or it passes
-          pub step-on : s ≡ true → length l₁ ≡ length l → {top₁ : ℕ} → top₁ ≡ greater top (get_or l at 0 - 2) → PassLoop l₀ l₁ after (k + 1) top₁
+          pub step-on : s ≡ true → length l₁ ≡ length l → {top₁ : ℕ} → top₁ ≡ greater top (get_or l at 0 - 2) → PassLoop l₀ l₁ after left top₁
           step-on z n {top₁} o =
               let w = turn in
               let q : at - start ≡ size_of p.code = omega (arith, p.size_is) in
@@ -212,11 +227,16 @@ module _ (b : Bytes) (start end : ℕ) (hs : List ℕ) (first : ℕ) where
                 passed = pass_next ∙ ap (λ s. pick s (Passed.passed (stepped (size_of p.code) found.x p.state)) Passed.failed) z;
                 marks_are = g.after z ∙ (λ j. fallen (leapt (p.marks_are j) (w.is j) (behind (w.is j) (level_is j))) (q j) (w.is j) (behind (w.is j) (level_is j)));
                 top_is = o ∙ (λ j. greater (p.top_is j) (level_is j - 2));
-                index = omega (arith, p.index);
+                rest_is = left_is;
                 small = small_step p.state.marks (size_of p.code) found.x (length p.code) p.small;
                 long = n ∙ p.long;
               }
 
+-- the first of a list, and those behind it
+pub apart : (xs : List ℕ) → 1 ≤ length xs → xs ≡ get_or xs 0 0 ∷ take (length xs - 1) (drop 1 xs)
+apart [] h = absurd (omega arith)
+apart (x ∷ xs) h = ap (λ l. x ∷ l) (sym (take_all (length (x ∷ xs) - 1) xs (omega arith)))
+
 -- the loop at the same offset
-pub pass_at : {b : Bytes} {start end : ℕ} {hs : List ℕ} {first : ℕ} {l₀ l : List ℕ} {at at₁ k top : ℕ} → PassLoop b start end hs first l₀ l at k top → at ≡ at₁ → PassLoop b start end hs first l₀ l at₁ k top
-pass_at {b} {start} {end} {hs} {first} {l₀} {l} {k = k} {top = top} p e = subst (λ at. PassLoop b start end hs first l₀ l at k top) e p
+pub pass_at : {b : Bytes} {start end : ℕ} {hs l₀ l : List ℕ} {at at₁ : ℕ} {rest : List ℕ} {top : ℕ} → PassLoop b start end hs l₀ l at rest top → at ≡ at₁ → PassLoop b start end hs l₀ l at₁ rest top
+pass_at {b} {start} {end} {hs} {l₀} {l} {rest = rest} {top = top} p e = subst (λ at. PassLoop b start end hs l₀ l at rest top) e p

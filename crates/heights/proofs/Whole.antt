@@ -3,7 +3,7 @@ use Prim.Native.Nat.{ℕ, ◌+◌, ◌≤◌, ◌<◌}
 use native.Mathlib.Omega.{arith}
 use mathlib.Core.List.{List, [], ◌∷◌}
 use mathlib.Core.Path.{◌≡◌, refl, sym, ap, ◌∙◌}
-use lib.ListN.{length, replicate, length-replicate}
+use lib.ListN.{length, drop, replicate, length-replicate}
 use Rattle.definition.specs.Basic.{Bytes}
 use Rattle.definition.specs.Limit.{image_limit}
 use Rattle.definition.specs.Bytecode.{Const, Image}
@@ -17,21 +17,17 @@ use Rattle.listing.proofs.Images.{parts, code_in, pool_in}
 use Rattle.heights.specs.declared.chunk.Kind.TheVariants.{Main}
 use Rattle.heights.specs.Pass.{Top, top_of, Verdict, also, judged}
 use Rattle.heights.specs.Marks.{ChunkReady}
-use Rattle.heights.specs.Chunks.{top_answer, top_into, pool_answer, Judges, PoolReady, SoFar, PoolJudges}
+use Rattle.heights.specs.Chunks.{comes_to, top_answer, top_into, pool_answer, Judges, PoolReady, SoFar, PoolJudges}
 use Rattle.heights.specs.declared.image.Progress.{Progress}
 use Rattle.std.specs.Prelude.{Option, Some, None, Err}
 use Rattle.heights.proofs.Tables.{one_element}
 use Rattle.heights.proofs.Judges.{not_on, blank_later}
-use Rattle.heights.proofs.Pools.{not_fails, judged_failed}
+use Rattle.heights.proofs.Pools.{judged_failed}
 
 -- main alone
 judged_main : (hs : List ℕ) (m : Image) → judged hs m [] ≡ also (top_of hs Main 0 m.code) 0 []
 unfolding judged
 judged_main hs m = refl
-
--- before the first chunk
-abbrev none : Progress
-none = record { chunks = 0; heights = 0 }
 
 module _ (b : Bytes) (a : AreBytes b) {m : Image} (i : ImageAt b m) where
   -- a sound image is short
@@ -55,15 +51,15 @@ module _ (b : Bytes) (a : AreBytes b) {m : Image} (i : ImageAt b m) where
       omega arith,
     )
 
-    module _ (hs out : List ℕ) {r : Option Progress} {out₁ l : List ℕ} (j : Judges p.code.end (top_answer (top_of hs Main 0 m.code) none (length m.code)) (top_into (top_of hs Main 0 m.code) 0 out) r out₁ l) where
+    module _ (hs out : List ℕ) {r : Option Progress} {out₁ l : List ℕ} (j : Judges p.code.end (top_answer (top_of hs Main 0 m.code) 0 (drop (length m.code) hs)) (top_into (top_of hs Main 0 m.code) 0 out) r out₁ l) where
       -- main fails
-      pub main_fails : r ≡ None → {o : List ℕ} → PoolJudges hs m m.pool out (Err 0) o
+      pub main_fails : r ≡ None → {o : List ℕ} → PoolJudges hs m m.pool out (Err (record { place = 0 })) o
       main_fails f =
-          let d = all m.pool (first (top_of hs Main 0 m.code) refl (sym j.answers ∙ f)) in
+          let d = all m.pool (first (top_of hs Main 0 m.code) refl (sym (ap comes_to f) ∙ j.answers)) in
           record { answers = sym (ap pool_answer d); stores = λ ns q. never (sym d ∙ q) }
         where
-          first : (t : Top) → top_of hs Main 0 m.code ≡ t → top_answer t none (length m.code) ≡ None → judged hs m [] ≡ Verdict.fails 0
-          first (Top.top n) g q = not_fails q
+          first : (t : Top) → top_of hs Main 0 m.code ≡ t → None ≡ top_answer t 0 (drop (length m.code) hs) → judged hs m [] ≡ Verdict.fails 0
+          first (Top.top n) g q = not_on q
           first Top.fails g q = judged_main hs m ∙ ap (λ t. also t 0 []) g
 
           all : (cs : List Const) → judged hs m [] ≡ Verdict.fails 0 → judged hs m cs ≡ Verdict.fails 0
@@ -76,22 +72,22 @@ module _ (b : Bytes) (a : AreBytes b) {m : Image} (i : ImageAt b m) where
       module _ {p₁ : Progress} (f : r ≡ Some p₁) where
         -- main passes
         pub main_passes : SoFar hs m [] out out₁ p₁
-        main_passes = go (top_of hs Main 0 m.code) refl (sym j.answers ∙ f) j.stores
+        main_passes = go (top_of hs Main 0 m.code) refl (sym (ap comes_to f) ∙ j.answers) j.stores
           where
-            go : (t : Top) → top_of hs Main 0 m.code ≡ t → top_answer t none (length m.code) ≡ Some p₁ → out₁ ≡ top_into t 0 out → SoFar hs m [] out out₁ p₁
+            go : (t : Top) → top_of hs Main 0 m.code ≡ t → Some (p₁.chunks, p₁.heights.now) ≡ top_answer t 0 (drop (length m.code) hs) → out₁ ≡ top_into t 0 out → SoFar hs m [] out out₁ p₁
             go (Top.top n) g q s =
-                let i : ◌≡◌ {A = Progress} (record { chunks = 0 + 1; heights = 0 + length m.code }) p₁ = cc in
+                let i : ◌≡◌ {A = ℕ × List ℕ} (p₁.chunks, p₁.heights.now) (0 + 1, drop (length m.code) hs) = cc in
                 record {
                   tops = n ∷ [];
                   passed = judged_main hs m ∙ ap (λ t. also t 0 []) g;
-                  chunks = omega (arith, ap (λ (p : Progress). p.chunks) i);
-                  heights = omega (arith, ap (λ (p : Progress). p.heights) i);
+                  chunks = omega (arith, ap (λ (p : ℕ × List ℕ). p.0) i);
+                  heights = sym (ap (λ (p : ℕ × List ℕ). p.1) i);
                   stored = s;
                 }
-            go Top.fails g q s = not_on q
+            go Top.fails g q s = not_on (sym q)
 
         -- and the pool can be judged
-        pub pool_ready : (n : ℕ) → 65536 ≤ n → length l ≡ length {A = ℕ} (replicate n 0) → PoolReady l p.pool.bytes.now p.pool.start p.pool.end p₁
+        pub pool_ready : (n : ℕ) → 65536 ≤ n → length l ≡ length {A = ℕ} (replicate n 0) → PoolReady l p.pool.bytes.now p.pool.start p.pool.end p₁.chunks
         pool_ready n h q =
             let s = image_short in
             record {

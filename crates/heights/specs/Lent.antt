@@ -1,6 +1,6 @@
--- What checking, judging and proposing keep of what they are lent.
+-- What going over a chunk, judging and proposing keep of what they are lent.
 use Rattle.std.specs.Prelude.{ℕ, ◌≡◌, length}
-use Rattle.heights.specs.declared.chunk.Checker.{Checker}
+use Rattle.heights.specs.declared.chunk.Marks.{Marks}
 use Rattle.heights.specs.declared.image.Judging.{Judging}
 use Rattle.heights.specs.declared.propose.Proposer.{Proposer}
 
@@ -8,11 +8,10 @@ use Rattle.heights.specs.declared.propose.Proposer.{Proposer}
 abbrev pub slices : Judging → ℕ × ℕ
 slices s = (s.output.ghost_name, s.marks.ghost_name)
 
--- the slices stay as long as they are, and the heights as they are
+-- the slices stay as long as they are
 pub record Lent (s s' : Judging) : Type 0 where
   pub output : length s'.output.now ≡ length s.output.now
   pub marks : length s'.marks.now ≡ length s.marks.now
-  pub heights : s'.heights.now ≡ s.heights.now
   pub same : slices s' ≡ slices s
 
 -- a proposer's
@@ -24,8 +23,8 @@ pub record Lends (s s' : Proposer) : Type 0 where
   pub marks : length s'.marks.now ≡ length s.marks.now
   pub same : lists s' ≡ lists s
 
--- a checker's
-pub record Keeps (s s' : Checker) : Type 0 where
-  pub marks : length s'.marks.now ≡ length s.marks.now
+-- the marks of a chunk
+pub record Keeps (s s' : Marks) : Type 0 where
+  pub levels : length s'.levels.now ≡ length s.levels.now
   pub code : s'.code ≡ s.code
-  pub same : s'.marks.ghost_name ≡ s.marks.ghost_name
+  pub same : s'.levels.ghost_name ≡ s.levels.ghost_name

@@ -1,9 +1,8 @@
 // One forward pass over a chunk. A mark says what arrives at an offset of the image: nothing, no way from the chunk's start, or GROUND + h: the height h.
-// Kept: marks are numbers: an enum of the three takes eight bytes for four, and calls 256 KB of stack more than include/monkey.h promises; a struct
-// of one number would be another type in the calls that C's functions and `trial` make, and order and sums are what marks are for.
+// Kept: numbers: with `Height(u32)` an enum takes 256 KB of stack more; with `Height(u16)` each height, u32 in C's lists, is to be tested.
 ghost use Rattle.std.specs.Prelude.{true, ◌≡◌, ℕ, ◌+◌, ◌-◌, ◌<◌, ◌≤◌, leb, ltb, length, get_or};
 ghost use Rattle.definition.specs.Basic.{pick, both};
-ghost use Rattle.definition.specs.Effect.{takes as taken};
+ghost use Rattle.definition.specs.Effect.{takes as taken, flow_of, falls as follows, leaps as targets};
 ghost use Rattle.opcode.specs.Decoding.{instr_of};
 ghost use Rattle.heights.specs.Pass.{agree as agreeing, behind as after, free as clear, fits as fitting, lastly};
 ghost use Rattle.definition.specs.Bytecode.{Code};
@@ -24,11 +23,11 @@ pub const NO_WAY: u32 = 1;
 // The mark where height 0 arrives, as at a chunk's start.
 pub const GROUND: u32 = 2;
 
-// A chunk that passes: its greatest height, and how many heights were read so far.
+// A chunk that passes: its greatest height, and the heights behind its own.
 #[derive(Clone, Copy)]
-pub struct ChunkTop {
+pub struct ChunkTop<'a> {
     pub top: u32,
-    pub heights: usize,
+    pub rest: &'a [u32],
 }
 
 // The kinds of chunks.
@@ -57,30 +56,11 @@ fn agree(a: u32, b: u32) -> bool
     a <= NO_WAY || b <= NO_WAY || a == b
 }
 
-// Let a level arrive at an offset; whether it agrees with what arrived before.
-fn arrive(marks: &mut [u32], at: usize, level: u32) -> bool
-    requires { at < length marks.old }
-    ensures answers { result ≡ agreeing (get_or marks.old at 0) level }
-    ensures stores { marks.new ≡ with_arrival marks.old at level }
-{
-    let before = marks[at];
-    marks[at] = before.max(level);
-    agree(before, level)
-}
-
 // Whether what arrives has the height offered, and the instruction takes no more.
 fn fits(i: Instruction, level: u32, offered: u32) -> bool
     ensures { result ≡ fitting (instr_of i) level offered }
 {
     level <= NO_WAY || level - GROUND == offered && takes(i) <= level - GROUND
-}
-
-// Whether nothing arrives at the operands of an instruction.
-fn free(marks: &[u32], at: usize, width: usize) -> bool
-    requires { at + width < length marks.now }
-    ensures { result ≡ clear (λ k. get_or marks.now k 0) at width }
-{
-    marks[at + 1..at + 1 + width].iter().all(|m| *m == NOTHING)
 }
 
 // What arrives behind an instruction.
@@ -95,25 +75,6 @@ fn behind(i: Instruction, level: u32) -> u32
     }
 }
 
-// Kept: six parameters, since it is public, and the check and the proposal call it, each with the marks of a struct of its own.
-// Go on at the target of a jump, which must lie before the end and not before the next instruction.
-pub fn leap(marks: &mut [u32], jumps: bool, next: usize, end: usize, to: usize, level: u32) -> bool
-    requires { end < length marks.old }
-    ensures answers { result ≡ pick jumps (both (leb next to) (both (ltb to end) (agreeing (get_or marks.old to 0) level))) true }
-    ensures stores { result ≡ true → marks.new ≡ pick jumps (with_arrival marks.old to level) marks.old }
-{
-    !jumps || next <= to && to < end && arrive(marks, to, level)
-}
-
-// Go on at the next instruction.
-pub fn fall(marks: &mut [u32], goes: bool, next: usize, level: u32) -> bool
-    requires { next < length marks.old }
-    ensures answers { result ≡ pick goes (agreeing (get_or marks.old next 0) level) true }
-    ensures stores { marks.new ≡ pick goes (with_arrival marks.old next level) marks.old }
-{
-    !goes || arrive(marks, next, level)
-}
-
 // The height of a level.
 pub fn height(level: u32) -> u32
     ensures { result ≡ level - 2 }
@@ -121,83 +82,126 @@ pub fn height(level: u32) -> u32
     level.saturating_sub(GROUND)
 }
 
-// What the check of a chunk is lent: the marks, and the code that it goes over.
+// What going over a chunk is lent: what arrives at each offset of the image, and the code that it goes over.
 #[derive(Drop)]
-struct Checker<'a> {
-    marks: &'a mut [u32],
-    code: Span<'a>,
+pub struct Marks<'a> {
+    pub levels: &'a mut [u32],
+    pub code: Span<'a>,
 }
 
-impl<'a> Checker<'a> {
-    // One instruction; whether it passes.
-    fn step(&mut self, at: usize, next: usize, i: Instruction, offered: u32) -> bool
-        requires { Spot self.old.marks.now self.old.code.start self.old.code.end at next (instr_of i) }
-        ensures steps { Stepped self.old.marks.now self.old.code.start self.old.code.end at offered (instr_of i) result self.new.marks.now }
+impl<'a> Marks<'a> {
+    // Let a level arrive at an offset; whether it agrees with what arrived before.
+    fn arrive(&mut self, at: usize, level: u32) -> bool
+        requires { at < length self.old.levels.now }
+        ensures answers { result ≡ agreeing (get_or self.old.levels.now at 0) level }
+        ensures stores { self.new.levels.now ≡ with_arrival self.old.levels.now at level }
         ensures lent { Keeps self.old self.new }
     {
-        let marks = &mut *self.marks;
-        let level = marks[at];
+        let levels = &mut *self.levels;
+        let before = levels[at];
+        levels[at] = before.max(level);
+        agree(before, level)
+    }
+
+    // Whether nothing arrives at the operands of an instruction.
+    fn free(&self, at: usize, width: usize) -> bool
+        requires { at + width < length self.now.levels.now }
+        ensures { result ≡ clear (λ k. get_or self.now.levels.now k 0) at width }
+    {
+        self.levels[at + 1..at + 1 + width]
+            .iter()
+            .all(|m| *m == NOTHING)
+    }
+
+    // Go on at the target of an instruction that jumps, which must lie before the end and not before the next instruction.
+    pub fn leap(&mut self, i: Instruction, next: usize, level: u32) -> bool
+        requires { (self.old.code.start ≤ self.old.code.end) × (self.old.code.end < length self.old.levels.now) }
+        ensures answers { result ≡ pick (targets (flow_of (instr_of i))) (both (leb next (self.old.code.start + i.operand)) (both (ltb (self.old.code.start + i.operand) self.old.code.end) (agreeing (get_or self.old.levels.now (self.old.code.start + i.operand) 0) level))) true }
+        ensures stores { result ≡ true → self.new.levels.now ≡ pick (targets (flow_of (instr_of i))) (with_arrival self.old.levels.now (self.old.code.start + i.operand) level) self.old.levels.now }
+        ensures lent { Keeps self.old self.new }
+    {
+        let Span { start, end, .. } = self.code;
+        let to = start + i.operand as usize;
+        !leaps(i.op) || next <= to && to < end && self.arrive(to, level)
+    }
+
+    // Go on at the next instruction, where an instruction does.
+    pub fn fall(&mut self, i: Instruction, next: usize, level: u32) -> bool
+        requires { next < length self.old.levels.now }
+        ensures answers { result ≡ pick (follows (flow_of (instr_of i))) (agreeing (get_or self.old.levels.now next 0) level) true }
+        ensures stores { self.new.levels.now ≡ pick (follows (flow_of (instr_of i))) (with_arrival self.old.levels.now next level) self.old.levels.now }
+        ensures lent { Keeps self.old self.new }
+    {
+        !falls(i.op) || self.arrive(next, level)
+    }
+
+    // One instruction; whether it passes.
+    fn step(&mut self, at: usize, next: usize, i: Instruction, offered: u32) -> bool
+        requires { Spot self.old.levels.now self.old.code.start self.old.code.end at next (instr_of i) }
+        ensures steps { Stepped self.old.levels.now self.old.code.start self.old.code.end at offered (instr_of i) result self.new.levels.now }
+        ensures lent { Keeps self.old self.new }
+    {
+        let level = self.levels[at];
         if !fits(i, level, offered) {
             return false;
         }
-        if !free(marks, at, next - at - 1) {
+        if !self.free(at, next - at - 1) {
             return false;
         }
         let after = behind(i, level);
-        let Span { start, end, .. } = self.code;
-        let to = start + i.operand as usize;
-        if !leap(marks, leaps(i.op), next, end, to, after) {
+        if !self.leap(i, next, after) {
             return false;
         }
-        fall(marks, falls(i.op), next, after)
+        self.fall(i, next, after)
     }
 
-    // The instructions, with the heights from `first` on.
-    fn go(&mut self, heights: &[u32], first: usize) -> Option<ChunkTop>
-        requires { PassReady self.old.marks.now self.old.code.bytes.now self.old.code.start self.old.code.end }
-        ensures passes { (c : Code) → CodeIn self.old.code c → PassEnds heights.now first (self.old.code.end - self.old.code.start) self.old.code.start c result self.new.marks.now }
-        ensures same { self.new.marks.ghost_name ≡ self.old.marks.ghost_name }
+    // The instructions, with a height each.
+    fn go<'h>(&mut self, heights: &'h [u32]) -> Option<ChunkTop<'h>>
+        requires { PassReady self.old.levels.now self.old.code.bytes.now self.old.code.start self.old.code.end }
+        ensures passes { (c : Code) → CodeIn self.old.code c → PassEnds heights.now (self.old.code.end - self.old.code.start) self.old.code.start c result self.new.levels.now }
+        ensures same { self.new.levels.ghost_name ≡ self.old.levels.ghost_name }
     {
-        // Kept: a count beside the iterator, since the count is part of the answer, and `enumerate` keeps its own.
-        let mut k = first;
+        let mut rest = heights;
         let mut top = 0u32;
         for (at, i, next) in self.code.instructions() {
-            if heights.len() <= k {
+            let [offered, behind @ ..] = rest else {
                 return None;
-            }
-            let level = self.marks[at];
-            if !self.step(at, next, i, heights[k]) {
+            };
+            let level = self.levels[at];
+            if !self.step(at, next, i, *offered) {
                 return None;
             }
             top = top.max(height(level));
-            k += 1;
+            rest = behind;
         }
-        Some(ChunkTop { top, heights: k })
+        Some(ChunkTop { top, rest })
     }
 }
 
-// The instructions of a chunk, with the heights from `first` on.
-pub fn pass(marks: &mut [u32], code: Span<'_>, heights: &[u32], first: usize) -> Option<ChunkTop>
+// The instructions of a chunk, with a height each.
+pub fn pass<'h>(marks: &mut [u32], code: Span<'_>, heights: &'h [u32]) -> Option<ChunkTop<'h>>
     requires { PassReady marks.old code.bytes.now code.start code.end }
-    ensures { (c : Code) → CodeIn code.entry c → PassEnds heights.now first (code.entry.end - code.entry.start) code.entry.start c result marks.new }
+    ensures { (c : Code) → CodeIn code.entry c → PassEnds heights.now (code.entry.end - code.entry.start) code.entry.start c result marks.new }
 {
-    let mut checker = Checker { marks, code };
-    checker.go(heights, first)
+    let mut marks = Marks {
+        levels: marks,
+        code,
+    };
+    marks.go(heights)
 }
 
 // A chunk, at whose end no more than `last` may arrive.
-pub fn check_chunk(
+pub fn check_chunk<'h>(
     marks: &mut [u32],
     code: Span<'_>,
-    heights: &[u32],
-    first: usize,
+    heights: &'h [u32],
     last: u32,
-) -> Option<ChunkTop>
+) -> Option<ChunkTop<'h>>
     requires { ChunkReady marks.old code.bytes.now code.start code.end }
-    ensures { (c : Code) → CodeIn code.entry c → (kind : Kind) → last ≡ lastly kind → ChunkEnds heights.now kind first code.entry.end c result marks.new }
+    ensures { (c : Code) → CodeIn code.entry c → (kind : Kind) → last ≡ lastly kind → ChunkEnds heights.now kind code.entry.end c result marks.new }
 {
     marks[code.start] = GROUND;
-    let chunk = pass(marks, code, heights, first)?;
+    let chunk = pass(marks, code, heights)?;
     if last < marks[code.end] {
         return None;
     }

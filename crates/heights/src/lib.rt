@@ -23,16 +23,12 @@ pub fn check_heights(image: &[u8], heights: &[u32], output: &mut [u32]) -> Resul
     ensures writes { output.new ≡ heights_into (read_image image.now) heights.now output.old }
 {
     check_image(image)?;
-    match judge(&mut output[..0], image, heights) {
-        Err(place) => refused(Reason::BadHeights, place),
-        Ok(count) => {
-            if output.len() < count {
-                return refused(Reason::OutputShort, 0);
-            }
-            let _ = judge(output, image, heights);
-            Ok(count)
-        }
+    let count = judge(&mut output[..0], image, heights)?;
+    if output.len() < count {
+        return refused(Reason::OutputShort, 0);
     }
+    let _ = judge(output, image, heights);
+    Ok(count)
 }
 
 // Proposes heights for an image by forward flow along the code, 0 where there is no way from the chunk's start: how many stand at the start of the list

@@ -7,8 +7,8 @@ ghost use Rattle.heights.specs.Chunks.{Standing};
 ghost use Rattle.heights.specs.Proposal.{Proposed, FlowSpot, FlowReady, ConstantFlow, PoolFlow};
 ghost use Rattle.heights.specs.Lent.{Lends};
 
-use crate::chunk::{GROUND, NO_WAY, fall, height, leap};
-use crate::effect::{falls, gives, leaps, takes};
+use crate::chunk::{GROUND, Marks, NO_WAY, height};
+use crate::effect::{gives, takes};
 use bytecode::{Parts, Span};
 use definition::output::store;
 use definition::tag;
@@ -44,9 +44,12 @@ impl<'a> Proposer<'a> {
         let level = self.marks[at];
         store(self.heights, self.count, height(level));
         let after = flow(i, level);
-        let to = code.start + i.operand as usize;
-        leap(self.marks, leaps(i.op), next, code.end, to, after);
-        fall(self.marks, falls(i.op), next, after);
+        let mut marks = Marks {
+            levels: &mut *self.marks,
+            code,
+        };
+        marks.leap(i, next, after);
+        marks.fall(i, next, after);
         self.count += 1;
     }
 

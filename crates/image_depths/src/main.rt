@@ -3,15 +3,15 @@
 #![tactic(auto)]
 
 use bytecode::{Parts, Span};
-use definition::tag;
-use report::{print_in_heights, read_full};
+use report::{IMAGE_MOST, print_in_heights, with_heights, with_input};
 use std::io;
 
 // Writes the line of each function among the constants of a pool, with the greatest heights in their order.
 fn print_functions(rt: &impl Print, pool: Span<'_>, tops: &[u32]) -> io::Result<()> {
     let mut tops = tops.iter();
-    for (index, (at, _)) in pool.constants().enumerate() {
-        if pool.bytes.get(at).copied() == Some(tag::FUNCTION_CONST) {
+    for (index, (start, end)) in pool.constants().enumerate() {
+        let constant = Span { start, end, ..pool };
+        if constant.function().is_some() {
             let Some(top) = tops.next() else {
                 return Ok(());
             };
@@ -42,18 +42,13 @@ fn check(rt: &(impl Print + Eprint), image: &[u8], heights: &[u32]) -> io::Resul
     }
 }
 
-// Proposes heights. An image has fewer instructions than bytes; heights behind the last are not read.
+// Proposes heights, and checks them.
 fn run(rt: &(impl Print + Eprint), image: &[u8]) -> io::Result<()> {
-    let mut heights = [0u32; 65536];
-    match heights::propose_heights(image, &mut heights) {
-        Ok(_) => check(rt, image, &heights),
-        Err(r) => print_in_heights(rt, "image_depths", r),
-    }
+    with_heights(rt, "image_depths", image, |heights| {
+        check(rt, image, heights)
+    })
 }
 
-// An image has at most 61,446 bytes: a longer input is refused as its first 61,447 are.
 fn main(rt: HostRuntime) -> io::Result<()> {
-    let mut image = [0u8; 65536];
-    let length = read_full(&mut rt.reader(), &mut image)?;
-    run(&rt, &image[..length])
+    with_input(&rt, &mut [0u8; IMAGE_MOST], |image| run(&rt, image))
 }

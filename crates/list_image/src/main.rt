@@ -1,7 +1,7 @@
 // Reads an image from standard input and writes its listing; or only `refused`, the number and the place.
 #![tactic(auto)]
 
-use report::{print_refusal, read_full, write_first};
+use report::{IMAGE_MOST, print_refusal, with_input, write_first};
 use std::io;
 
 // Lists an image into an output of 65,536 bytes.
@@ -13,9 +13,6 @@ fn run(rt: &impl Print, image: &[u8]) -> io::Result<()> {
     }
 }
 
-// An image has at most 61,446 bytes: a longer input is refused as its first 61,447 are.
 fn main(rt: HostRuntime) -> io::Result<()> {
-    let mut image = [0u8; 65536];
-    let length = read_full(&mut rt.reader(), &mut image)?;
-    run(&rt, &image[..length])
+    with_input(&rt, &mut [0u8; IMAGE_MOST], |image| run(&rt, image))
 }

@@ -1,10 +1,11 @@
 -- A constant that was read, by its tag.
 use Prim.Native.Nat.{ℕ, ◌+◌, ◌-◌, ◌*◌, ◌≤◌}
-use mathlib.Core.Path.{◌≡◌, ◌∙◌, ap, sym, subst}
+use mathlib.Core.Path.{◌≡◌, ◌∙◌, ap, sym, subst, refl}
 use mathlib.Core.List.{[], ◌++◌}
 use native.Mathlib.Omega.{arith}
 use lib.Dec.{eqb}
-use lib.ListN.{length, take, drop}
+use lib.ListN.{length, take, drop, length-drop}
+use lib.Seq.{take-length}
 use borrow.Author.Tests.{eq-eqb, ne_eqb, eqb-true, leb-true}
 use Rattle.definition.specs.Basic.{Bytes, byte_at}
 use Rattle.definition.proofs.Bytes.{bytes_slice}
@@ -18,6 +19,10 @@ use Rattle.bytecode.proofs.Items.{ended}
 use Rattle.bytecode.proofs.Fields.{Good, head_read, then_read}
 use Rattle.listing.specs.Reads.{CodeAt, ConstantAt, function_of, function_head}
 use Rattle.listing.proofs.Lines.{code-size, code-enough}
+
+-- the bytes from an offset on
+pub rest : (b : Bytes) (at : ℕ) → take (length b - at) (drop at b) ≡ drop at b
+rest b at = ap (λ n. take n (drop at b)) (sym (length-drop at b)) ∙ take-length (drop at b)
 
 module _ (b : Bytes) (at end : ℕ) {x : Const} (h : ConstantAt b at end x) where
   -- the length of its content
@@ -44,11 +49,12 @@ module _ (b : Bytes) (at end : ℕ) {x : Const} (h : ConstantAt b at end x) wher
     pub integer-length : (head (byte_at b) at).len ≡ 8
     integer-length = eqb-true len 8 (rw (eq-eqb (byte_at b at) tag_integer_const e) at good.is)
 
-    pub integer_is : {k : ℕ} → k ≡ (head (byte_at b) at).len → end ≤ length b → constant_fields (Const.integer (take (at + 3 + k - (at + 3)) (drop (at + 3) b))) ≡ constant_fields x
-    integer_is f w =
+    pub integer_is : end ≤ length b → constant_fields (Const.integer (take 8 (drop (at + 3) b))) ≡ constant_fields x
+    integer_is w =
         let r : decoded (Const.integer (bytes (byte_at b) (at + 3) len)) (at + 3 + len) ≡ decoded x (at + 3 + len) = rw (eq-eqb (byte_at b at) tag_integer_const e) at content in
         let i : Const.integer (bytes (byte_at b) (at + 3) len) ≡ x = cc in
-        ap (λ c. constant_fields (Const.integer c)) (slice f w) ∙ ap constant_fields i
+        let n : 8 ≡ at + 3 + len - (at + 3) = omega (arith, integer-length) in
+        ap (λ k. constant_fields (Const.integer (take k (drop (at + 3) b)))) n ∙ ap (λ c. constant_fields (Const.integer c)) (slice refl w) ∙ ap constant_fields i
 
   module _ (n : byte_at b at ≡ tag_integer_const → ⊥) where
     -- a string
@@ -91,8 +97,8 @@ module _ (b : Bytes) (at end : ℕ) {x : Const} (h : ConstantAt b at end x) wher
     function_is e m w = subst Function (sym e) (function_read m w)
 
 -- the line of a function and its code, from its numbers
-pub function_text : (b : Bytes) (from len : ℕ) {c : Code} {l p : ℕ} → CodeAt b (from + 3) (from + len) c → l ≡ byte_at b from * 256 + byte_at b (from + 1) → p ≡ byte_at b (from + 2)
-    → function_head l p (len - 3) ++ code_lines c ≡ constant_fields (function_of (byte_at b) from c)
-function_text b from len {c} k e f =
-    let s : len - 3 ≡ size_of c = omega (arith, code-size (byte_at b) (from + len) (from + 3) (from + len - (from + 3)) k.reads) in
+pub function_text : (b : Bytes) (from end : ℕ) {c : Code} {l p : ℕ} → CodeAt b (from + 3) end c → l ≡ byte_at b from * 256 + byte_at b (from + 1) → p ≡ byte_at b (from + 2)
+    → function_head l p (end - (from + 3)) ++ code_lines c ≡ constant_fields (function_of (byte_at b) from c)
+function_text b from end {c} k e f =
+    let s : end - (from + 3) ≡ size_of c = omega (arith, code-size (byte_at b) end (from + 3) (end - (from + 3)) k.reads) in
     λ j. function_head (e j) (f j) (s j) ++ code_lines c

@@ -12,7 +12,7 @@ use Rattle.std.specs.Prelude.{Option, Some, None, MatchOption, IfSome, IfNone}
 use Rattle.definition.specs.Basic.{pick}
 use Rattle.definition.specs.Text.{digit, digits, decimal, padded}
 
-few : (m n : ℕ) → n < 10 → digits (suc m) n ≡ digit n ∷ []
+pub few : (m n : ℕ) → n < 10 → digits (suc m) n ≡ digit n ∷ []
 unfolding digits
 few m n h = rw (lt-ltb n 10 h)
 

@@ -1,15 +1,16 @@
 -- An image that was read: its parts, and what listing it answers.
-use Prim.Native.Nat.{ℕ, ◌+◌, ◌-◌, ◌≤◌, ◌<◌}
+use Prim.Native.Nat.{ℕ, ◌+◌, ◌-◌, ◌≤◌}
 use mathlib.Core.Path.{◌≡◌, ◌∙◌, ap, sym, refl, subst}
 use mathlib.Core.Bool.{Bool, true, false}
 use mathlib.Core.List.{List, [], ◌++◌, append_assoc}
 use native.Mathlib.Omega.{arith}
 use lib.Dec.{eqb}
 use lib.ListN.{length}
-use borrow.Author.Tests.{eqb-true, leb-true, le-leb, lt-leb}
+use lib.Seq.{sets}
+use borrow.Author.Tests.{eqb-true, leb-true, le-leb}
 use Rattle.definition.specs.Basic.{Bytes, byte_at}
 use Rattle.definition.specs.Limit.{pool_limit, constants_limit, code_size}
-use Rattle.definition.specs.Number.{refusal, bad_image, output_short}
+use Rattle.definition.specs.Number.{refusal, bad_image}
 use Rattle.definition.specs.Tag.{tag_main, tag_pool}
 use Rattle.definition.specs.Field.{Head, head, tagged}
 use Rattle.definition.specs.Text.{ascii, decimal}
@@ -27,7 +28,6 @@ use Rattle.bytecode.proofs.Items.{ended, unlike}
 use Rattle.bytecode.proofs.Fields.{main_content, pool_content, head_read, then_read}
 use Rattle.listing.specs.declared.measure.MeasuredImage.{MeasuredImage}
 use Rattle.listing.specs.Measured.{image_measured}
-use Rattle.listing.specs.Put.{Puts, text_limit}
 use Rattle.listing.specs.Reads.{CodeAt, PoolAt, CodeIn, PoolIn, ImageAt, HasImage, pool_text}
 use Rattle.listing.proofs.Lines.{code-size}
 
@@ -159,12 +159,9 @@ wrong_image b out {r} {q} e t = go (read_image b) refl
 
 -- what listing a sound image answers and leaves, by the length of the listing
 module _ (b out : Bytes) {m : Image} (i : ImageAt b m) {size : ℕ} (counts : length (listing m) ≡ size) where
-  pub listing_long : length out < size → (Err (refusal output_short 0) ≡ list_answer (read_image b) (length out)) × (out ≡ list_into (read_image b) out)
-  listing_long h = (rw (i.reads, counts, lt-leb size (length out) h), rw (i.reads, counts, lt-leb size (length out) h))
-
-  pub listing-written : {last : Bytes} {next : ℕ} → size ≤ length out → Puts text_limit out last 0 next (listing m)
+  pub listing-written : {last : Bytes} → size ≤ length out → last ≡ sets out 0 (listing m)
       → (Ok size ≡ list_answer (read_image b) (length out)) × (last ≡ list_into (read_image b) out)
   listing-written h p = (
     rw (i.reads, counts, le-leb size (length out) h),
-    p.stored ∙ sets_over out (listing m) (omega (arith, counts)) ∙ rw (i.reads, counts, le-leb size (length out) h),
+    p ∙ sets_over out (listing m) (omega (arith, counts)) ∙ rw (i.reads, counts, le-leb size (length out) h),
   )

@@ -1,10 +1,11 @@
 -- The lines of code: an instruction's line, and a loop that puts a line a turn.
-use Prim.Native.Nat.{ℕ, zero, suc, ◌+◌, ◌-◌, ◌*◌, ◌≤◌, ◌<◌}
+use Prim.Native.Nat.{ℕ, zero, suc, ◌+◌, ◌-◌, ◌≤◌, ◌<◌}
 use mathlib.Core.Path.{◌≡◌, ◌∙◌, ap, sym, refl, subst}
 use mathlib.Core.Bool.{Bool, true, false}
 use mathlib.Core.List.{[], ◌∷◌, ◌++◌}
 use native.Mathlib.Omega.{arith}
 use lib.Dec.{leb}
+use lib.ListN.{length}
 use borrow.Author.Tests.{leb-true}
 use Rattle.definition.specs.Basic.{Bytes, byte_at}
 use Rattle.definition.specs.Text.{decimal}
@@ -19,9 +20,10 @@ use Rattle.definition.specs.declared.reason.Refusal.{Refusal}
 use Rattle.opcode.proofs.Decoding.{before_within, answered, unanswered}
 use Rattle.definition.proofs.Basic.{both_left, both_right}
 use Rattle.bytecode.proofs.Items.{unlike}
-use Rattle.listing.specs.Put.{Puts, per_byte}
+use Rattle.listing.specs.declared.text.Writer.{Writer}
+use Rattle.listing.specs.Put.{Puts}
 use Rattle.listing.specs.Reads.{CodeAt, HasCode}
-use Rattle.listing.proofs.Puts.{both, none, reworded, wider}
+use Rattle.listing.proofs.Puts.{both, none, reworded}
 use Rattle.listing.proofs.Items.{Reading, begins, ends, Next, next, all_read, enough}
 
 -- the operands, by their number of bytes
@@ -72,26 +74,26 @@ module _ (byte : ℕ → ℕ) (end : ℕ) where
 
 -- the loop at an offset of code from `start` up to `end`
 module _ (b : Bytes) (start end : ℕ) where
-  pub record CodeLoop (o₀ : Bytes) (at : ℕ) (o : Bytes) (to pos : ℕ) : Type 0 where
+  pub record CodeLoop (w₀ w : Writer) (pos : ℕ) : Type 0 where
     pub code : Code
     pub reading : Reading (read_instr (byte_at b)) end (end - start) start code pos
     pub order : pos ≤ end
     pub size_is : start + size_of code ≡ pos
-    pub puts : Puts (per_byte * (pos - start)) o₀ o at to (code_lines code)
+    pub puts : Puts w₀ w (code_lines code)
 
-  pub code-begins : (o : Bytes) (at : ℕ) → start ≤ end → CodeLoop o at o at start
-  code-begins o at h =
-      record { code = []; reading = begins (read_instr (byte_at b)) end (end - start) start; order = h; size_is = omega arith; puts = none o at }
+  pub code-begins : (w : Writer) → w.at ≤ length w.output.now → start ≤ end → CodeLoop w w start
+  code-begins w l h =
+      record { code = []; reading = begins (read_instr (byte_at b)) end (end - start) start; order = h; size_is = omega arith; puts = none w l }
 
-module _ {b : Bytes} {start end : ℕ} {o₀ : Bytes} {at : ℕ} {o : Bytes} {to pos : ℕ} (l : CodeLoop b start end o₀ at o to pos) where
+module _ {b : Bytes} {start end : ℕ} {w₀ w : Writer} {pos : ℕ} (l : CodeLoop b start end w₀ w pos) where
   -- at the same offset
-  pub same : {pos₁ : ℕ} → pos ≡ pos₁ → CodeLoop b start end o₀ at o to pos₁
-  same e = subst (CodeLoop b start end o₀ at o to) e l
+  pub same : {pos₁ : ℕ} → pos ≡ pos₁ → CodeLoop b start end w₀ w pos₁
+  same e = subst (CodeLoop b start end w₀ w) e l
 
-  pub code_ends : end ≤ pos → {c : Code} → CodeAt b start end c → Puts (per_byte * (end - start)) o₀ o at to (code_lines c)
+  pub code_ends : end ≤ pos → {c : Code} → CodeAt b start end c → Puts w₀ w (code_lines c)
   code_ends h k =
       let e : pos ≡ end = omega (arith, l.order) in
-      wider (reworded l.puts (ap code_lines (ends (read_instr (byte_at b)) end (end - start) start l.reading k.reads e))) (omega arith)
+      reworded l.puts (ap code_lines (ends (read_instr (byte_at b)) end (end - start) start l.reading k.reads e))
 
   module _ (h : HasCode b start end) (before : pos < end) {r : Result Found Refusal} (t₀ : r ≡ decode_answer (read_before b pos end)) where
     e : r ≡ decode_answer (read_instr (byte_at b) pos end)
@@ -107,7 +109,6 @@ module _ {b : Bytes} {start end : ℕ} {o₀ : Bytes} {at : ℕ} {o : Bytes} {to
       -- the instruction there
       pub record Turn : Type 0 where
         pub is : instr_of v.instruction ≡ found.x
-        pub known : v.instruction.op < 30
         pub after_is : v.after ≡ found.next
         pub sized : v.after ≡ pos + size found.x
         pub within : v.after ≤ end
@@ -118,13 +119,12 @@ module _ {b : Bytes} {start end : ℕ} {o₀ : Bytes} {at : ℕ} {o : Bytes} {to
           let a = answered e found.found t in
           record {
             is = a.0;
-            known = omega (arith, w.known, ap (λ (j : Instr). j.op) a.0);
             after_is = a.1;
             sized = a.1 ∙ w.after;
             within = omega (arith, w.within, a.1);
           }
 
-      pub code_again : {o₁ : Bytes} {to₁ : ℕ} → Puts per_byte o o₁ to to₁ (code_line (pos - start) (instr_of v.instruction)) → CodeLoop b start end o₀ at o₁ to₁ v.after
+      pub code_again : {w₁ : Writer} → Puts w w₁ (code_line (pos - start) (instr_of v.instruction)) → CodeLoop b start end w₀ w₁ v.after
       code_again p =
           let k = code-turn in
           let s : pos - start ≡ size_of l.code = omega (arith, l.size_is) in
@@ -133,5 +133,5 @@ module _ {b : Bytes} {start end : ℕ} {o₀ : Bytes} {at : ℕ} {o : Bytes} {to
             reading = subst (λ n. Reading (read_instr (byte_at b)) end (end - start) start (found.x ∷ l.code) n) (sym k.after_is) found.reading;
             order = k.within;
             size_is = omega (arith, k.sized, l.size_is);
-            puts = wider (reworded (both l.puts p) (λ j. code_lines l.code ++ code_line (s j) (k.is j))) (omega (arith, k.sized, l.size_is));
+            puts = reworded (both l.puts p) (λ j. code_lines l.code ++ code_line (s j) (k.is j));
           }

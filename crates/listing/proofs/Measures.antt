@@ -10,7 +10,7 @@ use borrow.Author.Tests.{eq-eqb, ne_eqb, eqb-true, leb-true}
 use Rattle.definition.specs.Basic.{Bytes, byte_at}
 use Rattle.definition.proofs.Bytes.{bytes_slice}
 use Rattle.definition.specs.Limit.{code_size, pool_limit, constants_limit}
-use Rattle.definition.specs.Tag.{tag_main, tag_pool, tag_integer_const, tag_string_const, tag_function_const}
+use Rattle.definition.specs.Tag.{tag_main, tag_pool, tag_integer_const, tag_string_const}
 use Rattle.definition.specs.Field.{head, bytes}
 use Rattle.definition.specs.Opcode.{instr_at, op_last}
 use Rattle.definition.specs.Text.{decimal}
@@ -125,10 +125,10 @@ module _ (b : Bytes) (from : ℕ) (h : Head) (sound : is_constant Plain (head_of
   pub integer_long : h.tag ≡ tag_integer_const → h.len ≡ 8
   integer_long e = eqb-true h.len 8 (rw (eq-eqb h.tag tag_integer_const e) at sound)
 
-  pub integer_good : {t : ℕ} → h.tag ≡ tag_integer_const → from + h.len ≤ length b → t ≡ length (constant_fields (Const.integer (take (from + h.len - from) (drop from b))))
+  pub integer_good : {t : ℕ} → h.tag ≡ tag_integer_const → from + h.len ≤ length b → t ≡ length (constant_fields (Const.integer (take 8 (drop from b))))
       → good t (from + h.len) ≡ constant_measured (read_content (byte_at b) (head_of h) from)
   integer_good e w k =
-      let n : from + h.len - from ≡ h.len = omega arith in
+      let n : 8 ≡ h.len = sym (integer_long e) in
       let i = ap (λ n. take n (drop from b)) n ∙ sym (bytes_slice b from h.len w) in
       rw (eq-eqb h.tag tag_integer_const e) (ap (λ (x : ℕ). good x (from + h.len)) (k ∙ ap (λ c. length (constant_fields (Const.integer c))) i))
 
@@ -136,13 +136,6 @@ module _ (b : Bytes) (from : ℕ) (h : Head) (sound : is_constant Plain (head_of
     pub string_good : {t : ℕ} → h.tag ≡ tag_string_const → t ≡ length (constant_fields (Const.string (bytes (byte_at b) from h.len)))
         → good t (from + h.len) ≡ constant_measured (read_content (byte_at b) (head_of h) from)
     string_good e k = rw (ne_eqb h.tag tag_integer_const n, eq-eqb h.tag tag_string_const e) (ap (λ (x : ℕ). good x (from + h.len)) k)
-
-    module _ (m : h.tag ≡ tag_string_const → ⊥) where
-      pub function_long : 3 ≤ h.len
-      function_long = leb-true 3 h.len (both_true (eqb h.tag tag_function_const) (leb 3 h.len) (rw (ne_eqb h.tag tag_integer_const n, ne_eqb h.tag tag_string_const m) at sound)).1
-
-      pub function_is : read_function (byte_at b) from h.len ≡ read_content (byte_at b) (head_of h) from
-      function_is = rw (ne_eqb h.tag tag_integer_const n, ne_eqb h.tag tag_string_const m)
 
 -- constants: the loop at an offset, after so many, with the length of their lines
 module _ (b : Bytes) (start end : ℕ) where

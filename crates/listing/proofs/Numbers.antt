@@ -4,9 +4,9 @@ use mathlib.Core.Bool.{Bool, true, false}
 use native.Mathlib.Omega.{arith}
 use mathlib.Core.Path.{◌≡◌, refl, sym, ap, subst, ◌∙◌}
 use mathlib.Core.List.{[], ◌∷◌, ◌++◌}
-use lib.ListN.{length, drop, get_or}
+use lib.ListN.{length, take, get_or}
 use lib.Dec.{ltb}
-use lib.Seq.{drop-cons, take-length}
+use lib.Seq.{take-suc, take-length}
 use native.Mathlib.Numerals.{add-one}
 use borrow.Author.Tests.{lt-ltb, le-ltb, ltb-true, ltb-false}
 use Rattle.std.specs.Prelude.{ℤ, unsigned_abs}
@@ -48,13 +48,13 @@ module _ (b : Bytes) (long : length b ≡ 8) (below : (i : ℕ) → byte_at b i 
           let g : suc k ≡ 2 ^ 64 - number 0 b = omega (arith, small) in
           subst Shown (sym (to_z-neg w64 k (omega (arith, h))) ∙ ap (cast_signed w64) f) (record { negative = λ x. rw (le-ltb (byte_at b 0) 128 l) (ap (λ n. ascii "-" ++ decimal n) g); positive = λ x. cc })
 
--- a byte of a text, and what is behind it
-pub text_next : (t : Bytes) (k : ℕ) → k < length t → drop k t ≡ (get_or t k 0 ∷ []) ++ drop (k + 1) t
-text_next t k h = rw (add-one, drop-cons t k 0)
+-- bytes in hexadecimal, and one more
+hex-append : (s t : Bytes) → hex (s ++ t) ≡ hex s ++ hex t
+hex-append [] t = refl
+hex-append (b ∷ s) t = ap (λ (r : Bytes). hex (b ∷ []) ++ r) (hex-append s t)
 
--- a byte in hexadecimal, and those behind it
-pub hex_next : (t : Bytes) (k : ℕ) → k < length t → hex (drop k t) ≡ hex (get_or t k 0 ∷ []) ++ hex (drop (k + 1) t)
-hex_next t k h = ap hex (text_next t k h)
+pub hex_again : (t : Bytes) (k : ℕ) → k < length t → hex (take k t) ++ hex (get_or t k 0 ∷ []) ≡ hex (take (k + 1) t)
+hex_again t k h = sym (hex-append (take k t) (get_or t k 0 ∷ [])) ∙ ap hex (sym (take-suc t k 0 h)) ∙ ap (λ j. hex (take j t)) (sym (add-one k))
 
 -- no field for no bytes, and one for some
 pub no_hex : (b : Bytes) → length b ≡ 0 → [] ≡ hex_field b

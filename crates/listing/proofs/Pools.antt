@@ -1,5 +1,5 @@
 -- The lines of a pool: a loop that puts a constant a turn.
-use Prim.Native.Nat.{ℕ, ◌+◌, ◌-◌, ◌*◌, ◌≤◌, ◌<◌}
+use Prim.Native.Nat.{ℕ, ◌+◌, ◌≤◌, ◌<◌}
 use mathlib.Core.Path.{◌≡◌, ◌∙◌, ap, sym, refl, subst, subst₂}
 use mathlib.Core.List.{List, [], ◌∷◌, ◌++◌}
 use native.Mathlib.Omega.{arith}
@@ -12,41 +12,40 @@ use Rattle.definition.specs.Bytecode.{Const}
 use Rattle.definition.specs.Decode.{decoded, read_const}
 use Rattle.definition.specs.Listing.{constant_fields, constant_lines}
 use Rattle.bytecode.proofs.Fields.{const_end, const_ends}
-use Rattle.listing.specs.Put.{Puts, per_byte}
+use Rattle.listing.specs.declared.text.Writer.{Writer}
+use Rattle.listing.specs.Put.{Puts}
 use Rattle.listing.specs.Reads.{ConstantAt, PoolAt, HasPool}
-use Rattle.listing.proofs.Puts.{both, none, reworded, wider}
+use Rattle.listing.proofs.Puts.{both, none, reworded}
 use Rattle.listing.proofs.Items.{Reading, begins, ends, Next, next}
 
 module _ (b : Bytes) (start end : ℕ) where
   -- the loop at an offset, after so many constants
-  pub record PoolLoop (o₀ : Bytes) (at : ℕ) (o : Bytes) (to pos count : ℕ) : Type 0 where
+  pub record PoolLoop (w₀ w : Writer) (pos count : ℕ) : Type 0 where
     pub pool : List Const
     pub reading : Reading (read_const (byte_at b)) end constants_limit start pool pos
     pub order : pos ≤ end
-    pub many : start + count ≤ pos
     pub counted : length pool ≡ count
-    pub puts : Puts (per_byte * (pos - start)) o₀ o at to (constant_lines pool)
+    pub puts : Puts w₀ w (constant_lines pool)
 
-  pub pool-begins : (o : Bytes) (at : ℕ) → start ≤ end → PoolLoop o at o at start 0
-  pool-begins o at h =
+  pub pool-begins : (w : Writer) → w.at ≤ length w.output.now → start ≤ end → PoolLoop w w start 0
+  pool-begins w l h =
       record {
         pool = [];
         reading = begins (read_const (byte_at b)) end constants_limit start;
         order = h;
-        many = omega arith;
         counted = refl;
-        puts = none o at;
+        puts = none w l;
       }
 
-module _ {b : Bytes} {start end : ℕ} {o₀ : Bytes} {at : ℕ} {o : Bytes} {to pos count : ℕ} (l : PoolLoop b start end o₀ at o to pos count) where
+module _ {b : Bytes} {start end : ℕ} {w₀ w : Writer} {pos count : ℕ} (l : PoolLoop b start end w₀ w pos count) where
   -- at the same offset, after as many constants
-  pub same : {pos₁ count₁ : ℕ} → pos ≡ pos₁ → count ≡ count₁ → PoolLoop b start end o₀ at o to pos₁ count₁
-  same e f = subst₂ (PoolLoop b start end o₀ at o to) e f l
+  pub same : {pos₁ count₁ : ℕ} → pos ≡ pos₁ → count ≡ count₁ → PoolLoop b start end w₀ w pos₁ count₁
+  same e f = subst₂ (PoolLoop b start end w₀ w) e f l
 
-  pub pool_ends : end ≤ pos → {cs : List Const} → PoolAt b start end cs → Puts (per_byte * (end - start)) o₀ o at to (constant_lines cs)
+  pub pool_ends : end ≤ pos → {cs : List Const} → PoolAt b start end cs → Puts w₀ w (constant_lines cs)
   pool_ends h k =
       let e : pos ≡ end = omega (arith, l.order) in
-      wider (reworded l.puts (ap constant_lines (ends (read_const (byte_at b)) end constants_limit start l.reading k.reads e))) (omega arith)
+      reworded l.puts (ap constant_lines (ends (read_const (byte_at b)) end constants_limit start l.reading k.reads e))
 
   module _ (h : HasPool b start end) (before : pos < end) where
     pub found : Next (read_const (byte_at b)) end constants_limit start l.reading h.is.reads
@@ -68,9 +67,8 @@ module _ {b : Bytes} {start end : ℕ} {o₀ : Bytes} {at : ℕ} {o : Bytes} {to
           within = omega arith;
         }
 
-    pub pool_again : {o₁ o₂ : Bytes} {to₁ to₂ len : ℕ} → Puts 20 o o₁ to to₁ (decimal count)
-        → Puts (per_byte * (1 + (head (byte_at b) pos).len)) o₁ o₂ to₁ to₂ (constant_fields found.x) → len ≡ (head (byte_at b) pos).len
-        → PoolLoop b start end o₀ at o₂ to₂ (pos + 3 + len) (count + 1)
+    pub pool_again : {w₁ w₂ : Writer} {len : ℕ} → Puts w w₁ (decimal count) → Puts w₁ w₂ (constant_fields found.x) → len ≡ (head (byte_at b) pos).len
+        → PoolLoop b start end w₀ w₂ (pos + 3 + len) (count + 1)
     pool_again {len = len} p q e =
         let k = pool-turn in
         let a : found.next ≡ pos + 3 + len = omega (arith, k.after_is) in
@@ -78,9 +76,6 @@ module _ {b : Bytes} {start end : ℕ} {o₀ : Bytes} {at : ℕ} {o : Bytes} {to
           pool = found.x ∷ l.pool;
           reading = subst (λ n. Reading (read_const (byte_at b)) end constants_limit start (found.x ∷ l.pool) n) a found.reading;
           order = omega (arith, k.within);
-          many = omega (arith, l.many);
           counted = omega (arith, l.counted);
-          puts =
-              wider (reworded (both (both l.puts p) q) (ap (λ n. constant_lines l.pool ++ decimal n ++ constant_fields found.x) (sym l.counted)))
-              (omega (arith, l.many));
+          puts = reworded (both (both l.puts p) q) (ap (λ n. constant_lines l.pool ++ decimal n ++ constant_fields found.x) (sym l.counted));
         }

@@ -1,67 +1,69 @@
 -- Texts put one after the other.
-use Prim.Native.Nat.{ℕ, ◌+◌, ◌≤◌, ◌<◌}
+use Prim.Native.Nat.{ℕ, suc, ◌+◌, ◌-◌, ◌≤◌, min}
 use native.Mathlib.Omega.{arith}
+use mathlib.Core.Bool.{Bool, true, false}
 use mathlib.Core.Path.{◌≡◌, refl, sym, ap, ◌∙◌}
 use mathlib.Core.List.{[], ◌∷◌, ◌++◌}
-use lib.ListN.{length, set, length-append}
-use lib.Seq.{sets, length-sets}
+use lib.Dec.{leb}
+use lib.ListN.{length, take, drop, length-append, take-append-drop}
+use lib.Seq.{sets, length-sets, length-take-le}
+use borrow.Author.Tests.{leb-true, leb-false}
+use Rattle.std.proofs.lemmas.List.{set_past, take_all}
 use Rattle.definition.specs.Basic.{Bytes}
 use Rattle.session.proofs.Stores.{sets_append}
+use Rattle.listing.specs.declared.text.Writer.{Writer}
 use Rattle.listing.specs.Put.{Puts}
 
--- nothing
-pub none : (o : Bytes) (at : ℕ) {most : ℕ} → Puts most o o at at []
-none o at = record { stored = refl; counted = omega arith; short = omega arith }
+-- past the end a store does nothing
+sets_past : (l : Bytes) (i : ℕ) (xs : Bytes) → length l ≤ i → sets l i xs ≡ l
+sets_past l i [] h = refl
+sets_past l i (x ∷ xs) h = let e = set_past l i x h in ap (λ m. sets m (suc i) xs) e ∙ sets_past l (suc i) xs (omega arith)
 
--- a byte; past the end a store does nothing
-pub one : (o : Bytes) (at b : ℕ) → Puts 1 o (set o at b) at (at + 1) (b ∷ [])
-one o at b = record { stored = refl; counted = refl; short = omega arith }
+-- so many of a text's bytes as there is room for, in place of all
+pub sets_cut : (l : Bytes) (i n : ℕ) (xs : Bytes) → n ≡ min (length xs) (length l - i) → i ≤ length l → sets l i (take n xs) ≡ sets l i xs
+sets_cut l i n xs e h = go (leb (length xs) (length l - i)) refl
+  where
+    go : (t : Bool) → leb (length xs) (length l - i) ≡ t → sets l i (take n xs) ≡ sets l i xs
+    go true t = let k = leb-true _ _ t in ap (sets l i) (take_all n xs (omega (arith, e)))
+    go false t =
+        let k = leb-false _ _ t in
+        let s : length (take n xs) ≡ n = length-take-le n xs (omega (arith, e)) in
+        sym (sets_past (sets l i (take n xs)) (i + length (take n xs)) (drop n xs) (omega (arith, e, s, length-sets l i (take n xs))))
+        ∙ sets_append l i (take n xs) (drop n xs) refl ∙ ap (sets l i) (take-append-drop n xs)
+
+-- nothing
+pub none : (s : Writer) → s.at ≤ length s.output.now → Puts s s []
+none s h = record { stored = refl; fits = λ e. omega arith; full = λ e. omega arith; same = refl }
+
+-- another form of the same text
+pub reworded : {s s' : Writer} {a b : Bytes} → Puts s s' a → a ≡ b → Puts s s' b
+reworded p e = rw e at p
 
 -- a text, and another behind it
-pub both : {m n : ℕ} {o o₁ o₂ : Bytes} {a b c : ℕ} {s t : Bytes} → Puts m o o₁ a b s → Puts n o₁ o₂ b c t → Puts (m + n) o o₂ a c (s ++ t)
-both {m} {n} {o} {o₁} {o₂} {a} {b} {c} {s} {t} p q =
+pub both : {s t u : Writer} {a b : Bytes} → Puts s t a → Puts t u b → Puts s u (a ++ b)
+both {s} {t} {u} {a} {b} p q =
     record {
-      stored = q.stored ∙ ap (λ l. sets l b t) p.stored ∙ sets_append o a s t (sym p.counted);
-      counted = omega (arith, p.counted, q.counted, length-append s t);
-      short = omega (arith, p.short, q.short);
+      stored = q.stored ∙ go (leb (s.at + length a) (length s.output.now)) refl;
+      fits = λ h. omega (arith, n, l, p.fits (omega (arith, l)), q.fits (omega (arith, l, n, p.fits (omega (arith, l)))));
+      full = λ h. filled h (leb (s.at + length a) (length s.output.now)) refl;
+      same = q.same ∙ p.same;
     }
+  where
+    l : length (a ++ b) ≡ length a + length b
+    l = length-append a b
 
--- the output keeps its length
-pub kept : {m : ℕ} {o o₁ : Bytes} {a b : ℕ} {t : Bytes} → Puts m o o₁ a b t → length o₁ ≡ length o
-kept {o = o} {a = a} {t = t} p = ap length p.stored ∙ length-sets o a t
+    n : length t.output.now ≡ length s.output.now
+    n = ap length p.stored ∙ length-sets s.output.now s.at a
 
--- with a wider bound, and another form of the same text
-pub wider : {m n : ℕ} {o o₁ : Bytes} {a b : ℕ} {t : Bytes} → Puts m o o₁ a b t → m ≤ n → Puts n o o₁ a b t
-wider p h = record { stored = p.stored; counted = p.counted; short = omega (arith, p.short) }
+    go : (x : Bool) → leb (s.at + length a) (length s.output.now) ≡ x → sets t.output.now t.at b ≡ sets s.output.now s.at (a ++ b)
+    go true e = ap (λ m. sets m t.at b) p.stored ∙ sets_append s.output.now s.at a b (sym (p.fits (leb-true _ _ e)))
+    go false e =
+        let h = leb-false _ _ e in
+        sets_past t.output.now t.at b (omega (arith, n, p.full (omega arith)))
+        ∙ sym (sets_past t.output.now (s.at + length a) b (omega (arith, n)))
+        ∙ ap (λ m. sets m (s.at + length a) b) p.stored
+        ∙ sets_append s.output.now s.at a b refl
 
-pub reworded : {m : ℕ} {o o₁ : Bytes} {a b : ℕ} {s t : Bytes} → Puts m o o₁ a b s → s ≡ t → Puts m o o₁ a b t
-reworded {m} {o} {o₁} {a} {b} p e = rw e at p
-
--- a loop that puts a text from its front, up to an end: what is left decides
-module _ (end : ℕ) (rest : ℕ → Bytes) where
-  pub record Putting (o₀ : Bytes) (at : ℕ) (all o : Bytes) (next k : ℕ) : Type 0 where
-    pub order : k ≤ end
-    pub same : sets o₀ at all ≡ sets o next (rest k)
-    pub count : at + length all ≡ next + length (rest k)
-    pub kept : length o ≡ length o₀
-
-  pub begins : (o : Bytes) (at from : ℕ) → from ≤ end → Putting o at (rest from) o at from
-  begins o at from h = record { order = h; same = refl; count = refl; kept = refl }
-
-  module _ {o₀ : Bytes} {at : ℕ} {all o : Bytes} {next k : ℕ} (l : Putting o₀ at all o next k) where
-    pub again : {m : ℕ} {o₁ : Bytes} {next₁ : ℕ} {s : Bytes} → k < end → rest k ≡ s ++ rest (k + 1) → Puts m o o₁ next next₁ s → Putting o₀ at all o₁ next₁ (k + 1)
-    again {next₁ = next₁} {s = s} h e p =
-        record {
-          order = omega arith;
-          same =
-              l.same ∙ ap (sets o next) e ∙ sym (sets_append o next s (rest (k + 1)) (sym p.counted))
-              ∙ ap (λ x. sets x next₁ (rest (k + 1))) (sym p.stored);
-          count = omega (arith, l.count, p.counted, ap length e, length-append s (rest (k + 1)));
-          kept = ap length p.stored ∙ length-sets o next s ∙ l.kept;
-        }
-
-    pub ends : {most : ℕ} → end ≤ k → rest end ≡ [] → length all ≤ most → Puts most o₀ o at next all
-    ends h e b =
-        let n : k ≡ end = omega (arith, l.order) in
-        let z : rest k ≡ [] = ap rest n ∙ e in
-        record { stored = sym (l.same ∙ ap (sets o next) z); counted = omega (arith, l.count, ap length z); short = omega (arith, l.count) }
+    filled : length s.output.now ≤ s.at + length (a ++ b) → (x : Bool) → leb (s.at + length a) (length s.output.now) ≡ x → u.at ≡ length s.output.now
+    filled h true e = let f = p.fits (leb-true _ _ e) in omega (arith, n, l, q.full (omega (arith, n, l)))
+    filled h false e = let f = p.full (omega (arith, leb-false _ _ e)) in omega (arith, n, q.full (omega (arith, n)))

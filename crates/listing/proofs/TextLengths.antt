@@ -1,20 +1,15 @@
 -- How long the texts of instructions and constants are.
-use Prim.Native.Nat.{ℕ, ◌+◌, ◌*◌, ◌<◌}
+use Prim.Native.Nat.{ℕ, ◌+◌, ◌*◌}
 use native.Mathlib.Omega.{arith}
 use mathlib.Core.Path.{◌≡◌, refl}
 use mathlib.Core.List.{[], ◌∷◌}
-use lib.ListN.{length, get_or, length-append}
+use lib.ListN.{length, length-append}
 use Rattle.definition.specs.Basic.{Bytes}
 use Rattle.definition.specs.Text.{decimal, signed}
 use Rattle.definition.specs.Bytecode.{Const}
-use Rattle.definition.specs.Listing.{word, constant_fields}
-use Rattle.opcode.proofs.Tables.{tabulate, tabulated}
+use Rattle.definition.specs.Listing.{constant_fields}
 use Rattle.listing.specs.Reads.{function_head}
 use Rattle.listing.proofs.Numbers.{length-hex}
-
--- the table of the words' lengths is its rule
-pub lengths : (o : ℕ) → o < 30 → get_or (tabulate (λ o. length (word o)) 0 30) o 0 ≡ length (word o)
-lengths = tabulated (λ o. length (word o)) 30
 
 -- the line of a constant behind its index
 pub integer_is : (b : Bytes) → 9 + length (signed b) + 1 ≡ length (constant_fields (Const.integer b))

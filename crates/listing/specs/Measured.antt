@@ -23,12 +23,6 @@ pub record InstrAt (b : Bytes) (at size : ℕ) : Type 0 where
   pub is : size ≡ 1 + width (byte_at b at)
   pub within : at + size ≤ length b
 
--- a part of an image, short enough for its text to be counted
-pub record Piece (b : Bytes) (at end : ℕ) : Type 0 where
-  pub order : at ≤ end
-  pub within : end ≤ length b
-  pub few : end ≤ at + 65536
-
 -- code and a constant, with the length of a text of what was read
 abbrev pub measured : {A : Type 0} → (A → Bytes) → Decoded A → Result Measured Malformed
 measured text (decoded x n) = Ok (record { text = length (text x); end = n })

@@ -13,11 +13,6 @@ ghost use Rattle.listing.specs.Measured.{InstrAt, operands_of};
 use crate::text::integer;
 use field::{wide, word};
 
-// The length of the word of each instruction byte.
-static WORD_LENGTHS: [u8; 30] = [
-    8, 3, 3, 3, 3, 3, 4, 5, 5, 8, 11, 5, 4, 13, 4, 4, 9, 9, 5, 4, 5, 4, 11, 6, 8, 8, 10, 7, 7, 14,
-];
-
 // How many digits a number has in decimal.
 pub fn decimal_length(n: usize) -> usize
     ensures is { result ≡ length (decimal n) }
@@ -38,8 +33,7 @@ fn padded_length(n: usize) -> usize
 }
 
 // The length of eight bytes in two's complement as a number in decimal.
-fn signed_length(bytes: &[u8]) -> usize
-    requires { length bytes.now ≡ 8 }
+fn signed_length(bytes: &[u8; 8]) -> usize
     ensures is { result ≡ length (signed bytes.now) }
     ensures small { result ≤ 21 }
 {
@@ -71,7 +65,7 @@ fn word_length(op: u8) -> usize
     ensures is { result ≡ length (word_of op) }
     ensures small { result < 256 }
 {
-    wide(WORD_LENGTHS[wide(op)])
+    opcode::word_of(op).len()
 }
 
 // The length of the line of the instruction of `size` bytes at `at`, which has a position in its code.
@@ -85,8 +79,7 @@ pub fn line_length(image: &[u8], position: usize, at: usize, size: usize) -> usi
 }
 
 // The length of an integer constant's line behind its index.
-pub fn integer_length(content: &[u8]) -> usize
-    requires { length content.now ≡ 8 }
+pub fn integer_length(content: &[u8; 8]) -> usize
     ensures is { result ≡ length (constant_fields (Const.integer content.now)) }
     ensures small { result ≤ 31 }
 {

@@ -3,9 +3,9 @@ ghost use Rattle.std.specs.Prelude.{◌≡◌, true, ℕ, ◌+◌, ◌-◌, ◌*
 ghost use Rattle.definition.specs.Basic.{byte_at};
 ghost use Rattle.definition.specs.Field.{head};
 ghost use Rattle.definition.specs.Decode.{read_code, read_function, read_content, read_const, read_pool, read_image};
-ghost use Rattle.bytecode.specs.Checked.{head_of, is_constant, constants, main_code};
+ghost use Rattle.bytecode.specs.Checked.{Part, head_of, is_constant, constants, main_code};
 ghost use Rattle.listing.specs.Put.{per_byte};
-ghost use Rattle.listing.specs.Measured.{Piece, code_measured, constant_measured, pool_measured, image_measured, text_of, pool_text_of};
+ghost use Rattle.listing.specs.Measured.{code_measured, constant_measured, pool_measured, image_measured, text_of, pool_text_of};
 
 use crate::lengths::{decimal_length, function_length, integer_length, line_length, string_length};
 use bytecode::{Form, Head, Malformed, head_where};
@@ -35,96 +35,130 @@ pub struct MeasuredImage {
     pub size: usize,
 }
 
-// Reads code from `start` up to `end`.
-// Kept: offsets and no slice, here and below, since a refusal names the offset in the image.
-fn measure_code(image: &[u8], start: usize, end: usize) -> Result<Measured, Malformed>
-    requires { Piece image.now start end }
-    ensures is { (len : ℕ) → end ≤ start + len → result ≡ code_measured (read_code (byte_at image.now) len start end) }
-    ensures small { text_of result ≤ per_byte * (end - start) }
-{
-    // Kept: a `while`, since over `Instructions` the check of an image takes 4 to 6 % more instructions, and the bar is 3 %.
-    let mut at = start;
-    let mut text = 0;
-    while at < end {
-        match size_at(image, at, end) {
-            Some(size) => {
-                text += line_length(image, at - start, at, size);
-                at += size;
+// A part of an image, from an offset up to another, short enough for its text to be counted.
+// Kept: offsets and no slice, since a refusal names the offset in the image.
+#[derive(Clone, Copy)]
+struct Piece<'a> {
+    image: &'a [u8],
+    at: usize,
+    end: usize,
+    ghost part: { Part image.now at end },
+    ghost few: { end ≤ at + 65536 },
+}
+
+impl<'a> Piece<'a> {
+    // Reads code.
+    fn measure_code(self) -> Result<Measured, Malformed>
+        ensures is { (len : ℕ) → self.entry.end ≤ self.entry.at + len → result ≡ code_measured (read_code (byte_at self.entry.image.now) len self.entry.at self.entry.end) }
+        ensures small { text_of result ≤ per_byte * (self.entry.end - self.entry.at) }
+    {
+        let Piece {
+            image,
+            at: start,
+            end,
+        } = self;
+        // Kept: a `while`, since over `Instructions` the check of an image takes 4 to 6 % more instructions, and the bar is 3 %.
+        let mut at = start;
+        let mut text = 0;
+        while at < end {
+            match size_at(image, at, end) {
+                Some(size) => {
+                    text += line_length(image, at - start, at, size);
+                    at += size;
+                }
+                None => return Err(Malformed { place: at }),
             }
-            None => return Err(Malformed { place: at }),
         }
+        Ok(Measured {
+            text: text,
+            end: at,
+        })
     }
-    Ok(Measured {
-        text: text,
-        end: at,
-    })
-}
 
-// Reads a function constant's content, of at least three bytes.
-fn measure_function(image: &[u8], from: usize, len: usize) -> Result<Measured, Malformed>
-    requires { Piece image.now from (from + len) × (3 ≤ len) }
-    ensures is { result ≡ constant_measured (read_function (byte_at image.now) from len) }
-    ensures small { text_of result + 20 ≤ per_byte * (1 + len) }
-{
-    let locals = word(image[from], image[from + 1]);
-    let parameters = wide(image[from + 2]);
-    let code = measure_code(image, from + 3, from + len)?;
-    Ok(Measured {
-        text: function_length(locals, parameters, len - 3) + code.text,
-        end: code.end,
-    })
-}
+    // Reads a function constant's content, of at least three bytes.
+    fn measure_function(self) -> Result<Measured, Malformed>
+        requires { self.at + 3 ≤ self.end }
+        ensures is { result ≡ constant_measured (read_function (byte_at self.entry.image.now) self.entry.at (self.entry.end - self.entry.at)) }
+        ensures small { text_of result + 20 ≤ per_byte * (1 + (self.entry.end - self.entry.at)) }
+    {
+        let Piece { image, at, end } = self;
+        let locals = word(image[at], image[at + 1]);
+        let parameters = wide(image[at + 2]);
+        let code = Piece {
+            image,
+            at: at + 3,
+            end,
+        };
+        let measured = code.measure_code()?;
+        Ok(Measured {
+            text: function_length(locals, parameters, end - at - 3) + measured.text,
+            end: measured.end,
+        })
+    }
 
-// Reads a constant's content, whose head is good.
-fn measure_content(image: &[u8], from: usize, head: Head) -> Result<Measured, Malformed>
-    requires { Piece image.now from (from + head.len) × (is_constant Form.Plain (head_of head) ≡ true) }
-    ensures is { result ≡ constant_measured (read_content (byte_at image.now) (head_of head) from) }
-    ensures small { text_of result + 20 ≤ per_byte * (1 + head.len) }
-{
-    let end = from + head.len;
-    let text = match head.tag {
-        tag::INTEGER_CONST => integer_length(&image[from..end]),
-        tag::STRING_CONST => string_length(head.len),
-        _ => return measure_function(image, from, head.len),
-    };
-    Ok(Measured { text, end })
-}
+    // Reads a constant's content, whose head is good.
+    fn measure_content(self, head: Head) -> Result<Measured, Malformed>
+        requires { (self.end ≡ self.at + head.len) × (is_constant Form.Plain (head_of head) ≡ true) }
+        ensures is { result ≡ constant_measured (read_content (byte_at self.entry.image.now) (head_of head) self.entry.at) }
+        ensures small { text_of result + 20 ≤ per_byte * (1 + head.len) }
+    {
+        let text = match head.tag {
+            tag::INTEGER_CONST => integer_length(self.image[self.at..].first_chunk().unwrap()),
+            tag::STRING_CONST => string_length(head.len),
+            _ => return self.measure_function(),
+        };
+        Ok(Measured {
+            text,
+            end: self.end,
+        })
+    }
 
-// Reads the constant at `at`.
-fn measure_constant(image: &[u8], at: usize, end: usize) -> Result<Measured, Malformed>
-    requires { Piece image.now at end }
-    ensures is { result ≡ constant_measured (read_const (byte_at image.now) at end) }
-    ensures small { text_of result + 20 ≤ per_byte * (1 + (head (byte_at image.now) at).len) }
-{
-    let head = head_where(image, at, end, |head| head.is_constant(Form::Plain))?;
-    measure_content(image, at + 3, head)
-}
+    // Reads the constant that it begins with.
+    fn measure_constant(self) -> Result<Measured, Malformed>
+        ensures is { result ≡ constant_measured (read_const (byte_at self.entry.image.now) self.entry.at self.entry.end) }
+        ensures small { text_of result + 20 ≤ per_byte * (1 + (head (byte_at self.entry.image.now) self.entry.at).len) }
+    {
+        let Piece { image, at, end } = self;
+        let head = head_where(image, at, end, |head| head.is_constant(Form::Plain))?;
+        let content = Piece {
+            image,
+            at: at + 3,
+            end: at + 3 + head.len,
+        };
+        content.measure_content(head)
+    }
 
-// Reads constants, at most 4,096, from `start` up to `end`.
-// Kept: a loop beside `bytecode`'s `check_items`, which counts and does not sum. To sum in a pass behind it would read an image three times,
-// which took up to 75 % more instructions than twice (docs/PERFORMANCE.md, "Check and list"), and the bar is 3 %.
-fn measure_constants(image: &[u8], start: usize, end: usize) -> Result<MeasuredPool, Malformed>
-    requires { Piece image.now start end }
-    ensures is { result ≡ pool_measured (constants (byte_at image.now) start end) }
-    ensures small { pool_text_of result ≤ per_byte * (end - start) }
-{
-    let mut at = start;
-    let mut count = 0;
-    let mut text = 0;
-    while at < end {
-        if count == limit::CONSTANTS_LIMIT {
-            return Err(Malformed { place: at });
+    // Reads constants, at most 4,096.
+    // Kept: a loop beside `bytecode`'s `check_items`, which counts and does not sum. To sum in a pass behind it would read an image three times,
+    // which took up to 75 % more instructions than twice (docs/PERFORMANCE.md, "Check and list"), and the bar is 3 %.
+    fn measure_constants(self) -> Result<MeasuredPool, Malformed>
+        ensures is { result ≡ pool_measured (constants (byte_at self.entry.image.now) self.entry.at self.entry.end) }
+        ensures small { pool_text_of result ≤ per_byte * (self.entry.end - self.entry.at) }
+    {
+        let Piece {
+            image,
+            at: start,
+            end,
+        } = self;
+        let mut at = start;
+        let mut count = 0;
+        let mut text = 0;
+        while at < end {
+            if count == limit::CONSTANTS_LIMIT {
+                return Err(Malformed { place: at });
+            }
+            let rest = Piece { image, at, end };
+            let constant = rest.measure_constant()?;
+            text = text + decimal_length(count) + constant.text;
+            at = constant.end;
+            count += 1;
         }
-        let constant = measure_constant(image, at, end)?;
-        text = text + decimal_length(count) + constant.text;
-        at = constant.end;
-        count += 1;
+        Ok(MeasuredPool {
+            count: count,
+            text: text,
+            end: at,
+        })
     }
-    Ok(MeasuredPool {
-        count: count,
-        text: text,
-        end: at,
-    })
 }
 
 // Reads the pool at `at`.
@@ -134,7 +168,12 @@ fn measure_pool(image: &[u8], at: usize) -> Result<MeasuredPool, Malformed>
     ensures small { pool_text_of result ≤ per_byte * 65536 }
 {
     let head = head_where(image, at, image.len(), |head| head.is_pool())?;
-    measure_constants(image, at + 3, at + 3 + head.len)
+    let constants = Piece {
+        image,
+        at: at + 3,
+        end: at + 3 + head.len,
+    };
+    constants.measure_constants()
 }
 
 // Reads the main code.
@@ -143,7 +182,12 @@ fn measure_main(image: &[u8]) -> Result<Measured, Malformed>
     ensures small { text_of result ≤ per_byte * 65536 }
 {
     let head = head_where(image, 0, image.len(), |head| head.is_main(Form::Plain))?;
-    measure_code(image, 3, 3 + head.len)
+    let code = Piece {
+        image,
+        at: 3,
+        end: 3 + head.len,
+    };
+    code.measure_code()
 }
 
 // Reads an image: it is sound, with so many constants and a listing of such a length, or 17 at its first wrong field or instruction.

@@ -1,39 +1,17 @@
-// Text put into an output at an offset: stored where there is room, counted always. Each function answers the offset after its text.
-ghost use Rattle.std.specs.Prelude.{◌≡◌, [], ◌∷◌, ◌+◌, ◌-◌, ◌*◌, ◌<◌, length, replicate};
+// Text put into an output: stored where there is room.
+ghost use Rattle.std.specs.Prelude.{◌≡◌, [], ◌∷◌, ◌-◌, ◌≤◌, ◌<◌, length, replicate};
 ghost use Rattle.std.specs.Int.{w64, cast_signed};
 ghost use Rattle.definition.specs.Text.{digit as digitOf, digits, decimal, padded, number, signed, hex_digit, hex};
 ghost use Rattle.definition.specs.Listing.{newline, also, hex_field};
-ghost use Rattle.listing.specs.Put.{Room, Puts};
 
-use definition::output::store;
+use session::write::copy;
 
-// Puts a byte.
-pub fn put(output: &mut [u8], at: usize, b: u8) -> usize
-    requires { Room 1 at }
-    ensures { Puts 1 output.old output.new at result (b ∷ []) }
-{
-    store(output, at, b);
-    at + 1
-}
-
-// Puts bytes.
-pub fn put_bytes(output: &mut [u8], at: usize, text: &[u8]) -> usize
-    requires { Room (length text.now) at }
-    ensures { Puts (length text.now) output.old output.new at result text.now }
-{
-    let mut next = at;
-    for b in text {
-        next = put(output, next, *b);
-    }
-    next
-}
-
-// Puts the end of a line.
-pub fn put_newline(output: &mut [u8], at: usize) -> usize
-    requires { Room 1 at }
-    ensures { Puts 1 output.old output.new at result newline }
-{
-    put(output, at, b'\n')
+// A lent output, and the offset up to which it is filled: a text that does not fit is cut off.
+#[derive(Drop)]
+pub struct Writer<'a> {
+    pub output: &'a mut [u8],
+    pub at: usize,
+    ghost within: { at ≤ length output.now },
 }
 
 // A decimal digit.
@@ -43,83 +21,6 @@ fn digit(d: usize) -> u8
     ensures { result ≡ digitOf d }
 {
     b'0' + d as u8
-}
-
-// Puts a number's last digits, at most so many.
-// Kept: by hand, since what does not fit the output is counted all the same, and there is no heap to write into first.
-fn put_digits(output: &mut [u8], at: usize, n: usize, most: usize) -> usize
-    requires { Room most at }
-    ensures { Puts most output.old output.new at result (digits most n) }
-{
-    if most == 0 {
-        return at;
-    }
-    if n < 10 {
-        return put(output, at, digit(n));
-    }
-    let next = put_digits(output, at, n / 10, most - 1);
-    put(output, next, digit(n % 10))
-}
-
-// Puts a number in decimal.
-pub fn put_decimal(output: &mut [u8], at: usize, n: usize) -> usize
-    requires { Room 20 at }
-    ensures { Puts 20 output.old output.new at result (decimal n) }
-{
-    put_digits(output, at, n, 20)
-}
-
-// Puts the zeros before a number of fewer than four digits.
-fn put_zeros(output: &mut [u8], at: usize, n: usize) -> usize
-    requires { Room 3 at }
-    ensures { Puts 3 output.old output.new at result (replicate (4 - length (decimal n)) (digitOf 0)) }
-{
-    match n {
-        0..10 => put_bytes(output, at, b"000"),
-        10..100 => put_bytes(output, at, b"00"),
-        100..1000 => put_bytes(output, at, b"0"),
-        _ => at,
-    }
-}
-
-// Puts a number in decimal with at least four digits.
-pub fn put_padded(output: &mut [u8], at: usize, n: usize) -> usize
-    requires { Room 23 at }
-    ensures { Puts 23 output.old output.new at result (padded n) }
-{
-    let next = put_zeros(output, at, n);
-    put_decimal(output, next, n)
-}
-
-// Puts a further field of a line, a number.
-pub fn put_field(output: &mut [u8], at: usize, n: usize) -> usize
-    requires { Room 21 at }
-    ensures { Puts 21 output.old output.new at result (also (decimal n)) }
-{
-    let next = put(output, at, b' ');
-    put_decimal(output, next, n)
-}
-
-// The number of eight bytes in two's complement, high byte first.
-pub fn integer(bytes: &[u8]) -> i64
-    requires { length bytes.now ≡ 8 }
-    ensures { result ≡ cast_signed w64 (number 0 bytes.now) }
-{
-    i64::from_be_bytes(*bytes.first_chunk::<8>().unwrap())
-}
-
-// Puts eight bytes in two's complement as a number in decimal.
-pub fn put_signed(output: &mut [u8], at: usize, bytes: &[u8]) -> usize
-    requires { Room 21 at × (length bytes.now ≡ 8) }
-    ensures { Puts 21 output.old output.new at result (signed bytes.now) }
-{
-    let n = integer(bytes);
-    let size = n.unsigned_abs() as usize;
-    if n.is_negative() {
-        let next = put(output, at, b'-');
-        return put_decimal(output, next, size);
-    }
-    put_decimal(output, at, size)
 }
 
 // A lower-case hexadecimal digit.
@@ -134,36 +35,133 @@ fn hex_digit(d: u8) -> u8
     87 + d
 }
 
-// Puts a byte as two hexadecimal digits.
-fn put_hex_byte(output: &mut [u8], at: usize, b: u8) -> usize
-    requires { Room 2 at }
-    ensures { Puts 2 output.old output.new at result (hex (b ∷ [])) }
+// The number of eight bytes in two's complement, high byte first.
+pub fn integer(bytes: &[u8]) -> i64
+    requires { length bytes.now ≡ 8 }
+    ensures { result ≡ cast_signed w64 (number 0 bytes.now) }
 {
-    let next = put(output, at, hex_digit(b / 16));
-    put(output, next, hex_digit(b % 16))
+    i64::from_be_bytes(*bytes.first_chunk::<8>().unwrap())
 }
 
-// Puts bytes in hexadecimal.
-// Kept: a loop as that of `put_bytes`, since one for both would take a byte's text as a closure, its promise beside it: longer.
-fn put_hex(output: &mut [u8], at: usize, bytes: &[u8]) -> usize
-    requires { Room (2 * length bytes.now) at }
-    ensures { Puts (2 * length bytes.now) output.old output.new at result (hex bytes.now) }
-{
-    let mut next = at;
-    for b in bytes {
-        next = put_hex_byte(output, next, *b);
-    }
-    next
-}
+impl<'a> Writer<'a> {
+    ghost use Rattle.listing.specs.Put.{Puts};
 
-// Puts a further field of a line, bytes in hexadecimal; no field for none.
-pub fn put_hex_field(output: &mut [u8], at: usize, bytes: &[u8]) -> usize
-    requires { Room (1 + 2 * length bytes.now) at }
-    ensures { Puts (1 + 2 * length bytes.now) output.old output.new at result (hex_field bytes.now) }
-{
-    if bytes.is_empty() {
-        return at;
+    // Puts a byte.
+    pub fn put(&mut self, b: u8)
+        ensures { Puts self.old self.new (b ∷ []) }
+    {
+        if self.at < self.output.len() {
+            self.output[self.at] = b;
+            self.at += 1;
+        }
     }
-    let next = put(output, at, b' ');
-    put_hex(output, next, bytes)
+
+    // Puts bytes.
+    pub fn put_bytes(&mut self, text: &[u8])
+        ensures { Puts self.old self.new text.now }
+    {
+        let size = text.len().min(self.output.len() - self.at);
+        copy(self.output, self.at, &text[..size]);
+        self.at += size;
+    }
+
+    // Puts the end of a line.
+    pub fn put_newline(&mut self)
+        ensures { Puts self.old self.new newline }
+    {
+        self.put(b'\n');
+    }
+
+    // Puts a number's last digits, at most so many.
+    // Kept: by hand: tried with `fmt::Write` and `write!`, whose promise speaks of `Ok` alone: what an `Err` would have put stays open.
+    fn put_digits(&mut self, n: usize, most: usize)
+        ensures { Puts self.old self.new (digits most n) }
+    {
+        if most == 0 {
+            return;
+        }
+        if n < 10 {
+            return self.put(digit(n));
+        }
+        self.put_digits(n / 10, most - 1);
+        self.put(digit(n % 10));
+    }
+
+    // Puts a number in decimal; one digit without a call, as most are in a listing.
+    pub fn put_decimal(&mut self, n: usize)
+        ensures { Puts self.old self.new (decimal n) }
+    {
+        if n < 10 {
+            return self.put(digit(n));
+        }
+        self.put_digits(n, 20);
+    }
+
+    // Puts the zeros before a number of fewer than four digits.
+    fn put_zeros(&mut self, n: usize)
+        ensures { Puts self.old self.new (replicate (4 - length (decimal n)) (digitOf 0)) }
+    {
+        match n {
+            0..10 => self.put_bytes(b"000"),
+            10..100 => self.put_bytes(b"00"),
+            100..1000 => self.put_bytes(b"0"),
+            _ => {}
+        }
+    }
+
+    // Puts a number in decimal with at least four digits.
+    pub fn put_padded(&mut self, n: usize)
+        ensures { Puts self.old self.new (padded n) }
+    {
+        self.put_zeros(n);
+        self.put_decimal(n);
+    }
+
+    // Puts a further field of a line, a number.
+    pub fn put_field(&mut self, n: usize)
+        ensures { Puts self.old self.new (also (decimal n)) }
+    {
+        self.put(b' ');
+        self.put_decimal(n);
+    }
+
+    // Puts eight bytes in two's complement as a number in decimal.
+    pub fn put_signed(&mut self, bytes: &[u8; 8])
+        ensures { Puts self.old self.new (signed bytes.now) }
+    {
+        let n = integer(bytes);
+        let size = n.unsigned_abs() as usize;
+        if n.is_negative() {
+            self.put(b'-');
+            return self.put_decimal(size);
+        }
+        self.put_decimal(size);
+    }
+
+    // Puts a byte as two hexadecimal digits.
+    fn put_hex_byte(&mut self, b: u8)
+        ensures { Puts self.old self.new (hex (b ∷ [])) }
+    {
+        self.put(hex_digit(b / 16));
+        self.put(hex_digit(b % 16));
+    }
+
+    // Puts bytes in hexadecimal.
+    fn put_hex(&mut self, bytes: &[u8])
+        ensures { Puts self.old self.new (hex bytes.now) }
+    {
+        for b in bytes {
+            self.put_hex_byte(*b);
+        }
+    }
+
+    // Puts a further field of a line, bytes in hexadecimal; no field for none.
+    pub fn put_hex_field(&mut self, bytes: &[u8])
+        ensures { Puts self.old self.new (hex_field bytes.now) }
+    {
+        if !bytes.is_empty() {
+            self.put(b' ');
+            self.put_hex(bytes);
+        }
+    }
 }

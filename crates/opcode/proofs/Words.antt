@@ -1,75 +1,49 @@
--- The word of a number, as a part of all words.
-use Prim.Native.Nat.{ℕ, zero, suc, ◌+◌, ◌-◌, ◌≤◌, ◌<◌}
-use Prim.Native.String.{String}
-use mathlib.Core.Path.{◌≡◌, ◌∙◌, ap}
-use mathlib.Core.List.{List, [], ◌∷◌}
+-- The table of words, and a word that is written.
+use Prim.Native.Nat.{ℕ, ◌≤◌, ◌<◌}
+use mathlib.Core.Path.{◌≡◌, ◌∙◌, ap, sym, refl, subst}
+use mathlib.Core.Bool.{Bool, true, false}
+use mathlib.Core.List.{List, [], map}
 use native.Mathlib.Omega.{arith}
-use lib.ListN.{length, get_or, take, drop, length-append}
-use lib.Seq.{take-append_seam, drop-append-add}
-use native.Mathlib.Numerals.{add-one}
-use lib.Dec.{leb}
-use borrow.Author.Tests.{le-leb}
-use mathlib.Core.Bool.{true}
+use denote.Bor.{Bor}
+use lib.Dec.{leb, T}
+use lib.ListN.{length, get_or}
+use borrow.Author.Tests.{le-leb, leb-true}
+use Rattle.std.proofs.lemmas.List.{get_or-map}
+use Rattle.std.proofs.Math.ListN.{get_or-map as get_or-of-map}
+use Rattle.std.specs.Prelude.{Ok, Err}
 use Rattle.definition.specs.Basic.{Bytes}
 use Rattle.definition.specs.Number.{refusal, output_short}
 use Rattle.definition.specs.Opcode.{op_last}
-use Rattle.std.specs.Prelude.{Ok, Err}
 use Rattle.definition.specs.Output.{over}
 use Rattle.definition.specs.Text.{ascii}
 use Rattle.definition.specs.Listing.{words, word}
-use Rattle.opcode.specs.Words.{joined, start_of, word_answer, word_into}
+use Rattle.opcode.specs.Words.{word_answer, word_into}
 use Rattle.opcode.proofs.Encoding.{placing, refusing}
+use Rattle.opcode.proofs.Tables.{every_at}
 
--- the word of number o stands in all words from its start, and ends where the next one starts
-pub record Part (ws : List String) (o : ℕ) : Type 0 where
-  pub next : start_of ws (suc o) ≡ start_of ws o + length (ascii (get_or ws o ""))
-  pub within : start_of ws (suc o) ≤ length (joined ws)
-  pub is : take (length (ascii (get_or ws o ""))) (drop (start_of ws o) (joined ws)) ≡ ascii (get_or ws o "")
+-- a table that holds the words
+module _ (table : List (Bor Bytes)) (e : map (λ w. w.now) table ≡ map ascii words) (l : length table ≡ 30) (o op : ℕ) (p : o ≡ op) (h : op < 30) (d : Bor Bytes) where
+  -- its entry is the byte's word
+  pub word_there : (get_or table o d).now ≡ word op
+  word_there = sym (get_or-map (λ w. w.now) table o d [] (omega arith)) ∙ ap (λ t. get_or t o []) e ∙ get_or-map ascii words o "" [] (omega arith) ∙ ap word p
 
-pub part : (ws : List String) (o : ℕ) → o < length ws → Part ws o
-part [] o h = absurd (omega arith)
-part (w ∷ ws) zero h =
-    record {
-      next = omega arith;
-      within = rw (length-append (ascii w) (joined ws)) (omega arith);
-      is = take-append_seam (ascii w) (joined ws);
-    }
-part (w ∷ ws) (suc o) h =
-    let p = part ws o (omega arith) in
-    record {
-      next = rw p.next (omega arith);
-      within = rw (length-append (ascii w) (joined ws)) (omega arith);
-      is = rw (drop-append-add (ascii w) (joined ws) (start_of ws o)) p.is;
-    }
+  -- and no longer than 14 bytes
+  pub word_small : length (get_or table o d).now ≤ 14
+  word_small =
+      let t = every_at (λ n. leb n 14) (map (λ w. length (ascii w)) words) tt tt op in
+      let m = leb-true (length (word op)) 14 (go _ (subst (λ n. T (leb n 14)) (get_or-of-map (λ w. length (ascii w)) words op "") t)) in
+      omega (arith, ap length word_there)
+    where
+      go : (b : Bool) → T b → b ≡ true
+      go true t = refl
+      go false t = absurd t
 
--- a known byte's word, between its start and the next one's
-pub record Word (op start next : ℕ) : Type 0 where
-  pub known : leb op op_last ≡ true
-  pub order : start ≤ next
-  pub within : next ≤ 193
-  pub size : length (word op) ≡ next - start
-  pub is : take (next - start) (drop start (joined words)) ≡ word op
+module _ {op n : ℕ} (out : Bytes) (h : op < 30) (e : length (word op) ≡ n) where
+  known : leb op op_last ≡ true
+  known = le-leb op op_last (omega arith)
 
-pub word_at : {op o start next : ℕ} → op < 30 → o ≡ op → start ≡ start_of words o → next ≡ start_of words (o + 1) → Word op start next
-word_at {op} {o} {start} {next} h i s t =
-    let p = part words op h in
-    let s' : start ≡ start_of words op = s ∙ ap (start_of words) i in
-    let t' : next ≡ start_of words (suc op) = t ∙ ap (start_of words) (ap (λ (k : ℕ). k + 1) i ∙ add-one op) in
-    let z : length (word op) ≡ next - start = omega (arith, p.next) in
-    record {
-      known = le-leb op op_last (omega arith);
-      order = omega (arith, p.next);
-      within = omega (arith, p.within);
-      size = z;
-      is = rw (← z, s') p.is;
-    }
+  pub word_short : length out < n → (Err (refusal output_short 0) ≡ word_answer op (length out)) × (out ≡ word_into op out)
+  word_short s = let p = refusing (word op) out n e s in (p.0 ∙ rw known, p.1 ∙ rw known)
 
-module _ {op start next : ℕ} (out : Bytes) (h : Word op start next) where
-  pub word_short : length out < next - start → (Err (refusal output_short 0) ≡ word_answer op (length out)) × (out ≡ word_into op out)
-  word_short s = let p = refusing (word op) out (next - start) h.size s in (p.0 ∙ rw h.known, p.1 ∙ rw h.known)
-
-  pub word-written : {r : Bytes} → next - start ≤ length out → r ≡ over (take (next - start) (drop start (joined words))) out
-      → (Ok (next - start) ≡ word_answer op (length out)) × (r ≡ word_into op out)
-  word-written s e =
-      let p = placing (word op) out (next - start) h.size s in
-      (p.0 ∙ rw h.known, e ∙ ap (λ (b : Bytes). over b out) h.is ∙ p.1 ∙ rw h.known)
+  pub word_written : {r : Bytes} → n ≤ length out → r ≡ over (word op) out → (Ok n ≡ word_answer op (length out)) × (r ≡ word_into op out)
+  word_written s w = let p = placing (word op) out n e s in (p.0 ∙ rw known, w ∙ p.1 ∙ rw known)

@@ -1,24 +1,11 @@
--- The words of the listing one after the other, and what writing one answers.
-use Rattle.std.specs.Prelude.{ℕ, zero, suc, ◌+◌, List, [], ◌∷◌, ◌++◌, leb, length, Err}
-use Prim.Native.String.{String}
+-- What writing a word of the listing answers and leaves.
+use Rattle.std.specs.Prelude.{ℕ, leb, Err}
 use Rattle.definition.specs.Basic.{Bytes, pick}
 use Rattle.definition.specs.Number.{refusal, bad_instruction}
 use Rattle.definition.specs.Opcode.{op_last}
 use Rattle.definition.specs.Output.{output_answer, output_after}
-use Rattle.definition.specs.Text.{ascii}
 use Rattle.definition.specs.Listing.{word}
 use Rattle.definition.specs.Answer.{Answer}
-
--- words one after the other
-abbrev pub joined : List String → Bytes
-joined [] = []
-joined (w ∷ ws) = ascii w ++ joined ws
-
--- where the word of a number starts among them
-abbrev pub start_of : List String → ℕ → ℕ
-start_of ws zero = 0
-start_of [] (suc o) = 0
-start_of (w ∷ ws) (suc o) = length (ascii w) + start_of ws o
 
 -- writing a word: 16 where the byte begins no instruction
 abbrev pub word_answer : ℕ → ℕ → Answer

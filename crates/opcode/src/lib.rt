@@ -5,21 +5,21 @@ pub mod instructions;
 pub mod opcodes;
 pub mod table;
 
-ghost use Rattle.std.specs.Prelude.{◌≡◌, ◌+◌, ◌*◌, ◌≤◌, ◌<◌, length, take, drop};
+ghost use Rattle.std.specs.Prelude.{◌≡◌, ◌+◌, ◌*◌, ◌≤◌, ◌<◌, length};
 ghost use Rattle.definition.specs.Basic.{byte_at};
 ghost use Rattle.definition.specs.Opcode.{instr_at, bytes_of, width as operandLength};
 ghost use Rattle.definition.specs.Decode.{read_instr};
 ghost use Rattle.definition.specs.Output.{over};
-ghost use Rattle.definition.specs.Listing.{words};
+ghost use Rattle.definition.specs.Listing.{word};
 ghost use Rattle.definition.specs.Valid.{operand_bound, captures_bound};
 ghost use Rattle.opcode.specs.Table.{entry, width_of};
 ghost use Rattle.opcode.specs.Decoding.{size_at, instruction, instr_of, read_before, decode_answer};
-ghost use Rattle.opcode.specs.Words.{joined, start_of, word_answer, word_into};
+ghost use Rattle.opcode.specs.Words.{word_answer, word_into};
 ghost use Rattle.opcode.specs.Encoding.{valid, encode_answer, encode_into, Ready};
 
 use definition::{Reason, Refusal, refused};
 use field::wide;
-use table::{INSTRUCTIONS, PACKED_WIDTHS, STARTS, UNKNOWN_WIDTH, WIDTHS, WORDS};
+use table::{INSTRUCTIONS, PACKED_WIDTHS, UNKNOWN_WIDTH, WIDTHS, WORDS};
 
 // An instruction: its byte, its operand, and the captures of a Closure.
 #[derive(Clone, Copy)]
@@ -45,9 +45,7 @@ fn table_entry(op: u8) -> Option<u8>
 }
 
 // The operand length of an instruction with this first byte, or `NO_INSTRUCTION`: the table's entry, computed without memory or a branch.
-// Kept: a number for "none", since the check of stored code reads it as a number of bits, without a test (`bytecode::decodes`): a
-// `match` took it up to
-// three times as long (docs/PERFORMANCE.md, "Stored code").
+// Kept: a number for "none", a count of bits in `bytecode::decodes`: a `match` there took up to three times as long (docs/PERFORMANCE.md).
 // `past` is 1 for a byte that begins no instruction, else 0.
 pub fn width(op: u8) -> u8
     ensures { result ≡ entry op }
@@ -69,9 +67,7 @@ pub fn operand_length(op: u8) -> usize
 
 // The length of the instruction at `at`, if it stands whole before `end`. A byte that begins no instruction is tested for by itself, so that the
 // next offset of a loop waits for the two bits alone.
-// Kept: the whole code with an offset and an end, here and in the three below, since a refusal and the offset after count from the
-// whole's start:
-// behind a slice from `at` each caller would add it again.
+// Kept: offsets in the whole code, here and in the three below: refusals and the offsets after count from its start, which a slice lacks.
 pub fn size_at(code: &[u8], at: usize, end: usize) -> Option<usize>
     requires { end ≤ length code.now }
     ensures { result ≡ size_at (byte_at code.now) at end }
@@ -204,21 +200,21 @@ pub fn encode(out: &mut [u8], i: Instruction) -> Result<usize, Refusal>
     Ok(1 + w)
 }
 
-// Where the word of an instruction byte starts in `WORDS`.
-pub fn word_start(o: usize) -> usize
-    requires { o < 31 }
-    ensures { result ≡ start_of words o }
+// The word of an instruction byte.
+pub fn word_of(op: u8) -> &'static [u8]
+    requires { op < 30 }
+    ensures is { result.now ≡ word op }
+    ensures short { length result.now ≤ 14 }
 {
-    wide(STARTS[o])
+    WORDS[wide(op)]
 }
 
-// Copy a part of the words to the start of `out`, which has room for it.
-fn put_word(out: &mut [u8], start: usize, size: usize)
-    requires { (size ≤ length out.old) × (start + size ≤ 193) }
-    ensures { out.new ≡ over (take size (drop start (joined words))) out.old }
+// Copy a word to the start of `out`, which has room for it.
+fn put_word(out: &mut [u8], word: &[u8])
+    requires { length word.now ≤ length out.old }
+    ensures { out.new ≡ over word.now out.old }
 {
-    let words = WORDS;
-    out[..size].copy_from_slice(&words[start..start + size]);
+    out[..word.len()].copy_from_slice(word);
 }
 
 // Write the word of an instruction byte at the start of `out`: its length, or 16 at 0 if the byte begins no instruction, or 15 at 0 if
@@ -227,15 +223,13 @@ pub fn write_word(out: &mut [u8], op: u8) -> Result<usize, Refusal>
     ensures answers { result ≡ word_answer op (length out.old) }
     ensures writes { out.new ≡ word_into op out.old }
 {
-    let o = wide(op);
-    if INSTRUCTIONS <= o {
+    if INSTRUCTIONS <= wide(op) {
         return refused(Reason::BadInstruction, 0);
     }
-    let start = word_start(o);
-    let size = word_start(o + 1) - start;
-    if out.len() < size {
+    let word = word_of(op);
+    if out.len() < word.len() {
         return refused(Reason::OutputShort, 0);
     }
-    put_word(out, start, size);
-    Ok(size)
+    put_word(out, word);
+    Ok(word.len())
 }

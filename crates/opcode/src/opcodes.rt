@@ -1,6 +1,5 @@
 // The instruction bytes, as the definition's Opcode has them.
-// Kept: numbers and no enum, since lent code may hold any byte; an enum for those that scope and step choose would name all thirty a
-// second time.
+// Kept: numbers, no enum: lent code may hold any byte; an enum for those that scope and step choose would name all thirty a second time.
 
 // The instructions, by the names of `Opcode`.
 pub const CONSTANT: u8 = 0x00;

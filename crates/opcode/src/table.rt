@@ -46,12 +46,36 @@ pub const UNKNOWN_WIDTH: usize = NO_INSTRUCTION as usize;
 // The table's entries for the bytes that begin an instruction, two bits for each, the first byte's lowest.
 pub const PACKED_WIDTHS: usize = 0x01D504AA28000002;
 
-// The words of the listing, one after the other.
-pub const WORDS: [u8; 193] =
-    *b"ConstantAddPopSubMulDivTrueFalseEqualNotEqualGreaterThanMinusBangJumpNotTruthyJumpNullGetGlobalSetGlobalArrayHashIndexCallReturnValueReturnGetLocalSetLocalGetBuiltinClosureGetFreeCurrentClosure";
-
-// Where the word of each instruction byte starts in `WORDS`, and where the last one ends.
-pub const STARTS: [u8; 31] = [
-    0, 8, 11, 14, 17, 20, 23, 27, 32, 37, 45, 56, 61, 65, 78, 82, 86, 95, 104, 109, 113, 118, 122,
-    133, 139, 147, 155, 165, 172, 179, 193,
+// The word of the listing of each byte that begins an instruction.
+pub static WORDS: [&[u8]; 30] = [
+    b"Constant",
+    b"Add",
+    b"Pop",
+    b"Sub",
+    b"Mul",
+    b"Div",
+    b"True",
+    b"False",
+    b"Equal",
+    b"NotEqual",
+    b"GreaterThan",
+    b"Minus",
+    b"Bang",
+    b"JumpNotTruthy",
+    b"Jump",
+    b"Null",
+    b"GetGlobal",
+    b"SetGlobal",
+    b"Array",
+    b"Hash",
+    b"Index",
+    b"Call",
+    b"ReturnValue",
+    b"Return",
+    b"GetLocal",
+    b"SetLocal",
+    b"GetBuiltin",
+    b"Closure",
+    b"GetFree",
+    b"CurrentClosure",
 ];

@@ -2,27 +2,15 @@
 // and column, and standard output stays empty.
 #![tactic(auto)]
 
-use definition::limit::TREE_LIMIT;
-use report::{print_in_text, read_full, write_first};
+use report::{with_input, with_tree};
 use std::io;
+use text::TEXT_MOST;
 
-// A text longer than this is refused as its first bytes are: no token ends behind 8,192.
-const TEXT_MOST: usize = 8193;
-
-// Reads a text.
+// Writes the tree of a text.
 fn run(rt: &(impl Print + Eprint), text: &[u8]) -> io::Result<()> {
-    let mut output = [0u8; TREE_LIMIT];
-    match text::read_text(text, &mut output) {
-        Ok(n) => write_first(rt, &output, n),
-        Err(r) => {
-            rt.eprint("read_script")?;
-            print_in_text(rt, text, r)
-        }
-    }
+    with_tree(rt, "read_script", text, |tree| rt.write_all(tree))
 }
 
 fn main(rt: HostRuntime) -> io::Result<()> {
-    let mut text = [0u8; TEXT_MOST];
-    let length = read_full(&mut rt.reader(), &mut text)?;
-    run(&rt, &text[..length])
+    with_input(&rt, &mut [0u8; TEXT_MOST], |text| run(&rt, text))
 }

@@ -1,11 +1,11 @@
 -- A session is made in zeros of its size.
 use Rattle.std.specs.Prelude.{◌≡◌, ℕ, List, replicate, length, leb, Ok}
-use Rattle.std.proofs.Common.{ap, ◌∙◌, sym, subst}
+use Rattle.std.proofs.Common.{ap}
 use Rattle.definition.specs.Basic.{pick}
 use Rattle.definition.specs.Limit.{session_size}
 use Rattle.definition.specs.Number
 use Rattle.definition.specs.Session.{six}
-use Rattle.definition.specs.Call.{Made, begins, not_made, made}
+use Rattle.definition.specs.Call.{begins, not_made, made}
 use Rattle.std.proofs.lemmas.List.{length-replicate}
 
 -- of so many zeros

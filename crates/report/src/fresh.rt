@@ -24,9 +24,6 @@ pub fn write_compiled(rt: &(impl Print + Eprint), program: &str, tree: &[u8]) ->
     let mut output = [0u8; SESSION_SIZE];
     match compile_fresh(tree, &mut output) {
         Ok(n) => crate::write_first(rt, &output, n),
-        Err(r) => {
-            rt.eprint(program)?;
-            crate::print_in_tree(rt, r)
-        }
+        Err(r) => crate::print_at_offset(rt, program, r, "tree"),
     }
 }

@@ -2,6 +2,7 @@
 #![tactic(auto)]
 
 mod fresh;
+mod input;
 mod recorded;
 
 ghost use Rattle.std.specs.Prelude.{◌≡◌, ◌+◌, ◌<◌, ◌≤◌, length, take, IfOk};
@@ -9,14 +10,12 @@ ghost use Rattle.std.specs.Io.KnownBytes.{Consumes, IsAtEnd};
 
 use definition::{Reason, Refusal};
 pub use fresh::{compile_fresh, write_compiled};
+pub use input::{IMAGE_MOST, with_heights, with_input, with_tree};
 pub use recorded::{Counts, as_recorded, open_cases};
 use std::io;
 use std::io::Read;
 
 // Reads until the buffer is full or the input ends: how many bytes then stand at its front.
-// Kept: compile_text, compile_tree, image_depths, list_image, read_script, run_image and turn_image call it alike in a `main` of three
-// lines: one for
-// all would take the buffer's length and, as a closure, the rest.
 pub fn read_full<R: Read>(reader: &mut R, buffer: &mut [u8]) -> io::Result<usize>
     ensures bound { IfOk result (λ n. n ≤ length buffer.new) }
     ensures same_length { length buffer.new ≡ length buffer.old }
@@ -50,21 +49,18 @@ pub fn print_failure<R: Eprint + Alloc>(rt: &R, name: &str, error: &io::Error) -
     eprintln!(rt; "{name}: {words}")
 }
 
-// Writes a refusal and its offset, behind the program's name.
-fn print_at_offset(rt: &impl Eprint, refusal: Refusal, whole: &str) -> io::Result<()> {
+// Writes a refusal and its offset in what was read, `tree` or `image`, behind a program's name.
+pub fn print_at_offset(
+    rt: &impl Eprint,
+    program: &str,
+    refusal: Refusal,
+    whole: &str,
+) -> io::Result<()> {
     let Refusal { reason, place } = refusal;
     let number = reason.number();
-    eprintln!(rt; ": refused with number {number}, {reason}, at offset {place} of the {whole}.")
-}
-
-// Writes a refusal and its offset in a tree, behind the program's name.
-pub fn print_in_tree(rt: &impl Eprint, refusal: Refusal) -> io::Result<()> {
-    print_at_offset(rt, refusal, "tree")
-}
-
-// Writes a refusal and its offset in an image, behind the program's name.
-pub fn print_in_image(rt: &impl Eprint, refusal: Refusal) -> io::Result<()> {
-    print_at_offset(rt, refusal, "image")
+    eprintln!(rt;
+        "{program}: refused with number {number}, {reason}, at offset {place} of the {whole}."
+    )
 }
 
 // What the place of a refusal counts, where heights are checked.
@@ -109,14 +105,21 @@ fn position_of(text: &[u8], place: usize) -> Position {
     }
 }
 
-// Writes a refusal and its line and column in a text, behind the program's name. Where the output has room for the longest tree, 15 is a longer one.
-pub fn print_in_text(rt: &impl Eprint, text: &[u8], refusal: Refusal) -> io::Result<()> {
+// Writes a refusal and its line and column in a text, behind a program's name. Where the output has room for the longest tree, 15 is a longer one.
+pub fn print_in_text(
+    rt: &impl Eprint,
+    program: &str,
+    text: &[u8],
+    refusal: Refusal,
+) -> io::Result<()> {
     let Position { line, column } = position_of(text, refusal.place);
     let number = refusal.reason.number();
     let reason = refusal.reason;
     match reason {
-        Reason::OutputShort => eprint!(rt; ": refused with number {number}, tree too long")?,
-        _ => eprint!(rt; ": refused with number {number}, {reason}")?,
+        Reason::OutputShort => eprint!(rt;
+            "{program}: refused with number {number}, tree too long"
+        )?,
+        _ => eprint!(rt; "{program}: refused with number {number}, {reason}")?,
     }
     eprintln!(rt; ", at line {line}, column {column}.")
 }

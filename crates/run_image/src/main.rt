@@ -3,7 +3,7 @@
 // sentence on standard error, and standard output stays empty.
 #![tactic(auto)]
 
-use report::{print_in_heights, read_full};
+use report::{IMAGE_MOST, print_in_heights, with_heights, with_input};
 use std::io;
 use trial::{Value, value_in};
 
@@ -37,18 +37,13 @@ fn run_main(rt: &(impl Print + Eprint), image: &[u8], heights: &[u32]) -> io::Re
     }
 }
 
-// Proposes heights. An image has fewer instructions than bytes; heights behind the last are not read.
+// Proposes heights, and runs main with them.
 fn run(rt: &(impl Print + Eprint), image: &[u8]) -> io::Result<()> {
-    let mut heights = [0u32; 65536];
-    match heights::propose_heights(image, &mut heights) {
-        Ok(_) => run_main(rt, image, &heights),
-        Err(r) => print_in_heights(rt, "run_image", r),
-    }
+    with_heights(rt, "run_image", image, |heights| {
+        run_main(rt, image, heights)
+    })
 }
 
-// An image has at most 61,446 bytes: a longer input is refused as its first 61,447 are.
 fn main(rt: HostRuntime) -> io::Result<()> {
-    let mut image = [0u8; 65536];
-    let length = read_full(&mut rt.reader(), &mut image)?;
-    run(&rt, &image[..length])
+    with_input(&rt, &mut [0u8; IMAGE_MOST], |image| run(&rt, image))
 }

@@ -1,8 +1,8 @@
 -- What the leaves on the code area are said with, beside the machine's steps.
-use Rattle.std.specs.Prelude.{ℕ, ◌+◌, ◌≡◌, Option, Some, None, ltb}
+use Rattle.std.specs.Prelude.{ℕ, ◌+◌, Option, Some, None, ltb}
 use Rattle.std.proofs.Math.Option as maybe
 use Rattle.definition.specs.Basic.{Bytes, byte_at, pick}
-use Rattle.definition.specs.Opcode.{op_jump, width}
+use Rattle.definition.specs.Opcode.{op_jump}
 use Rattle.definition.specs.Walk.{Res, on, bind}
 use Rattle.scope.specs.View.{View}
 use Rattle.scope.specs.Machine.{jump, patch}
@@ -12,11 +12,6 @@ use Rattle.scope.specs.declared.Chunk.{Chunk}
 abbrev pub opcode_of : Option ℕ → maybe.Option ℕ
 opcode_of (Some o) = maybe.some o
 opcode_of None = maybe.none
-
--- it has no operands
-abbrev pub Alone : Option ℕ → Type 0
-Alone (Some o) = 0 ≡ width o
-Alone None = Unit {0}
 
 -- a Jump, and the jump at a position patched behind it
 abbrev pub jump_and_patch : ℕ → ℕ → View → Res View ℕ

@@ -4,10 +4,10 @@
 
 ghost use Rattle.std.specs.Prelude.{◌≡◌, ◌+◌, ◌≤◌, length, get_or};
 ghost use Rattle.std.proofs.Math.Option.{none};
-ghost use Rattle.definition.specs.Opcode.{instr, plain, width, op_closure};
+ghost use Rattle.definition.specs.Opcode.{instr, plain, op_closure};
 ghost use Rattle.definition.specs.Walk.{on, operate, prefixes, infixes};
 ghost use Rattle.scope.specs.Machine;
-ghost use Rattle.scope.specs.Code.{opcode_of, Alone, jump_and_patch, last};
+ghost use Rattle.scope.specs.Code.{opcode_of, jump_and_patch, last};
 ghost use Rattle.scope.specs.Lent.{Emits, Jumps, Patches};
 
 mod emission;
@@ -71,33 +71,18 @@ impl<'a> Scope<'a> {
 
     // Emits an instruction without operands.
     pub fn emit(&mut self, place: usize, op: u8) -> Result<(), Refusal>
-        requires value { 0 ≡ width op }
         ensures { Emits self.old self.new result (Machine.emit place (plain op)) }
     {
-        self.emit_operand(place, op, 0, 0)
+        self.emit_operand(place, op, 0)
     }
 
     // Emits an instruction with at most one operand, of one or two bytes.
-    pub fn emit_any(&mut self, place: usize, op: u8, operand: usize) -> Result<(), Refusal>
-        ensures { Emits self.old self.new result (Machine.emit place (instr op operand 0)) }
-    {
-        self.emit_operand(place, op, opcode::operand_length(op), operand)
-    }
-
-    // Emits an instruction with at most one operand, of `n` bytes.
-    pub fn emit_operand(
-        &mut self,
-        place: usize,
-        op: u8,
-        n: usize,
-        operand: usize,
-    ) -> Result<(), Refusal>
-        requires n_value { n ≡ width op }
+    pub fn emit_operand(&mut self, place: usize, op: u8, operand: usize) -> Result<(), Refusal>
         ensures { Emits self.old self.new result (Machine.emit place (instr op operand 0)) }
     {
         let i = Instruction {
             op,
-            operands: n,
+            operands: opcode::operand_length(op),
             a: operand,
             b: 0,
         };
@@ -124,11 +109,10 @@ impl<'a> Scope<'a> {
 
     // Emits a jump without its target, and answers its position.
     pub fn jump(&mut self, place: usize, op: u8) -> Result<usize, Refusal>
-        requires value { 2 ≡ width op }
         ensures { Jumps self.old self.new result (Machine.jump place op) }
     {
         let at = self.state.chunk.len as usize;
-        self.emit_operand(place, op, 2, UNPATCHED)?;
+        self.emit_operand(place, op, UNPATCHED)?;
         Ok(at)
     }
 
@@ -197,7 +181,6 @@ impl<'a> Scope<'a> {
 
     // Emits an operator's instruction, or refuses where it has none.
     fn operator(&mut self, place: usize, op: Option<u8>) -> Result<(), Refusal>
-        requires alone { Alone op }
         ensures { Emits self.old self.new result (operate Machine.machine place (opcode_of op)) }
     {
         match op {

@@ -2,9 +2,9 @@
 ghost use Rattle.std.specs.Prelude.{◌≡◌, eqb, get_or};
 ghost use Rattle.std.proofs.Math.Option.{none};
 ghost use Rattle.definition.specs.Basic.{pick};
-ghost use Rattle.definition.specs.Opcode.{op_true, op_false, width};
+ghost use Rattle.definition.specs.Opcode.{op_true, op_false};
 ghost use Rattle.definition.specs.Walk.{prefixes, infixes};
-ghost use Rattle.scope.specs.Code.{opcode_of, Alone};
+ghost use Rattle.scope.specs.Code.{opcode_of};
 
 use opcode::opcodes;
 
@@ -27,24 +27,21 @@ const INFIXES: [Option<u8>; 10] = [
 
 // The instruction of a prefix operator, if it has one.
 pub fn prefix_opcode(o: u8) -> Option<u8>
-    ensures is { opcode_of result ≡ get_or prefixes o none }
-    ensures alone { Alone result }
+    ensures { opcode_of result ≡ get_or prefixes o none }
 {
     PREFIXES.get(usize::from(o)).copied().flatten()
 }
 
 // The instruction of an infix operator, if it has one.
 pub fn infix_opcode(o: u8) -> Option<u8>
-    ensures is { opcode_of result ≡ get_or infixes o none }
-    ensures alone { Alone result }
+    ensures { opcode_of result ≡ get_or infixes o none }
 {
     INFIXES.get(usize::from(o)).copied().flatten()
 }
 
 // The instruction of a boolean.
 pub fn boolean_opcode(b: u8) -> u8
-    ensures is { result ≡ pick (eqb b 0) op_false op_true }
-    ensures alone { 0 ≡ width result }
+    ensures { result ≡ pick (eqb b 0) op_false op_true }
 {
     if b == 0 {
         opcodes::FALSE

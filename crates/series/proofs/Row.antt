@@ -1,9 +1,9 @@
 -- A row of trees: its calls are a series, and the loop over it.
-use Prim.Native.Nat.{ℕ, ◌+◌, ◌≤◌, ◌<◌, min}
-use Rattle.std.proofs.lemmas.List.{take_min, drop_min}
+use Prim.Native.Nat.{ℕ, ◌+◌, ◌≤◌, ◌<◌}
+use Rattle.std.proofs.Common.{Bor}
 use native.Mathlib.Numerals.{add-one}
 use mathlib.Core.Bool.{true}
-use mathlib.Core.List.{List, [], ◌∷◌, ◌++◌}
+use mathlib.Core.List.{List, [], ◌∷◌, ◌++◌, map}
 use mathlib.Core.Path.{◌≡◌, refl, sym, ap, subst, ◌∙◌}
 use lib.Dec.{leb}
 use lib.ListN.{length, take, drop, get_or, take-append-drop, drop_of_length-le}
@@ -18,7 +18,7 @@ use Rattle.definition.specs.Answer.{Answer}
 use Rattle.definition.proofs.Basic.{chosen, pick_true}
 use Rattle.compiler.specs.Promise.{Compiles, Makes, Ran}
 use Rattle.compiler.specs.Stage.{lent_of}
-use Rattle.series.specs.Row.{trees_of, row_calls, row_gives, last_of, started, RunsRow}
+use Rattle.series.specs.Row.{row_calls, row_gives, last_of, started, RunsRow}
 
 -- a buffer with room for a session has s at its front
 pub record Carries (s b : Bytes) : Type 0 where
@@ -35,6 +35,13 @@ carried s b h = chosen (λ x. x ≡ b) (leb session_size (length b)) (λ t. go (
 pub carries_after : (s b : Bytes) → Carries (session_after s b) b
 carries_after s b = record { front = λ t. sym (pick_true (take session_size b) s t) }
 
+-- the bytes that a slice of a row has, and what stands behind the last
+abbrev pub bytes_of : Bor Bytes → Bytes
+bytes_of tree = tree.now
+
+abbrev pub nowhere : Bor Bytes
+nowhere = record { ref_ptr = (0, 0); now = [] }
+
 -- The calls of a row are a series
 pub row-ran : (ts : List Bytes) (s : Bytes) (l : Lent) → Carries s l.session → Ran s (row_calls ts l) (row_gives ts l)
 row-ran [] s l h = Ran.none
@@ -49,31 +56,26 @@ row-ran (t ∷ ts) s l h =
     same = λ i. record { session = carried s l.session h i; output = l.output; code = l.code; table = l.table }
 
 -- The loop over a row: what is left decides
-pub record RowLoop (trees : Bytes) (lengths : List ℕ) (x₀ x : Called) (rest : Bytes) (k : ℕ) : Type 0 where
-  pub decides : last_of x (row_gives (trees_of rest (drop k lengths)) x.lent) ≡ last_of x₀ (row_gives (trees_of trees lengths) x₀.lent)
+pub record RowLoop (trees : List (Bor Bytes)) (x₀ x : Called) (k : ℕ) : Type 0 where
+  pub decides : last_of x (row_gives (map bytes_of (drop k trees)) x.lent) ≡ last_of x₀ (row_gives (map bytes_of trees) x₀.lent)
   pub session : length x.lent.session ≡ length x₀.lent.session
   pub output : length x.lent.output ≡ length x₀.lent.output
   pub code : length x.lent.code ≡ length x₀.lent.code
   pub table : length x.lent.table ≡ length x₀.lent.table
 
-pub row-begins : (trees : Bytes) (lengths : List ℕ) (x : Called) → RowLoop trees lengths x x trees 0
-row-begins trees lengths x = record { decides = refl; session = refl; output = refl; code = refl; table = refl }
+pub row-begins : (trees : List (Bor Bytes)) (x : Called) → RowLoop trees x x 0
+row-begins trees x = record { decides = refl; session = refl; output = refl; code = refl; table = refl }
 
-module _ (trees : Bytes) (lengths : List ℕ) {x₀ x : Called} {rest : Bytes} {k : ℕ} (i : RowLoop trees lengths x₀ x rest k) (more : k < length lengths) where
-  -- a turn: the part that is lent is the tree, and what is behind it is left
-  pub row-turns : {size : ℕ} {tree behind : Bytes} {r : Answer} {l' : Lent} → size ≡ min (get_or lengths k 0) (length rest) → tree ≡ take size rest → behind ≡ drop size rest
-      → Compiles tree x.lent r l'
+module _ (trees : List (Bor Bytes)) {x₀ x : Called} {k : ℕ} (i : RowLoop trees x₀ x k) (more : k < length trees) where
+  -- a turn: the tree there is compiled
+  pub row-turns : {r : Answer} {l' : Lent} → Compiles (get_or trees k nowhere).now x.lent r l'
       → length l'.session ≡ length x.lent.session → length l'.output ≡ length x.lent.output → length l'.code ≡ length x.lent.code → length l'.table ≡ length x.lent.table
-      → RowLoop trees lengths x₀ (record { answer = r; lent = l' }) behind (k + 1)
-  row-turns {tree = tree} {behind = behind} {r = r} {l' = l'} e u v p s o c t =
-      let n = get_or lengths k 0 in
-      let cut : tree ≡ take n rest = u ∙ ap (λ j. take j rest) e ∙ take_min n rest in
-      let left : behind ≡ drop n rest = v ∙ ap (λ j. drop j rest) e ∙ drop_min n rest in
-      let same : record { answer = r; lent = l' } ≡ call (take n rest) x.lent = (λ j. record { answer = p.answer j; lent = p.lent j }) ∙ ap (λ b. call b x.lent) cut in
-      let later = drop (k + 1) lengths in
-      let here : drop k lengths ≡ get_or lengths k 0 ∷ later = drop-cons lengths k 0 more ∙ ap (λ m. get_or lengths k 0 ∷ drop m lengths) (sym (add-one k)) in
+      → RowLoop trees x₀ (record { answer = r; lent = l' }) (k + 1)
+  row-turns {r = r} {l' = l'} p s o c t =
+      let same : record { answer = r; lent = l' } ≡ call (get_or trees k nowhere).now x.lent = λ j. record { answer = p.answer j; lent = p.lent j } in
+      let here : drop k trees ≡ get_or trees k nowhere ∷ drop (k + 1) trees = drop-cons trees k nowhere more ∙ ap (λ m. get_or trees k nowhere ∷ drop m trees) (sym (add-one k)) in
       record {
-        decides = (λ j. last_of (same j) (row_gives (trees_of (left j) later) (same j).lent)) ∙ ap (λ ns. last_of x (row_gives (trees_of rest ns) x.lent)) (sym here) ∙ i.decides;
+        decides = (λ j. last_of (same j) (row_gives (map bytes_of (drop (k + 1) trees)) (same j).lent)) ∙ ap (λ ts. last_of x (row_gives (map bytes_of ts) x.lent)) (sym here) ∙ i.decides;
         session = s ∙ i.session;
         output = o ∙ i.output;
         code = c ∙ i.code;
@@ -81,13 +83,13 @@ module _ (trees : Bytes) (lengths : List ℕ) {x₀ x : Called} {rest : Bytes} {
       }
 
 -- the end
-pub row_ends : (trees : Bytes) (lengths : List ℕ) (l : Lent) {r : Answer} {s : Bytes} → Makes l.session r s → {x : Called} {rest : Bytes} {k : ℕ}
-    → RowLoop trees lengths (record { answer = r; lent = lent_of s l.output l.code l.table }) x rest k → length lengths ≤ k → RunsRow (trees_of trees lengths) l x.answer x.lent
-row_ends trees lengths l {r} {s} m {x} {rest} i h =
+pub row_ends : (trees : List (Bor Bytes)) (l : Lent) {r : Answer} {s : Bytes} → Makes l.session r s → {x : Called} {k : ℕ}
+    → RowLoop trees (record { answer = r; lent = lent_of s l.output l.code l.table }) x k → length trees ≤ k → RunsRow (map bytes_of trees) l x.answer x.lent
+row_ends trees l {r} {s} m {x} i h =
     record {
-      ran = row-ran (trees_of trees lengths) (session_made l.session) (started l).lent (record { front = λ _. refl });
-      last = ap (λ ns. last_of x (row_gives (trees_of rest ns) x.lent)) (sym (drop_of_length-le lengths h)) ∙ i.decides
-          ∙ (λ j. last_of (begun j) (row_gives (trees_of trees lengths) (begun j).lent));
+      ran = row-ran (map bytes_of trees) (session_made l.session) (started l).lent (record { front = λ _. refl });
+      last = ap (λ ts. last_of x (row_gives (map bytes_of ts) x.lent)) (sym (drop_of_length-le trees h)) ∙ i.decides
+          ∙ (λ j. last_of (begun j) (row_gives (map bytes_of trees) (begun j).lent));
     }
   where
     begun : record { answer = r; lent = lent_of s l.output l.code l.table } ≡ started l

@@ -2,10 +2,11 @@
 use Prim.Native.Nat.{ℕ, zero, suc, ◌+◌, ◌≤◌, ◌<◌}
 use native.Mathlib.Omega.{arith}
 use native.Mathlib.Nat.{zero-add}
+use native.Mathlib.Numerals.{add-one}
 use mathlib.Core.List.{[], ◌∷◌, ◌++◌}
 use mathlib.Core.Path.{◌≡◌, refl, sym, ap, ◌∙◌}
 use lib.ListN.{length, get_or, set, take, drop, replicate, length-replicate}
-use lib.Seq.{sets, sets-eq, set-set, set_comm, take-set-le, drop-set-lt, get_or-take, take-nil, drop-nil}
+use lib.Seq.{sets, sets-eq, set-set, set_comm, length-take-le, take-suc, take-set-le, drop-set-lt, get_or-take, take-nil, drop-nil}
 use Rattle.definition.specs.Basic.{Bytes}
 use Rattle.definition.specs.Output.{over}
 
@@ -74,3 +75,13 @@ get_d_sets l i j xs h = sym (get_or-take i (sets l i xs) j 0 h) ∙ ap (λ m. ge
 -- zeros stored where zeros were restore them
 pub restored : (l : Bytes) (i : ℕ) (xs : Bytes) → take (length xs) (drop i l) ≡ replicate (length xs) 0 → sets (sets l i xs) i (replicate (length xs) 0) ≡ l
 restored l i xs z = sets_again l i xs (replicate (length xs) 0) (sym (length-replicate (length xs) 0)) ∙ ap (sets l i) (sym z) ∙ sets_same l i (length xs)
+
+-- one byte more
+stored_one : (o : Bytes) (i : ℕ) (xs : Bytes) {m n : Bytes} {j : ℕ} (b : ℕ) → m ≡ sets o i xs → n ≡ set m j b → j ≡ i + length xs → n ≡ sets o i (xs ++ (b ∷ []))
+stored_one o i xs {j = j} b e f g = f ∙ ap (λ l. set l j b) e ∙ sets_append o i {j = j} xs (b ∷ []) (sym g)
+
+-- one more of the bytes put
+pub taken_one : (o : Bytes) (i : ℕ) (bs : Bytes) (k : ℕ) {m n : Bytes} → k < length bs → m ≡ sets o i (take k bs) → n ≡ set m (i + k) (get_or bs k 0) → n ≡ sets o i (take (k + 1) bs)
+taken_one o i bs k h e f =
+    let n : length (take k bs) ≡ k = length-take-le k bs (omega arith) in
+    stored_one o i (take k bs) (get_or bs k 0) e f (omega arith) ∙ ap (sets o i) (sym (take-suc bs k 0 h)) ∙ ap (λ j. sets o i (take j bs)) (sym (add-one k))

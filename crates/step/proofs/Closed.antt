@@ -14,6 +14,7 @@ use Rattle.definition.specs.Number
 use Rattle.definition.specs.Tag.{tag_function_const}
 use Rattle.definition.specs.Opcode.{instr, op_closure}
 use Rattle.definition.specs.Walk.{Res, bind, refuse, Go}
+use Rattle.definition.specs.SymbolTable.{Symbol}
 use Rattle.symbol_table.specs.Layout.{part, originals_of, table_of, tables_of, GoodTable, Good, symbol_of, originals_at}
 use Rattle.symbol_table.proofs.Back.{length_back}
 use Rattle.definition.specs.Number.{refusal}
@@ -122,20 +123,20 @@ module _ (p params : ℕ) (c e : Bytes) (t : List ℕ) (o s : State) (l : s.leve
 
 -- Closing, as the code takes it: what it reads of the table
 module _ {e : Bytes} {t : List ℕ} {o s : State} (h : Closable e t o s) where
-  pub few_captures : {n : ℕ} → n ≡ get_or (part o.level t) 2 0 → n ≤ free_limit
-  few_captures k = omega (arith, h.sized.free)
+  pub few_captures : get_or (part o.level t) 2 0 ≤ free_limit
+  few_captures = h.sized.free
 
-module _ (p params : ℕ) {c e : Bytes} {t : List ℕ} {o s : State} (h : Closable e t o s) {n z : ℕ} (k : n ≡ get_or (part o.level t) 2 0) (q : z ≡ loads_size (originals_of (part o.level t) n)) where
+module _ (p params : ℕ) {c e : Bytes} {t : List ℕ} {o s : State} (h : Closable e t o s) {n z : ℕ} {os : List Symbol} (k : n ≡ get_or (part o.level t) 2 0) (y : os ≡ captured t o.level) (q : z ≡ loads_size os) where
   pub closes_full : code_size < here o + s.chunk.len + z → Closed p params c c e e t o s (Err (stopped (refusal Number.code p) s))
-  closes_full f = close_full p params c e t o s h.inside.level (rw k at q) f
+  closes_full f = close_full p params c e t o s h.inside.level (rw y at q) f
 
   module _ (f : here o + s.chunk.len + z ≤ code_size) {d : ℕ} (m : d ≡ get_or (part o.level t) 1 0) {e₁ : Bytes} {s₁ : State} where
     pub closes_stops : {y : Refusal} → Adds (add_constant p tag_function_const (function_content d params (take s.chunk.len (drop s.chunk.start c)))) e e₁ s s₁ (Err y) → Closed p params c c e e₁ t o s (Err (stopped y s₁))
-    closes_stops x = close_stops p params c e t o s h.inside.level (rw k at q) f (rw m at x)
+    closes_stops x = close_stops p params c e t o s h.inside.level (rw y at q) f (rw m at x)
 
     pub closes_on : {i : ℕ} {c₂ : Bytes} {r : Walked} → Adds (add_constant p tag_function_const (function_content d params (take s.chunk.len (drop s.chunk.start c)))) e e₁ s s₁ (Ok i)
-        → Done c c₂ (Ok (outside o s₁)) r (λ v. then (loads p (originals_of (part o.level t) n) v) (emit p (instr op_closure i n))) → Closed p params c c₂ e e₁ t o s r
-    closes_on x j = close_on p params c e t o s h.inside.level (rw k at q) f h.inside.names (rw m at x) (rw k at j)
+        → Done c c₂ (Ok (outside o s₁)) r (λ v. then (loads p os v) (emit p (instr op_closure i n))) → Closed p params c c₂ e e₁ t o s r
+    closes_on x j = close_on p params c e t o s h.inside.level (rw y at q) f h.inside.names (rw m at x) (rw (y, k) at j)
 
 -- Leaving
 module _ (p : ℕ) {c c₁ e : Bytes} {t : List ℕ} {o s : State} where

@@ -1,8 +1,7 @@
 // A function is closed over the code outside it.
-ghost use Rattle.std.specs.Prelude.{◌≡◌, ◌*◌, ◌≤◌};
-ghost use Rattle.definition.specs.Limit.{free_limit};
+ghost use Rattle.std.specs.Prelude.{◌≡◌, ◌*◌, ◌≤◌, length};
 ghost use Rattle.definition.specs.Opcode.{instr, op_closure};
-ghost use Rattle.symbol_table.specs.Layout.{originals_of};
+ghost use Rattle.symbol_table.specs.Layout.{symbols_in};
 ghost use Rattle.scope.specs.View.{then};
 ghost use Rattle.scope.specs.Lent.{Emits};
 ghost use Rattle.scope.specs.Machine as machine;
@@ -12,43 +11,43 @@ ghost use Rattle.step.specs.Lent.{Closes};
 use super::pool::add_function;
 use definition::limit::CODE_SIZE;
 use definition::{Reason, Refusal, refused};
+use opcode::operand_length;
 use scope::{Scope, State};
 use symbol_table::{Part, load_of};
 
-// How long the loads of the first `n` originals that a function has captured are together.
-fn loads_size(part: Part<'_>, n: usize) -> usize
-    requires { n ≤ free_limit }
-    ensures is { result ≡ machine.loads_size (originals_of part.entry.numbers.now n) }
-    ensures small { result ≤ 4 * n }
+// How long the loads of the originals that a function has captured are together.
+fn loads_size(originals: &[u32]) -> usize
+    ensures is { result ≡ machine.loads_size (symbols_in originals.now) }
+    ensures small { result ≤ 4 * length originals.now }
 {
-    (0..n).map(|i| 1 + load_of(part.original(i)).operands).sum()
+    originals
+        .iter()
+        .map(|code| 1 + operand_length(load_of(*code).op))
+        .sum()
 }
 
-// Emits the loads of the first `n` captured originals, the first one first.
-fn loads(scope: &mut Scope<'_>, part: Part<'_>, place: usize, n: usize) -> Result<(), Refusal>
-    requires { n ≤ free_limit }
-    ensures { Emits scope.old scope.new result (machine.loads place (originals_of part.entry.numbers.now n)) }
+// Emits the loads of captured originals, the first one first.
+fn loads(scope: &mut Scope<'_>, originals: &[u32], place: usize) -> Result<(), Refusal>
+    ensures { Emits scope.old scope.new result (machine.loads place (symbols_in originals.now)) }
 {
-    for i in 0..n {
-        let l = load_of(part.original(i));
-        scope.emit_operand(place, l.op, l.operands, l.operand as usize)?;
+    for code in originals {
+        let l = load_of(*code);
+        scope.emit_operand(place, l.op, l.operand as usize)?;
     }
     Ok(())
 }
 
-// Outside a function whose constant was added at an index: the loads of the `n` originals that it captures, and Closure.
+// Outside a function whose constant was added at an index: the loads of the originals that it captures, and Closure.
 fn emit_function(
     scope: &mut Scope<'_>,
-    part: Part<'_>,
+    originals: &[u32],
     index: usize,
     place: usize,
-    n: usize,
 ) -> Result<(), Refusal>
-    requires { n ≤ free_limit }
-    ensures { Emits scope.old scope.new result (λ v. then (machine.loads place (originals_of part.entry.numbers.now n) v) (machine.emit place (instr op_closure index n))) }
+    ensures { Emits scope.old scope.new result (λ v. then (machine.loads place (symbols_in originals.now) v) (machine.emit place (instr op_closure index (length originals.now)))) }
 {
-    loads(scope, part, place, n)?;
-    scope.emit_closure(place, index, n)
+    loads(scope, originals, place)?;
+    scope.emit_closure(place, index, originals.len())
 }
 
 // The state in the chunk outside again, with what was added inside.
@@ -76,14 +75,14 @@ pub fn close(
     ensures { Closes place params scope.old scope.new session.old session.new table.now outer result }
 {
     let part = Part::of(table, outer.level as usize);
-    let n = part.captures();
+    let originals = part.originals();
     let end = outer.chunk.start + outer.chunk.len + scope.state.chunk.len;
-    if CODE_SIZE < end as usize + loads_size(part, n) {
+    if CODE_SIZE < end as usize + loads_size(originals) {
         return refused(Reason::Code, place);
     }
     let locals = part.definitions();
     let code = &mut *scope.code;
     let index = add_function(session, code, &mut scope.state, place, locals, params)?;
     scope.state = outside(outer, scope.state);
-    emit_function(scope, part, index, place, n)
+    emit_function(scope, originals, index, place)
 }

@@ -47,7 +47,7 @@ pub fn literal(
     ensures { StepsOn tree.now (machine.literal at tag (content tree.now at)) scope.old scope.new session.old session.new result }
 {
     let index = add_constant(session, &mut scope.state, at, tag, content_at(tree, at))?;
-    scope.emit_operand(at, opcodes::CONSTANT, 2, index)
+    scope.emit_operand(at, opcodes::CONSTANT, index)
 }
 
 // Looks an identifier up, and loads its symbol.
@@ -68,7 +68,7 @@ pub fn load(
     match resolve_name(Key::new(tree, at), &session[..end], table, level) {
         Ok(found) => {
             let l = load_of(found.code);
-            scope.emit_operand(at, l.op, l.operands, l.operand as usize)
+            scope.emit_operand(at, l.op, l.operand as usize)
         }
         Err(error) => refused(Reason::from(error), at),
     }

@@ -7,12 +7,14 @@ use mathlib.Core.List.{List, [], ◌∷◌}
 use mathlib.Core.Option.{none, some}
 use native.Mathlib.Nat.{eq-or-lt_of_le}
 use native.Mathlib.Omega.{arith}
-use lib.ListN.{length, get_or}
+use lib.ListN.{length, get_or, take, drop, length-drop}
+use lib.Seq.{length-take-le, get_or-take}
+use Rattle.std.proofs.lemmas.List.{get_or-drop}
 use Rattle.definition.specs.Basic.{Bytes}
 use Rattle.definition.specs.SymbolTable.{same, find}
 use Rattle.field.specs.Layout.{content}
 use Rattle.symbol_table.specs.Name.{hash_of}
-use Rattle.symbol_table.specs.Layout.{entries_at, name_in, code_in, tag_in, entry_of, symbol_of, back, GoodEntry}
+use Rattle.symbol_table.specs.Layout.{entries_at, originals_at, originals_of, symbols_in, name_in, code_in, tag_in, entry_of, symbol_of, back, GoodEntry}
 use Rattle.symbol_table.specs.Contract.{PassedOver}
 use Rattle.symbol_table.proofs.Names.{hash_differs}
 
@@ -44,6 +46,21 @@ module _ {A : Type 0} (f : ℕ → A) (r : List ℕ) (s : ℕ) where
   unfolding back
   back_same r' zero h = refl
   back_same r' (suc n) h = rw (h (s + n) (omega arith) (omega arith), back_same r' n (λ j a b. h j a (omega arith)))
+
+  -- the first of a part's numbers
+  pub back_part : (n m : ℕ) → m ≤ n → back f (take n (drop s r)) 0 m ≡ back f r s m
+  unfolding back
+  back_part n zero h = refl
+  back_part n (suc m) h =
+      let e : 0 + m ≡ m = omega arith in
+      let same : get_or (take n (drop s r)) (0 + m) 0 ≡ get_or r (s + m) 0 = ap (λ i. get_or (take n (drop s r)) i 0) e ∙ get_or-take n (drop s r) m 0 (omega arith) ∙ get_or-drop s r m 0 in
+      rw (same, back_part n m (omega arith))
+
+-- the originals' codes, as a part of the numbers
+pub part_symbols : (r : List ℕ) {k n : ℕ} → k ≡ n → originals_at + n ≤ length r → (length (take k (drop originals_at r)) ≡ n) × (symbols_in (take k (drop originals_at r)) ≡ originals_of r n)
+part_symbols r {n = n} e h =
+    let l : length (take n (drop originals_at r)) ≡ n = length-take-le n (drop originals_at r) (omega (arith, length-drop originals_at r)) in
+    rw e (l, rw l (back_part symbol_of r originals_at n n (omega arith)))
 
 -- the latest of k entries
 module _ (tree : Bytes) (r : List ℕ) (n : Bytes) (k : ℕ) where

@@ -15,12 +15,13 @@ use Rattle.definition.specs.SymbolTable.{Symbol, same, builtins, find_builtin, d
 use Rattle.definition.specs.Session.{Words, six, listed, words_field}
 use Rattle.definition.specs.Decode.{Decoded, decoded, malformed, then, as_words, read_name_fields, read_words, list_in, words_in}
 use Rattle.field.specs.Layout.{after}
-use Rattle.field.specs.Row.{RowTo, HasRow, found_of}
+use Rattle.field.specs.Row.{RowTo, HasRow, RowOf, found_of}
+use Rattle.field.specs.Fields.{Begins}
+use Rattle.field.specs.declared.fields.Fields.{Fields}
 use Rattle.std.specs.Prelude.{Option, Some}
 use Rattle.field.proofs.Reading.{items-row, Filled, filled, names-read}
-use Rattle.field.proofs.Rows.{row_same}
 use Rattle.symbol_table.specs.Layout.{symbol_of}
-use Rattle.symbol_table.specs.Contract.{as_symbol, HasWords}
+use Rattle.symbol_table.specs.Contract.{as_symbol, HasWords, IsWords}
 use Rattle.symbol_table.proofs.Codes.{symbol_builtin}
 
 -- what is found is one of the words
@@ -34,16 +35,16 @@ found_below n (w ∷ ws) i {k} e = go (same n w) e (λ h. found_below n ws (i + 
     go false h rest = omega (arith, rest h)
 
 -- what a search among few fields answers, as a symbol
-module _ {b : Bytes} {from to : ℕ} (g : HasRow b from to) (few : (h : HasRow b from to) → length h.names ≤ words_limit) (name : Bytes) {f : Option ℕ} (e : (h : HasRow b from to) → found_of f ≡ find_builtin name h.names 0) where
+module _ {names : Bytes} {s : Fields} (w : IsWords names s) (name : Bytes) {f : Option ℕ} (e : (h : RowOf s) → found_of f ≡ find_builtin name h.names 0) where
   pub word_index : {k : ℕ} → f ≡ Some k → k < words_limit
-  word_index q = omega (arith, few g, found_below name g.names 0 (sym (e g) ∙ ap found_of q))
+  word_index q = omega (arith, w.few, found_below name w.row.names 0 (sym (e w.row) ∙ ap found_of q))
 
-  pub word_hit : {k : ℕ} → f ≡ Some k → (h : HasRow b from to) → some (symbol_of (768 + k)) ≡ as_symbol Symbol.builtin (find_builtin name h.names 0)
-  word_hit {k} q h = ap some (symbol_builtin k (omega (arith, word_index q))) ∙ ap (as_symbol Symbol.builtin) (sym (ap found_of q) ∙ e h)
+  pub word_hit : {k : ℕ} → f ≡ Some k → some (symbol_of (768 + k)) ≡ as_symbol Symbol.builtin (find_builtin name (words_in names) 0)
+  word_hit {k} q = ap some (symbol_builtin k (omega (arith, word_index q))) ∙ ap (as_symbol Symbol.builtin) (sym (ap found_of q) ∙ e w.row ∙ ap (λ ws. find_builtin name ws 0) w.are)
 
--- the fields of a part have the names of any reading
-pub few_names : {b : Bytes} {from to n : ℕ} (g : HasRow b from to) → length g.names ≤ n → (h : HasRow b from to) → length h.names ≤ n
-few_names g l h = omega (arith, ap length (row_same h.row g.row))
+-- fields that are read as the words
+pub words_there : {names b : Bytes} {from to : ℕ} {s : Fields} → Begins b from to s → (g : HasRow b from to) → length g.names ≤ words_limit → g.names ≡ words_in names → IsWords names s
+words_there n g l e = record { row = record { names = g.names; row = rw (n.bytes, n.at, n.end) g.row; within = rw (n.bytes, n.end) g.within }; few = l; are = e }
 
 -- document 01's builtins
 abbrev pub six_row : HasRow (words_field (listed builtins)) 3 45

@@ -16,8 +16,10 @@ use Rattle.symbol_table.specs.Name.{buckets, hash_of}
 use Rattle.symbol_table.specs.Search.{side_number, nodes_at, side_of, child_of, latest_of, with_child, with_latest, Node, name_of, next_of, Way, ends, hits, goes, Goes, hangs, follows, further}
 use Rattle.symbol_table.specs.declared.globals.Side.{Side}
 use Rattle.symbol_table.specs.declared.globals.Side.TheVariants.{Session, Tree}
-use Rattle.symbol_table.specs.Layout.{globals_size, heads_at, global_name, first_found, GlobalStands, Finds, found_on, GoodGlobals}
+use Rattle.symbol_table.specs.Layout.{globals_size, heads_at, global_name, offset_of, StandsAt, first_found, GlobalStands, Finds, found_on, GoodGlobals}
 use Rattle.symbol_table.specs.Contract.{as_symbol}
+use Rattle.symbol_table.specs.declared.globals.NamePlace.{NamePlace}
+use Rattle.symbol_table.specs.declared.globals.NamePlace.TheVariants as place
 use Rattle.symbol_table.proofs.Growing.{way_none}
 
 -- where a way goes from a global on
@@ -115,6 +117,11 @@ module _ (tree names : Bytes) (g : List ℕ) (n : Bytes) where
     pub sought_none : {k depth : ℕ} → Sought side k depth → k ≡ 0 → (x : Finds tree names g n) → found_on x side ≡ none
     sought_none s e x = way_none (s.way x) e
 
+-- the offset of a name's place
+pub offset_in : (v : ℕ) (p : NamePlace) → StandsAt v p → v / 65536 < 2 → offset_of p ≡ v % 65536
+offset_in v (place.Session k) e l = omega (arith, e.0, e.1)
+offset_in v (place.Tree k) e l = omega (arith, e)
+
 -- a search for the place of a global more
 module _ (bytes : Bytes) (side : ℕ) (g : List ℕ) (n : Bytes) where
   pub record Placing (at on k depth : ℕ) : Type 0 where
@@ -129,6 +136,10 @@ module _ (bytes : Bytes) (side : ℕ) (g : List ℕ) (n : Bytes) where
   module _ {at on k depth : ℕ} (s : Placing at on k depth) (there : 0 < k) where
     pub placing_node : Node bytes side g k
     placing_node = way_node s.way there
+
+    -- the offset of its name
+    pub placing_offset : side < 2 → (p : NamePlace) {x : ℕ} → StandsAt (get_or g k 0) p → x ≡ offset_of p → x ≡ get_or g k 0 % 65536
+    placing_offset two p e q = q ∙ offset_in (get_or g k 0) p e (omega (arith, placing_node.part))
 
     module _ {i : ℕ} {t : Bool} (e : i ≡ k) (told : t ≡ same n (content bytes (get_or g i 0 % 65536))) where
       pub placing_late : t ≡ true → Goes bytes side g n 0 (heads_at + hash_of n % buckets) side (nodes_at + i) (with_latest (get_or g (nodes_at + i) 0) (get_or g 0 0))

@@ -8,9 +8,11 @@ use Rattle.definition.specs.declared.reason.Reason.{Reason}
 use Rattle.definition.specs.Opcode.{instr, op_set_global, op_set_local}
 use Rattle.definition.specs.SymbolTable.{Symbol, Table, find, find_global, find_builtin, Resolved, cross, resolve, crossed, Defined, place, named, with_params}
 use Rattle.definition.specs.Session.{Words}
-use Rattle.definition.specs.Limit.{globals_limit}
-use Rattle.definition.specs.Decode.{decoded, items, read_name_field, read_words, read_names}
+use Rattle.definition.specs.Limit.{globals_limit, words_limit}
+use Rattle.definition.specs.Decode.{decoded, items, read_name_field, read_words, read_names, words_in}
 use Rattle.field.specs.Layout.{content}
+use Rattle.field.specs.Row.{RowOf}
+use Rattle.field.specs.declared.fields.Fields.{Fields}
 use Rattle.symbol_table.specs.Name.{Stands, fields, buckets, hash_of}
 use Rattle.symbol_table.specs.Search.{Way, Goes}
 use Rattle.symbol_table.specs.Layout.{globals_size, heads_at, head_of, part_size, entries_at, tag_in, base, part, symbol_of, table_of, tables_of, globals_of, globals_in, GoodTable, GoodGlobals, Good, entries, marked_at, marks_at, code_of, IsMarked, Marked, GoodPart}
@@ -167,6 +169,12 @@ pub record HasWords (names : Bytes) : Type 0 where
   pub words : Words
   pub end : ℕ
   pub reads : read_words (byte_at names) 0 (length names) ≡ decoded words end
+
+-- the fields of these words: few of them, as they are read
+pub record IsWords (names : Bytes) (s : Fields) : Type 0 where
+  pub row : RowOf s
+  pub few : length row.names ≤ words_limit
+  pub are : row.names ≡ words_in names
 
 -- a lookup from inside so many open functions, with the builtins' names
 pub record Resolves (builtins : List Bytes) (tree names : Bytes) (level name : ℕ) (answer : Lookup) (a a' : List ℕ) : Type 0 where

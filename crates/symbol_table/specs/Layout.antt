@@ -11,6 +11,8 @@ use Rattle.definition.specs.Decode.{words_in}
 use Rattle.field.specs.Layout.{content}
 use Rattle.symbol_table.specs.Name.{Stands, buckets, hash_of}
 use Rattle.symbol_table.specs.Search.{child_of, Way}
+use Rattle.symbol_table.specs.declared.globals.NamePlace.{NamePlace}
+use Rattle.symbol_table.specs.declared.globals.NamePlace.TheVariants.{Session, Tree}
 
 -- the numbers of the globals; where the heads of the buckets begin
 abbrev pub globals_size : ℕ
@@ -90,6 +92,10 @@ entries r = get_or r 0 0 + get_or r 1 0 + get_or r 2 0
 abbrev pub originals_of : List ℕ → ℕ → List Symbol
 originals_of r n = back symbol_of r originals_at n
 
+-- the symbols of some codes, the latest first
+abbrev pub symbols_in : List ℕ → List Symbol
+symbols_in codes = back symbol_of codes 0 (length codes)
+
 -- the table of a function's part
 unfoldable pub table_of : Bytes → List ℕ → Table
 table_of tree r = record { entries = back (entry_of tree) r entries_at (entries r); definitions = get_or r 1 0; originals = originals_of r (get_or r 2 0) }
@@ -102,6 +108,16 @@ tables_of tree (suc l) a = table_of tree (part l a) ∷ tables_of tree l a
 -- the name of a global: an offset among the session's names, or 65536 more than an offset in the tree
 abbrev pub global_name : Bytes → Bytes → ℕ → Bytes
 global_name tree names v = pick (ltb v 65536) (content names v) (content tree (v - 65536))
+
+-- the offset of a place
+abbrev pub offset_of : NamePlace → ℕ
+offset_of (Session k) = k
+offset_of (Tree k) = k
+
+-- a number is that of a place
+abbrev pub StandsAt : ℕ → NamePlace → Type 0
+StandsAt v (Session k) = (v ≡ k) × (k < 65536)
+StandsAt v (Tree k) = v ≡ 65536 + k
 
 -- the global names, the latest first
 unfoldable pub globals_of : Bytes → Bytes → List ℕ → List Bytes

@@ -8,13 +8,17 @@ use Rattle.symbol_table.specs.Layout.{entries_at, originals_at, marked_at, marks
 unfoldable pub entered_in : List ℕ → ℕ → ℕ → ℕ → List ℕ
 entered_in r name hash n = set (set (set (set (set r marked_at 0) 0 (min n 1)) 1 0) 2 0) entries_at (packed name 0 hash)
 
+-- an entry more, with a symbol's code
+abbrev pub entry_in : List ℕ → ℕ → ℕ → ℕ → List ℕ
+entry_in r name hash code = set r (entries_at + entries r) (packed name code hash)
+
 -- a definition more
 unfoldable pub local_in : List ℕ → ℕ → ℕ → List ℕ
-local_in r name hash = set (set r (entries_at + entries r) (packed name (256 + get_or r 1 0) hash)) 1 (get_or r 1 0 + 1)
+local_in r name hash = set (entry_in r name hash (256 + get_or r 1 0)) 1 (get_or r 1 0 + 1)
 
 -- a free symbol more, and its original
 unfoldable pub free_in : List ℕ → ℕ → ℕ → ℕ → List ℕ
-free_in r name hash code = set (set (set r (entries_at + entries r) (packed name (512 + get_or r 2 0) hash)) (originals_at + get_or r 2 0) code) 2 (get_or r 2 0 + 1)
+free_in r name hash code = set (set (entry_in r name hash (512 + get_or r 2 0)) (originals_at + get_or r 2 0) code) 2 (get_or r 2 0 + 1)
 
 -- a global more with a node of its own, and a number at a place
 unfoldable pub global_in : List ℕ → ℕ → ℕ → ℕ → List ℕ

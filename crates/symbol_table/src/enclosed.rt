@@ -1,13 +1,12 @@
 // The table of an open function, in its part of the area.
-// Kept: a part is a slice, whose length the clauses state. Tried: `&mut [u32; PART_SIZE]` by `first_chunk_mut`, where the proof
-// of what comes back to the area did not close.
+// Kept: a part is a slice. Tried: `&mut [u32; PART_SIZE]` by `first_chunk_mut`: the proof of what comes back to the area did not close.
 ghost use Rattle.std.specs.Prelude.{◌≡◌, ◌+◌, ◌^◌, ◌<◌, ◌≤◌, min, length, get_or};
 ghost use Rattle.definition.specs.Limit.{tree_limit, locals_limit, free_limit, arguments_limit};
 ghost use Rattle.definition.specs.SymbolTable.{find};
 ghost use Rattle.field.specs.Layout.{len};
 ghost use Rattle.symbol_table.specs.Name.{Row};
-ghost use Rattle.symbol_table.specs.Layout.{part_size, entries_at, originals_at, base, part, entries, table_of, Sized, GoodTable};
-ghost use Rattle.symbol_table.specs.Store.{entered_in, local_in, free_in};
+ghost use Rattle.symbol_table.specs.Layout.{part_size, entries_at, base, part, entries, originals_of, symbols_in, table_of, Sized, GoodTable};
+ghost use Rattle.symbol_table.specs.Store.{entered_in, entry_in, local_in, free_in};
 ghost use Rattle.symbol_table.specs.Contract.{hit_of, PassedOver, Few, Crosses, DefinesLocal, Params, Opens};
 
 use super::layout::{
@@ -37,8 +36,7 @@ pub struct Part<'a> {
     pub ghost size: { length numbers.now ≡ part_size },
 }
 
-// Kept: where a part is written, its range stands at the call. Tried: `part_mut(table, level) -> &mut [u32]`, whose clause on what
-// comes back did not close: the check proves one of a field or of a call's result, and not of a part of a slice.
+// Kept: where a part is written, its range stands at the call. Tried: `part_mut`, whose clause on what comes back did not close.
 impl<'a> Part<'a> {
     // That of the function at a level.
     pub fn of(table: &'a [u32], level: usize) -> Self
@@ -48,6 +46,13 @@ impl<'a> Part<'a> {
         Part {
             numbers: &table[part_range(level)],
         }
+    }
+
+    // Its entries.
+    pub fn entries(self) -> usize
+        ensures { result ≡ entries self.entry.numbers.now }
+    {
+        self.numbers[0] as usize + self.numbers[1] as usize + self.numbers[2] as usize
     }
 
     // Its definitions.
@@ -64,26 +69,18 @@ impl<'a> Part<'a> {
         self.numbers[2] as usize
     }
 
-    // The code of an original that it has captured.
-    pub fn original(self, i: usize) -> u32
-        requires { i < free_limit }
-        ensures { result ≡ get_or self.entry.numbers.now (originals_at + i) 0 }
+    // The codes of the originals that it has captured.
+    pub fn originals(self) -> &'a [u32]
+        requires { get_or self.numbers.now 2 0 ≤ free_limit }
+        ensures count { length result.now ≡ get_or self.entry.numbers.now 2 0 }
+        ensures symbols { symbols_in result.now ≡ originals_of self.entry.numbers.now (get_or self.entry.numbers.now 2 0) }
     {
-        self.numbers[ORIGINALS_AT + i]
+        &self.numbers[ORIGINALS_AT..ORIGINALS_AT + self.captures()]
     }
 }
 
-// How many entries a function's table has.
-pub fn count(part: &[u32]) -> usize
-    requires { Sized part.now }
-    ensures { result ≡ entries part.now }
-{
-    part[0] as usize + part[1] as usize + part[2] as usize
-}
-
 // How many of the first so many entries are left once those behind the latest with a tag are passed over: 0 where none has it.
-// Kept: with `for k in (0..from).rev()` a call on chosen names takes up to 7 % more instructions, and with the index as an `Option` a
-// call on nested functions 3.4 %, where the bar is 3 %.
+// Kept: as a `for` over `(0..from).rev()` chosen names take up to 7 % more instructions, as an `Option` index nested functions 3.4 %.
 fn tagged_below(part: &[u32], from: usize, tag: usize) -> usize
     requires { entries_at + from ≤ length part.now }
     ensures { PassedOver part.now from tag result }
@@ -135,6 +132,17 @@ fn enter_in(part: &mut [u32], key: &Key)
     part[ENTRIES_AT] = v;
 }
 
+// An entry more, with its symbol's code.
+// Kept: `Sized` in the clauses here and below: a struct of the numbers that holds it would say in each promise that its slice is the same.
+fn push_entry(part: &mut [u32], label: Label, code: u32)
+    requires sized { Sized part.old }
+    requires code { code < 1024 }
+    ensures { part.new ≡ entry_in part.old label.at label.hash code }
+{
+    let n = Part { numbers: part }.entries();
+    part[ENTRIES_AT + n] = label.entry(code);
+}
+
 // A definition more: its index.
 fn define_in(part: &mut [u32], label: Label) -> u32
     requires sized { Sized part.old }
@@ -142,10 +150,8 @@ fn define_in(part: &mut [u32], label: Label) -> u32
     ensures value { result ≡ get_or part.old 1 0 }
     ensures part_after { part.new ≡ local_in part.old label.at label.hash }
 {
-    let n = count(part);
     let d = part[1];
-    let v = label.entry(LOCAL + d);
-    part[ENTRIES_AT + n] = v;
+    push_entry(part, label, LOCAL + d);
     part[1] = d + 1;
     d
 }
@@ -157,12 +163,9 @@ fn capture_in(part: &mut [u32], label: Label, code: u32) -> u32
     ensures value { result ≡ 512 + get_or part.old 2 0 }
     ensures part_after { part.new ≡ free_in part.old label.at label.hash code }
 {
-    let n = count(part);
     let f = part[2];
-    let k = f as usize;
-    let v = label.entry(FREE + f);
-    part[ENTRIES_AT + n] = v;
-    part[ORIGINALS_AT + k] = code;
+    push_entry(part, label, FREE + f);
+    part[ORIGINALS_AT + f as usize] = code;
     part[2] = f + 1;
     FREE + f
 }
@@ -206,7 +209,7 @@ pub fn place_in(part: &mut [u32], label: Label) -> Result<Slot, DefineError>
 }
 
 // So many definitions more, of the fields from an offset on.
-// Kept: `Fields` goes over fields that fill a part up to its end; here the number of fields is known and no end, and other nodes follow.
+// Kept: by their number, which both walks count for its limit: over `Fields`, up to an end, each clause would say beside it how many.
 fn define_row(tree: &[u8], part: &mut [u32], row: usize, n: usize)
     requires tree_len_bound { length tree.now ≤ tree_limit }
     requires good_table { GoodTable tree.now part.old }

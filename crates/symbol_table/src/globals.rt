@@ -7,7 +7,7 @@ ghost use Rattle.definition.specs.Limit.{session_size, globals_limit};
 ghost use Rattle.definition.specs.SymbolTable.{Symbol, same, find_global};
 ghost use Rattle.symbol_table.specs.Name.{buckets, hash_of};
 ghost use Rattle.symbol_table.specs.Search.{side_number, turn_number, side_of, child_of, with_child, Way, Goes};
-ghost use Rattle.symbol_table.specs.Layout.{globals_size, heads_at, global_name, globals_of, GlobalStands, Finds, found_on, GoodGlobals};
+ghost use Rattle.symbol_table.specs.Layout.{globals_size, heads_at, global_name, globals_of, offset_of, StandsAt, GlobalStands, Finds, found_on, GoodGlobals};
 ghost use Rattle.symbol_table.specs.Store.{global_in};
 ghost use Rattle.symbol_table.specs.Contract.{hit_of, standing_as, as_symbol, Addable, Adds, DefinesGlobal, HasItems, StartsGlobals};
 
@@ -67,13 +67,56 @@ impl Side {
     }
 
     // The number of a global of its own, whose name is at an offset.
-    fn global(self, name: usize) -> u32
-        requires { name < 65536 }
-        ensures { result ≡ 65536 * side_number self + name }
+    fn global(self, at: usize) -> u32
+        requires { at < 65536 }
+        ensures { result ≡ 65536 * side_number self + at }
     {
         match self {
-            Side::Session => name as u32,
-            Side::Tree => (IN_TREE + name) as u32,
+            Side::Session => NamePlace::Session(at).number(),
+            Side::Tree => NamePlace::Tree(at).number(),
+        }
+    }
+}
+
+// Where the name of a global stands: at an offset among the session's names, or in the tree.
+#[derive(Clone, Copy)]
+pub enum NamePlace {
+    Session(usize),
+    Tree(usize),
+}
+
+impl NamePlace {
+    // Its number, as the area has it.
+    fn number(self) -> u32
+        requires { offset_of self < 65536 }
+        ensures { StandsAt result self }
+    {
+        match self {
+            NamePlace::Session(at) => at as u32,
+            NamePlace::Tree(at) => (IN_TREE + at) as u32,
+        }
+    }
+
+    // Its offset, in the bytes that are its own.
+    fn offset(self) -> usize
+        ensures { result ≡ offset_of self }
+    {
+        match self {
+            NamePlace::Session(at) | NamePlace::Tree(at) => at,
+        }
+    }
+}
+
+// The place of a number of the area.
+impl From<u32> for NamePlace {
+    ghost from_gives = { StandsAt };
+
+    fn from(v: u32) -> NamePlace {
+        let at = v as usize;
+        if at < IN_TREE {
+            NamePlace::Session(at)
+        } else {
+            NamePlace::Tree(at - IN_TREE)
         }
     }
 }
@@ -129,16 +172,14 @@ fn with_child(node: u32, turn: Turn, k: u32) -> u32
 }
 
 // Whether a name is that of a global.
-// Kept: `same_name` on the bytes that a global's number tells, the session's or the tree's.
 fn same_global(tree: &[u8], names: &[u8], v: u32, name: &[u8]) -> bool
     requires { GlobalStands tree.now names.now v }
     ensures { result ≡ same name.now (global_name tree.now names.now v) }
 {
-    let at = v as usize;
-    if at < IN_TREE {
-        return same_name(name, content_at(names, at));
+    match NamePlace::from(v) {
+        NamePlace::Session(at) => same_name(name, content_at(names, at)),
+        NamePlace::Tree(at) => same_name(name, content_at(tree, at)),
     }
-    same_name(name, content_at(tree, at - IN_TREE))
 }
 
 // The latest global of a name among the session's or the tree's.
@@ -196,7 +237,10 @@ fn find_place(
     while let Some(k) = next {
         let i = k + 1;
         at = NODES_AT + i;
-        if same_name(name, content_at(bytes, globals[i] as usize % IN_TREE)) {
+        if same_name(
+            name,
+            content_at(bytes, NamePlace::from(globals[i]).offset()),
+        ) {
             return Place {
                 at: at,
                 number: globals[at] % LATEST_UNIT + LATEST_UNIT * new,
@@ -272,26 +316,23 @@ pub fn place_global(key: &Key, globals: &mut [u32; GLOBALS_SIZE]) -> Result<Slot
     Ok(Slot::Global(k))
 }
 
-// No global in any bucket.
-// Kept: the library's `fill`, with what a search reads of the heads.
+// No global in any bucket, as a search reads the heads.
 fn clear_heads(globals: &mut [u32; GLOBALS_SIZE])
     ensures { (h : ℕ) → h < buckets → get_or globals.new (heads_at + h) 0 ≡ 0 }
 {
     globals[HEADS_AT..].fill(0);
 }
 
-// The names of a session become the globals: the fields from an offset up to an end.
-// Kept: the bytes with both offsets, since the session's bytes before the end stay what the globals' numbers are read in. Tried: a struct of
-// the three, whose ghost field is `HasItems`: that holds the names themselves, and a ghost field is to be a proposition.
-pub fn start_in(session: &[u8], globals: &mut [u32; GLOBALS_SIZE], from: usize, end: usize)
-    requires session_len_bound { length session.now ≤ session_size }
-    requires has_items { HasItems session.now from end }
-    ensures { StartsGlobals session.now from end globals.new }
+// The names of a session become the globals.
+pub fn start_in(names: Fields<'_>, globals: &mut [u32; GLOBALS_SIZE])
+    requires session_len_bound { length names.bytes.now ≤ session_size }
+    requires has_items { HasItems names.bytes.now names.at names.end }
+    ensures { StartsGlobals names.entry.bytes.now names.entry.at names.entry.end globals.new }
 {
     clear_heads(globals);
     globals[0] = 0;
-    for at in Fields::new(session, from, end) {
-        let hash = hash_at(session, at);
-        add_global(&session[..end], Side::Session, globals, at, hash);
+    for at in names {
+        let hash = hash_at(names.bytes, at);
+        add_global(&names.bytes[..names.end], Side::Session, globals, at, hash);
     }
 }

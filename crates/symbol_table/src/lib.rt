@@ -10,10 +10,10 @@ mod name;
 mod query;
 mod words;
 
-ghost use Rattle.std.specs.Prelude.{◌≡◌, ◌+◌, ◌<◌, ◌≤◌, length, get_or};
+ghost use Rattle.std.specs.Prelude.{◌≡◌, ◌+◌, ◌<◌, ◌≤◌, length, get_or, take, drop};
 ghost use Rattle.definition.specs.Basic.{Bytes};
 ghost use Rattle.definition.specs.Limit.{tree_limit, session_size, arguments_limit};
-ghost use Rattle.definition.specs.Opcode.{instr, width};
+ghost use Rattle.definition.specs.Opcode.{instr};
 ghost use Rattle.definition.specs.SymbolTable.{load_of};
 ghost use Rattle.definition.specs.Decode.{words_in};
 ghost use Rattle.field.specs.Layout.{after};
@@ -25,6 +25,8 @@ ghost use Rattle.symbol_table.specs.Contract.{lookup_reason, define_reason, Insi
 use definition::Reason;
 pub use enclosed::Part;
 use enclosed::{open_in, part_range, place_in};
+use field::fields::Fields;
+pub use globals::NamePlace;
 use globals::{place_global, start_in};
 use layout::{BUILTIN, FREE, GLOBAL, LOCAL};
 pub use name::Key;
@@ -33,7 +35,7 @@ use opcode::opcodes;
 use query::{Known, Query};
 
 // A symbol that a lookup found: its code, and the functions crossed.
-// Kept: the code, since it goes from the lent area into an original, a mark or a log as it stands; `Symbol::from` tells what it is.
+// Kept: the code, which goes into an original, a mark or a log as it stands: a `Symbol` would be turned back into it at each of the three.
 #[derive(Clone, Copy, PartialEq, Eq, Debug)]
 pub struct Found {
     pub code: u32,
@@ -110,11 +112,10 @@ impl From<u32> for Symbol {
     }
 }
 
-// An instruction with at most one operand, and the number of its operand bytes.
+// An instruction with at most one operand.
 #[derive(Clone, Copy)]
 pub struct Load {
     pub op: u8,
-    pub operands: usize,
     pub operand: u32,
 }
 
@@ -171,18 +172,17 @@ pub fn enter(key: Key<'_>, table: &mut [u32], level: usize, row: usize, n: usize
     open_in(&mut table[part_range(level)], &key, row, n);
 }
 
-// The table area as a walk starts: the names from an offset up to an end are the globals, and no function is open.
-// Kept: the bytes with both offsets, as in `start_in`.
-pub fn start_from(session: &[u8], table: &mut [u32], from: usize, end: usize)
-    requires session_len_bound { length session.now ≤ session_size }
-    requires has_items { HasItems session.now from end }
+// The table area as a walk starts: a session's names are the globals, and no function is open.
+pub fn start_from(names: Fields<'_>, table: &mut [u32])
+    requires session_len_bound { length names.bytes.now ≤ session_size }
+    requires has_items { HasItems names.bytes.now names.at names.end }
     requires globals_size_in_bounds { globals_size ≤ length table.old }
-    ensures { StartsFrom session.now from end table.old table.new }
+    ensures { StartsFrom names.entry.bytes.now names.entry.at names.entry.end table.old table.new }
 {
     let Some(globals) = table.first_chunk_mut() else {
         unreachable!()
     };
-    start_in(session, globals, from, end);
+    start_in(names, globals);
 }
 
 // The table area as a compile starts: the global names of the session, and no open function. `at` is where the names' field is; their end.
@@ -195,41 +195,28 @@ pub fn start(session: &[u8], table: &mut [u32], at: usize) -> usize
 {
     let from = at + 3;
     let end = from + field::length_at(session, at);
-    start_from(session, table, from, end);
+    start_from(Fields::new(session, from, end), table);
     end
 }
 
-// How many globals there are.
-pub fn count_globals(table: &[u32]) -> usize
-    requires { 0 < length table.now }
-    ensures { result ≡ get_or table.now 0 0 }
+// The names of the globals, each as the number of its place.
+pub fn global_names(table: &[u32]) -> &[u32]
+    requires { get_or table.now 0 0 < length table.now }
+    ensures { result.now ≡ take (get_or table.now 0 0) (drop 1 table.now) }
 {
-    table[0] as usize
-}
-
-// The name of a global, as a number: an offset among the session's names, or IN_TREE more than an offset in the tree.
-pub fn global_name(table: &[u32], k: usize) -> u32
-    requires { 1 + k < length table.now }
-    ensures { result ≡ get_or table.now (1 + k) 0 }
-{
-    table[1 + k]
+    &table[1..1 + table[0] as usize]
 }
 
 // The instruction that loads a symbol.
 pub fn load_of(code: u32) -> Load
-    ensures is { instr result.op result.operand 0 ≡ load_of (symbol_of code) }
-    ensures sized { result.operands ≡ width result.op }
+    ensures { instr result.op result.operand 0 ≡ load_of (symbol_of code) }
 {
-    let (op, operands, operand) = match Symbol::from(code) {
-        Symbol::Function => (opcodes::CURRENT_CLOSURE, 0, 0),
-        Symbol::Local(k) => (opcodes::GET_LOCAL, 1, k),
-        Symbol::Free(k) => (opcodes::GET_FREE, 1, k),
-        Symbol::Builtin(k) => (opcodes::GET_BUILTIN, 1, k),
-        Symbol::Global(k) => (opcodes::GET_GLOBAL, 2, k),
+    let (op, operand) = match Symbol::from(code) {
+        Symbol::Function => (opcodes::CURRENT_CLOSURE, 0),
+        Symbol::Local(k) => (opcodes::GET_LOCAL, k),
+        Symbol::Free(k) => (opcodes::GET_FREE, k),
+        Symbol::Builtin(k) => (opcodes::GET_BUILTIN, k),
+        Symbol::Global(k) => (opcodes::GET_GLOBAL, k),
     };
-    Load {
-        op,
-        operands,
-        operand,
-    }
+    Load { op, operand }
 }

@@ -1,6 +1,5 @@
 // The marks of an open function's part: by them a lookup of a builtin or a global passes the function's table over.
-// Kept: a part that is written is a slice, and an area with a level a part of it, as in `enclosed`: a struct of `&mut` numbers would have a
-// clause in each promise that they are the same slice, in the place of the one on the length.
+// Kept: a part that is written is a slice, as in `enclosed`: a struct of it would say in each promise that its slice is the same.
 ghost use Rattle.std.specs.Prelude.{◌≡◌, false, ◌+◌, ◌<◌, ◌≤◌, length, get_or};
 ghost use Rattle.symbol_table.specs.Layout.{part_size, marked_at, marks_at, base, part, IsMarked};
 ghost use Rattle.symbol_table.specs.Store.{mark_in};
@@ -12,8 +11,7 @@ use super::layout::{CODE_UNIT, ENTRIES_AT, MARKED_AT, MARKS, MARKS_AT, SHORT};
 use super::name::Key;
 use super::query::{Known, Query};
 
-// No mark is set.
-// Kept: the library's `fill`, with what the other numbers of the part are then.
+// No mark is set; the numbers before the marks stay.
 fn clear_marks(part: &mut [u32])
     requires { length part.old ≡ part_size }
     ensures { SameBelow marks_at part.old part.new }

@@ -4,7 +4,7 @@ ghost use Rattle.symbol_table.specs.Layout.{part_size, base, part, Sized};
 ghost use Rattle.symbol_table.specs.Contract.{Few, Inside, Crosses};
 ghost use Rattle.symbol_table.specs.Lookups.{Outside, Opened, Standing, IsKnown, HasCode, IsOutermost, IsEntry, Remarks, IsResolved};
 
-use super::enclosed::{Part, count, cross_in, find_in, part_range};
+use super::enclosed::{Part, cross_in, find_in, part_range};
 use super::globals::find_global;
 use super::layout::{GLOBALS_SIZE, PART_SIZE, SHORT};
 use super::marks::is_absent;
@@ -20,7 +20,7 @@ pub struct Query<'a> {
 }
 
 // What is known of a name outside all functions: it was not looked for, it is not there, or the code of its builtin or global.
-// Kept: the code, since a mark of the lent area is found by it.
+// Kept: the code, by which a mark of the lent area is found: a `Symbol` would be turned back into it at each function that is looked at.
 #[derive(Clone, Copy)]
 pub enum Known {
     Unasked,
@@ -44,7 +44,7 @@ fn cross_at(
 }
 
 // What its methods need of the area is said once, in `Outside`, `Opened` and `Standing`.
-// Kept: these are clauses and no ghost field, since they hold a search's way, of which there may be more than one.
+// Kept: clauses: a ghost field is to be a proposition, and these are none, since they hold a search's way, of which there may be two.
 impl<'a> Query<'a> {
     // The latest entry of the name in the table of the function at a level, which has n entries.
     fn find_at(&self, table: &[u32], level: usize, n: usize) -> Option<u32>
@@ -145,7 +145,7 @@ impl<'a> Query<'a> {
             return self.resolve_outermost(table, known);
         }
         let l = level - 1;
-        let n = count(Part::of(table, l).numbers);
+        let n = Part::of(table, l).entries();
         let outside = self.known_for(table, n, known);
         if let Some(code) = self.look_at(table, l, n, outside) {
             return Ok(Found { code, crossed: 0 });

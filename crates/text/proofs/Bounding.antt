@@ -6,7 +6,8 @@ use lib.ListN.{length}
 use lib.Seq.{sets, length-sets}
 use Rattle.std.specs.Prelude.{None}
 use Rattle.definition.specs.Basic.{Bytes}
-use Rattle.text.specs.Parts.{end_of, head_of, Bounds, joined_of, moved_on, closed_of}
+use Rattle.session.specs.Write.{heading}
+use Rattle.text.specs.Parts.{end_of, Bounds, joined_of, moved_on, closed_of}
 use Rattle.text.specs.declared.part.Part.{Part}
 use Rattle.text.proofs.Larger.{larger_is}
 
@@ -39,10 +40,10 @@ pub bounds_on : {text : Bytes} {at at' to a left : ℕ} {old out : Bytes} {p : P
 bounds_on w h k = record { lengths = w.lengths; onward = omega (arith, w.onward); within = k; room = omega (arith, w.room); behind = w.behind; depth = w.depth }
 
 -- a field
-pub bounds_field : {text : Bytes} {at to a left : ℕ} {old mid out : Bytes} {p : Part} (tag : ℕ) → Bounds text at (to + 3) a left old mid p → out ≡ sets mid to (head_of tag (p.to - to - 3)) → Bounds text at to (a + 3) (suc left) old out (closed_of tag p)
+pub bounds_field : {text : Bytes} {at to a left : ℕ} {old mid out : Bytes} {p : Part} (tag : ℕ) → Bounds text at (to + 3) a left old mid p → out ≡ sets mid to (heading tag (p.to - to - 3)) → Bounds text at to (a + 3) (suc left) old out (closed_of tag p)
 bounds_field {to = to} {mid = mid} {p = p} tag w e =
     record {
-      lengths = ap length e ∙ length-sets mid to (head_of tag (p.to - to - 3)) ∙ w.lengths;
+      lengths = ap length e ∙ length-sets mid to (heading tag (p.to - to - 3)) ∙ w.lengths;
       onward = w.onward;
       within = w.within;
       room = omega (arith, w.room);

@@ -13,7 +13,8 @@ use Rattle.text.specs.Kind.{an_integer, a_string, true_word, false_word, number_
 use Rattle.text.specs.Scan.{value, eight, integer_limit}
 use Rattle.text.specs.Seen.{within_limit}
 use Rattle.std.specs.Prelude.{Some}
-use Rattle.text.specs.Parts.{head_of, content_of, Sees}
+use Rattle.session.specs.Write.{heading}
+use Rattle.text.specs.Parts.{content_of, Sees}
 use Rattle.text.specs.declared.scan.Token as piece
 
 module _ (text : Bytes) (t : piece.Token) where
@@ -42,10 +43,10 @@ module _ (text : Bytes) (t : piece.Token) where
   put_done to old {content} {r} {out} e a b c = record { behind = a ∙ ap (λ x. to + length x) (sym e); stored = b ∙ ap (sets old to) (sym e); most = omega (arith, ap length e) }
 
 -- a head in front of a content
-pub field_stored : (tag : ℕ) (content : Bytes) (to : ℕ) (old : Bytes) {end : ℕ} {mid out : Bytes} → mid ≡ sets old (to + 3) content → end ≡ to + 3 + length content → out ≡ sets mid to (head_of tag (end - to - 3)) → out ≡ sets old to (field tag content)
+pub field_stored : (tag : ℕ) (content : Bytes) (to : ℕ) (old : Bytes) {end : ℕ} {mid out : Bytes} → mid ≡ sets old (to + 3) content → end ≡ to + 3 + length content → out ≡ sets mid to (heading tag (end - to - 3)) → out ≡ sets old to (field tag content)
 field_stored tag content to old {end} {mid} {out} a e b =
     let n : end - to - 3 ≡ length content = omega arith in
-    b ∙ (λ i. sets (a i) to (head_of tag (n i))) ∙ sets_before old to {j = to + 3} (head_of tag (length content)) content refl
+    b ∙ (λ i. sets (a i) to (heading tag (n i))) ∙ sets_before old to {j = to + 3} (heading tag (length content)) content refl
 
 -- a token ends behind where it was looked for
 pub sees_on : {text : Bytes} {at : ℕ} {t : piece.Token} → Sees text at t → at ≤ t.end

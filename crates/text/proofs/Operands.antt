@@ -18,7 +18,8 @@ use Rattle.text.specs.Token.{Row, kind_of, bytes_of}
 use Rattle.definition.specs.Node.{Node, node, Nodes, ◌then◌, written, written_all, levels, levels_all, larger}
 use Rattle.text.specs.Shape.{tight_of, is_leaf, is_list, operator_of, continued_tag, operand_tag, leaf_bytes}
 use Rattle.text.specs.Parse.{ExpressionRow, OperandRow, InsideRow, ListRow}
-use Rattle.text.specs.Parts.{end_of, head_of, moved_by, row_at, denoted, content_of, Sees, Put, PutNode, PutToken, Bounds, Spares, WritesNode, Writes, Continues, joined_of, closed_of}
+use Rattle.session.specs.Write.{heading}
+use Rattle.text.specs.Parts.{end_of, moved_by, row_at, denoted, content_of, Sees, Put, PutNode, PutToken, Bounds, Spares, WritesNode, Writes, Continues, joined_of, closed_of}
 use Rattle.text.specs.declared.part.Part.{Part}
 use Rattle.text.specs.declared.scan.Token as piece
 use Rattle.text.proofs.Larger.{larger_is}
@@ -100,7 +101,7 @@ operand_leaf {text} {at} {to} {left} {o} {o₁} {t} {p} a h k w =
     go _ _ (OperandRow.deeper _ h _) = absurd (no_both_ways (ap is_leaf (sym a.kind) ∙ k) h)
 
 -- an operand with fields inside
-pub operand_deeper : {text : Bytes} {at to l left : ℕ} {o o₁ o₂ : Bytes} {t : piece.Token} {p s : Part} → left ≡ suc l → Sees text at t → at < t.end → is_leaf (number_of t.kind) ≡ false → Writes (InsideRow (number_of t.kind) 5) text t.end (to + 3) 9 l o o₁ p → s ≡ closed_of (operand_tag (number_of t.kind)) p → o₂ ≡ sets o₁ to (head_of (operand_tag (number_of t.kind)) (p.to - to - 3)) → WritesNode OperandRow text at to 0 left o o₂ s × Spares text at to s
+pub operand_deeper : {text : Bytes} {at to l left : ℕ} {o o₁ o₂ : Bytes} {t : piece.Token} {p s : Part} → left ≡ suc l → Sees text at t → at < t.end → is_leaf (number_of t.kind) ≡ false → Writes (InsideRow (number_of t.kind) 5) text t.end (to + 3) 9 l o o₁ p → s ≡ closed_of (operand_tag (number_of t.kind)) p → o₂ ≡ sets o₁ to (heading (operand_tag (number_of t.kind)) (p.to - to - 3)) → WritesNode OperandRow text at to 0 left o o₂ s × Spares text at to s
 unfolding written levels
 operand_deeper {text} {at} {to} {l} {left} {o} {o₁} {o₂} {t} {p} {s} z a h k w j m =
     let f = bounds_field (operand_tag (number_of t.kind)) w.bounds m in
@@ -181,27 +182,27 @@ pub moved_length : (o : Bytes) (from end by : ℕ) → length (moved_by o from e
 moved_length o from end by = chosen (λ m. length m ≡ length o) (ltb (length o) (end + by)) (λ _. refl) (λ _. length-sets o (from + by) (bytes (byte_at o) from (end - from)))
 
 -- a field of what was put and what stands behind it, after room was made for its head
-head_in_front : (base o o₁ o₂ o₃ xs ys : Bytes) (tag to from end : ℕ) → o ≡ sets base to xs → from ≡ to + length xs → o₁ ≡ moved_by o to from 3 → o₂ ≡ sets o₁ (from + 3) ys → o₃ ≡ sets o₂ to (head_of tag (end - to - 3)) → end ≡ from + 3 + length ys → end ≤ length base → o₃ ≡ sets base to (field tag (xs ++ ys))
+head_in_front : (base o o₁ o₂ o₃ xs ys : Bytes) (tag to from end : ℕ) → o ≡ sets base to xs → from ≡ to + length xs → o₁ ≡ moved_by o to from 3 → o₂ ≡ sets o₁ (from + 3) ys → o₃ ≡ sets o₂ to (heading tag (end - to - 3)) → end ≡ from + 3 + length ys → end ≤ length base → o₃ ≡ sets base to (field tag (xs ++ ys))
 head_in_front base o o₁ o₂ o₃ xs ys tag to from end a f b c d e h =
     let n : length o ≡ length base = ap length a ∙ length-sets base to xs in
     let k : from - to ≡ length xs = omega arith in
     let r : bytes (byte_at o) to (from - to) ≡ xs = (λ i. bytes (byte_at (a i)) to (k i)) ∙ stored_bytes base to xs (omega arith) in
     let m : o₁ ≡ sets (sets base to xs) (to + 3) xs = b ∙ rw (le-ltb (length o) (from + 3) (omega arith)) (λ i. sets (a i) (to + 3) (r i)) in
     let z : end - to - 3 ≡ length (xs ++ ys) = omega (arith, length-append xs ys) in
-    d ∙ (λ i. sets (c i) to (head_of tag (z i))) ∙ ap (λ m. sets (sets m (from + 3) ys) to (head_of tag (length (xs ++ ys)))) m
-    ∙ head_inserted base to (head_of tag (length (xs ++ ys))) xs ys {j = to + 3} {k = from + 3} refl (omega arith)
+    d ∙ (λ i. sets (c i) to (heading tag (z i))) ∙ ap (λ m. sets (sets m (from + 3) ys) to (heading tag (length (xs ++ ys)))) m
+    ∙ head_inserted base to (heading tag (length (xs ++ ys))) xs ys {j = to + 3} {k = from + 3} refl (omega arith)
 
 -- a call, an index or an infix operator
-pub continued_writes : {text : Bytes} {t : piece.Token} {to l left : ℕ} {o o₁ o₂ o₃ : Bytes} {v q u s : Part} → left ≡ suc l → v.levels < left → v.at < t.end → to ≤ v.to → o₁ ≡ moved_by o to v.to 3 → Writes (InsideRow (number_of t.kind) (tight_of (number_of t.kind))) text t.end (v.to + 3) 9 l o₁ o₂ q → u ≡ joined_of v q → s ≡ closed_of (continued_tag (number_of t.kind)) u → o₃ ≡ sets o₂ to (head_of (continued_tag (number_of t.kind)) (u.to - to - 3)) → Continues text t to v left o o₃ s
+pub continued_writes : {text : Bytes} {t : piece.Token} {to l left : ℕ} {o o₁ o₂ o₃ : Bytes} {v q u s : Part} → left ≡ suc l → v.levels < left → v.at < t.end → to ≤ v.to → o₁ ≡ moved_by o to v.to 3 → Writes (InsideRow (number_of t.kind) (tight_of (number_of t.kind))) text t.end (v.to + 3) 9 l o₁ o₂ q → u ≡ joined_of v q → s ≡ closed_of (continued_tag (number_of t.kind)) u → o₃ ≡ sets o₂ to (heading (continued_tag (number_of t.kind)) (u.to - to - 3)) → Continues text t to v left o o₃ s
 unfolding written written_all levels levels_all
 continued_writes {text} {t} {to} {l} {left} {o} {o₁} {o₂} {o₃} {v} {q} {u} {s} z h k b m w i j n =
-    let n' : o₃ ≡ sets o₂ to (head_of (continued_tag (number_of t.kind)) (q.to - to - 3)) = n ∙ ap (λ u. sets o₂ to (head_of (continued_tag (number_of t.kind)) (u.to - to - 3))) i in
+    let n' : o₃ ≡ sets o₂ to (heading (continued_tag (number_of t.kind)) (q.to - to - 3)) = n ∙ ap (λ u. sets o₂ to (heading (continued_tag (number_of t.kind)) (u.to - to - 3))) i in
     let y = larger_is v.levels q.levels in
     subst (λ s. Continues text t to v left o o₃ s) (sym (j ∙ ap (closed_of (continued_tag (number_of t.kind))) i))
     (record {
       bounds =
           record {
-            lengths = ap length n' ∙ length-sets o₂ to (head_of (continued_tag (number_of t.kind)) (q.to - to - 3)) ∙ w.bounds.lengths ∙ ap length m ∙ moved_length o to v.to 3;
+            lengths = ap length n' ∙ length-sets o₂ to (heading (continued_tag (number_of t.kind)) (q.to - to - 3)) ∙ w.bounds.lengths ∙ ap length m ∙ moved_length o to v.to 3;
             onward = omega (arith, w.bounds.onward);
             within = w.bounds.within;
             room = omega (arith, w.bounds.room);
@@ -213,7 +214,7 @@ continued_writes {text} {t} {to} {l} {left} {o} {o₁} {o₂} {o₃} {v} {q} {u}
       puts = λ x xs rest base len f d. go n' x xs rest base len f.put (w.puts xs rest d);
     })
   where
-    go : o₃ ≡ sets o₂ to (head_of (continued_tag (number_of t.kind)) (q.to - to - 3)) → (x : Node) (xs : Nodes) (rest : Row) (base : Bytes) → length o ≡ length base → Put text (row_at text v.at) (written x) (levels x) left to base o v → Put text rest (written_all xs) (levels_all xs) l (v.to + 3) o₁ o₂ q → PutNode text rest (node (continued_tag (number_of t.kind)) (x then xs)) left to base o₃ (closed_of (continued_tag (number_of t.kind)) (joined_of v q))
+    go : o₃ ≡ sets o₂ to (heading (continued_tag (number_of t.kind)) (q.to - to - 3)) → (x : Node) (xs : Nodes) (rest : Row) (base : Bytes) → length o ≡ length base → Put text (row_at text v.at) (written x) (levels x) left to base o v → Put text rest (written_all xs) (levels_all xs) l (v.to + 3) o₁ o₂ q → PutNode text rest (node (continued_tag (number_of t.kind)) (x then xs)) left to base o₃ (closed_of (continued_tag (number_of t.kind)) (joined_of v q))
     go e x xs rest base len (Put.too_deep a c) f = absurd (omega arith)
     go e x xs rest base len (Put.fits a r c d g) (Put.too_deep a' c') =
         let y = larger_is v.levels q.levels in

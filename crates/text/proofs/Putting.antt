@@ -10,7 +10,8 @@ use Rattle.definition.specs.Field.{field}
 use Rattle.session.proofs.Stores.{sets_append, sets_before}
 use Rattle.text.specs.Token.{Row}
 use Rattle.definition.specs.Node.{Node, Nodes, none, ◌then◌, one, written, written_all, levels, levels_all, larger}
-use Rattle.text.specs.Parts.{row_at, head_of, Put, joined_of, moved_on, closed_of}
+use Rattle.session.specs.Write.{heading}
+use Rattle.text.specs.Parts.{row_at, Put, joined_of, moved_on, closed_of}
 use Rattle.text.specs.declared.part.Part.{Part}
 use Rattle.text.proofs.Larger.{larger_is, larger_assoc, larger_zero, zero_larger}
 
@@ -45,12 +46,12 @@ put-behind {text} {us} {rest} {xs} {ys} {d} {e} {left} {to} {old} {mid} {out} {p
         (λ z. w (omega arith) ∙ ap (λ m. sets m p.to ys) (s (omega arith)) ∙ sets_append old to {j = p.to} xs ys (sym b))
 
 -- a head in front of what was put behind it
-pub put-field : {text : Bytes} {rest : Row} {xs : Bytes} {d left to : ℕ} {old mid out : Bytes} {p : Part} (tag : ℕ) → Put text rest xs d left (to + 3) old mid p → out ≡ sets mid to (head_of tag (p.to - to - 3)) → Put text rest (field tag xs) (suc d) (suc left) to old out (closed_of tag p)
+pub put-field : {text : Bytes} {rest : Row} {xs : Bytes} {d left to : ℕ} {old mid out : Bytes} {p : Part} (tag : ℕ) → Put text rest xs d left (to + 3) old mid p → out ≡ sets mid to (heading tag (p.to - to - 3)) → Put text rest (field tag xs) (suc d) (suc left) to old out (closed_of tag p)
 put-field tag (Put.too_deep h k) e = Put.too_deep (omega arith) (omega arith)
 put-field {xs = xs} {to = to} {old = old} {p = p} tag (Put.fits a r b c s) e =
     let n : p.to - to - 3 ≡ length xs = omega arith in
     Put.fits (omega arith) r (omega arith) (omega arith)
-    (λ z. e ∙ ap (λ m. sets m to (head_of tag (p.to - to - 3))) (s z) ∙ ap (λ k. sets (sets old (to + 3) xs) to (head_of tag k)) n ∙ sets_before old to {j = to + 3} (head_of tag (length xs)) xs refl)
+    (λ z. e ∙ ap (λ m. sets m to (heading tag (p.to - to - 3))) (s z) ∙ ap (λ k. sets (sets old (to + 3) xs) to (heading tag k)) n ∙ sets_before old to {j = to + 3} (heading tag (length xs)) xs refl)
 
 -- one field as a row
 pub put_one : {text : Bytes} {rest : Row} (x : Node) {left to : ℕ} {old out : Bytes} {p : Part} → Put text rest (written x) (levels x) left to old out p → Put text rest (written_all (one x)) (levels_all (one x)) left to old out p

@@ -23,7 +23,8 @@ use Rattle.text.specs.Scan.{Next, next_at, Tail, whole, cut, Scanned, scan_next,
 use Rattle.text.specs.Script.{Outcome, tree, refused, judged, read_row, read_text, answer_of, output_of}
 use Rattle.text.specs.Recognize.{recognition, closing, recognize_text}
 use Rattle.text.specs.Parse.{StatementsRow}
-use Rattle.text.specs.Parts.{row_from, row_next, row_at, head_of, Put, PutsTree, Writes, closed_of}
+use Rattle.session.specs.Write.{heading}
+use Rattle.text.specs.Parts.{row_from, row_next, row_at, Put, PutsTree, Writes, closed_of}
 use Rattle.text.specs.declared.part.Part.{Part}
 use Rattle.text.proofs.Putting.{put-field}
 use Rattle.text.proofs.Recognizes.{verdict_of, recognizes}
@@ -98,11 +99,11 @@ accepted text h = go (read_row ts) refl (judges ts)
         made _ e (Judges.stopped {us = t ∷ us} f) = let g = found (bad (t ∷ us)) e in let z : ◌≡◌ {A = ℕ} 0 1 = cc in absurd (omega arith)
 
 -- the whole tree, from its statements
-pub puts_tree : {text : Bytes} {old mid out : Bytes} {p s : Part} → Writes StatementsRow text 0 3 0 63 old mid p → s ≡ closed_of tag_program p → out ≡ sets mid 0 (head_of tag_program (p.to - 0 - 3)) → PutsTree text old out s
+pub puts_tree : {text : Bytes} {old mid out : Bytes} {p s : Part} → Writes StatementsRow text 0 3 0 63 old mid p → s ≡ closed_of tag_program p → out ≡ sets mid 0 (heading tag_program (p.to - 0 - 3)) → PutsTree text old out s
 unfolding written levels
 puts_tree {text} {old} {mid} {out} {p} {s} w i m =
     subst (λ s. PutsTree text old out s) (sym i)
-    (record { lengths = ap length m ∙ length-sets mid 0 (head_of tag_program (p.to - 0 - 3)) ∙ w.bounds.lengths; puts = λ xs d. put-field {to = 0} tag_program (w.puts xs [] d) m })
+    (record { lengths = ap length m ∙ length-sets mid 0 (heading tag_program (p.to - 0 - 3)) ∙ w.bounds.lengths; puts = λ xs d. put-field {to = 0} tag_program (w.puts xs [] d) m })
 
 -- what is answered and left, by what was measured and put
 module _ (text old : Bytes) (a : Accepted text) where

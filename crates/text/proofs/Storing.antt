@@ -1,11 +1,10 @@
 -- Bytes of a tree stored in an output: heads in front, parts behind, and parts moved further back.
-use Prim.Native.Nat.{ℕ, ◌+◌, ◌-◌, ◌≤◌, ◌<◌}
+use Prim.Native.Nat.{ℕ, ◌+◌, ◌-◌, ◌≤◌}
 use native.Mathlib.Omega.{arith}
-use native.Mathlib.Numerals.{add-one}
-use mathlib.Core.List.{[], ◌∷◌, ◌++◌, append_assoc}
+use mathlib.Core.List.{◌++◌, append_assoc}
 use mathlib.Core.Path.{◌≡◌, refl, sym, ap, ◌∙◌}
-use lib.ListN.{length, set, take, drop, get_or, length-append, length-drop, take-append-drop}
-use lib.Seq.{sets, sets-eq, length-sets, length-take-le, take_at, drop_at, take-suc}
+use lib.ListN.{length, take, drop, length-append, length-drop, take-append-drop}
+use lib.Seq.{sets, sets-eq, length-sets, length-take-le, take_at, drop_at}
 use Rattle.std.specs.List.{copy_within}
 use Rattle.definition.specs.Basic.{Bytes, byte_at}
 use Rattle.definition.specs.Field.{bytes}
@@ -54,16 +53,6 @@ pub behind_front : (l : Bytes) (i : ℕ) (front xs : Bytes) {j : ℕ} → j ≡ 
 behind_front l i front xs {j} e h =
     ap (λ m. bytes (byte_at m) j (length xs)) (sym (sets_append l i {j = j} front xs (sym e)))
     ∙ stored_bytes (sets l i front) j xs (omega (arith, length-sets l i front))
-
--- one byte more
-pub stored_one : (o : Bytes) (i : ℕ) (xs : Bytes) {m n : Bytes} {j : ℕ} (b : ℕ) → m ≡ sets o i xs → n ≡ set m j b → j ≡ i + length xs → n ≡ sets o i (xs ++ (b ∷ []))
-stored_one o i xs {j = j} b e f g = f ∙ ap (λ l. set l j b) e ∙ sets_append o i {j = j} xs (b ∷ []) (sym g)
-
--- one more of the bytes put
-pub taken_one : (o : Bytes) (i : ℕ) (bs : Bytes) (k : ℕ) {m n : Bytes} → k < length bs → m ≡ sets o i (take k bs) → n ≡ set m (i + k) (get_or bs k 0) → n ≡ sets o i (take (k + 1) bs)
-taken_one o i bs k h e f =
-    let n : length (take k bs) ≡ k = length-take-le k bs (omega arith) in
-    stored_one o i (take k bs) (get_or bs k 0) e f (omega arith) ∙ ap (sets o i) (sym (take-suc bs k 0 h)) ∙ ap (λ j. sets o i (take j bs)) (sym (add-one k))
 
 -- bytes moved back by the library's copy
 pub moved_within : (l : Bytes) (from end by : ℕ) → from ≤ end → end + by ≤ length l → copy_within l from end (from + by) ≡ moved_by l from end by

@@ -21,7 +21,8 @@ use Rattle.definition.specs.Node.{Node, leaf, node, Nodes, ◌then◌, one, writ
 use Rattle.text.specs.Named.{named}
 use Rattle.text.specs.Shape.{continued_tag, operand_tag}
 use Rattle.text.specs.Parse.{ExpressionRow, ClimbRow, OperandRow, InsideRow, FunctionRow, LetRow, ClauseRow}
-use Rattle.text.specs.Parts.{head_of, moved_by, row_at, content_of, Sees, Shaped, Put, PutToken, tag_of, Bounds, Spares, WritesNode, Writes, Named, joined_of}
+use Rattle.session.specs.Write.{heading}
+use Rattle.text.specs.Parts.{moved_by, row_at, content_of, Sees, Shaped, Put, PutToken, tag_of, Bounds, Spares, WritesNode, Writes, Named, joined_of}
 use Rattle.text.specs.declared.part.Part.{Part}
 use Rattle.text.specs.declared.scan.Token as piece
 use Rattle.text.proofs.Storing.{behind_front, front_replaced}
@@ -121,11 +122,11 @@ named-plain {text} {name} {to} {v} {p} {o} h e =
         put_same (ap written i) (ap levels i) (Put.fits a b c d f)
 
 -- a function's bytes: two heads, and what is behind its name
-written_function : (x : Node) (ys : Nodes) → x ≡ node tag_function (leaf tag_name [] then ys) → written x ≡ (head_of tag_function (suc (suc (suc (length (written_all ys))))) ++ field tag_name []) ++ written_all ys
+written_function : (x : Node) (ys : Nodes) → x ≡ node tag_function (leaf tag_name [] then ys) → written x ≡ (heading tag_function (suc (suc (suc (length (written_all ys))))) ++ field tag_name []) ++ written_all ys
 unfolding written written_all
 written_function x ys e = ap written e
 
-named_function : (n : Bytes) (x : Node) (ys : Nodes) → x ≡ node tag_function (leaf tag_name [] then ys) → written (named n x) ≡ head_of tag_function (length (field tag_name n ++ written_all ys)) ++ (field tag_name n ++ written_all ys)
+named_function : (n : Bytes) (x : Node) (ys : Nodes) → x ≡ node tag_function (leaf tag_name [] then ys) → written (named n x) ≡ heading tag_function (length (field tag_name n ++ written_all ys)) ++ (field tag_name n ++ written_all ys)
 unfolding written written_all
 named_function n x ys e = ap (λ x. written (named n x)) e
 
@@ -141,22 +142,22 @@ named_short {text} {name} {to} {v} {p} {o} k h e =
         let g = sym (t a) ∙ k in
         let i : tag_of x ≡ tag_function = cc in
         let n = ap length (written_function x (s.body i) (s.shape i)) in
-        absurd (omega (arith, length-append (head_of tag_function (suc (suc (suc (length (written_all (s.body i)))))) ++ field tag_name []) (written_all (s.body i))))
+        absurd (omega (arith, length-append (heading tag_function (suc (suc (suc (length (written_all (s.body i)))))) ++ field tag_name []) (written_all (s.body i))))
 
 -- the bytes of a function with its name in place
-function_in_place : (base o o₁ o₂ o₃ n ys : Bytes) (to from by : ℕ) → o ≡ sets base to ((head_of tag_function (suc (suc (suc (length ys)))) ++ field tag_name []) ++ ys) → from ≡ to + 6 + length ys → by ≡ length n → o₁ ≡ moved_by o (to + 6) from by → o₂ ≡ sets o₁ (to + 3) (field tag_name n) → o₃ ≡ sets o₂ to (head_of tag_function (from + by - to - 3)) → from + by ≤ length base → o₃ ≡ sets base to (head_of tag_function (length (field tag_name n ++ ys)) ++ (field tag_name n ++ ys))
+function_in_place : (base o o₁ o₂ o₃ n ys : Bytes) (to from by : ℕ) → o ≡ sets base to ((heading tag_function (suc (suc (suc (length ys)))) ++ field tag_name []) ++ ys) → from ≡ to + 6 + length ys → by ≡ length n → o₁ ≡ moved_by o (to + 6) from by → o₂ ≡ sets o₁ (to + 3) (field tag_name n) → o₃ ≡ sets o₂ to (heading tag_function (from + by - to - 3)) → from + by ≤ length base → o₃ ≡ sets base to (heading tag_function (length (field tag_name n ++ ys)) ++ (field tag_name n ++ ys))
 function_in_place base o o₁ o₂ o₃ n ys to from by a f b c d e h =
-    let front = head_of tag_function (suc (suc (suc (length ys)))) ++ field tag_name [] in
+    let front = heading tag_function (suc (suc (suc (length ys)))) ++ field tag_name [] in
     let l : length o ≡ length base = ap length a ∙ length-sets base to (front ++ ys) in
     let k : from - (to + 6) ≡ length ys = omega arith in
     let r : bytes (byte_at o) (to + 6) (from - (to + 6)) ≡ ys = (λ i. bytes (byte_at (a i)) (to + 6) (k i)) ∙ behind_front base to front ys {j = to + 6} refl (omega arith) in
     let m : o₁ ≡ sets (sets base to (front ++ ys)) (to + 6 + by) ys = c ∙ rw (le-ltb (length o) (from + by) (omega arith)) (λ i. sets (a i) (to + 6 + by) (r i)) in
     let z : from + by - to - 3 ≡ length (field tag_name n ++ ys) = omega (arith, length-append (field tag_name n) ys) in
-    e ∙ (λ i. sets (d i) to (head_of tag_function (z i))) ∙ ap (λ m. sets (sets m (to + 3) (field tag_name n)) to (head_of tag_function (length (field tag_name n ++ ys)))) m
-    ∙ front_replaced base to front (head_of tag_function (length (field tag_name n ++ ys))) (field tag_name n) ys {j = to + 3} {k = to + 6 + by} (omega arith) refl (omega arith)
+    e ∙ (λ i. sets (d i) to (heading tag_function (z i))) ∙ ap (λ m. sets (sets m (to + 3) (field tag_name n)) to (heading tag_function (length (field tag_name n ++ ys)))) m
+    ∙ front_replaced base to front (heading tag_function (length (field tag_name n ++ ys))) (field tag_name n) ys {j = to + 3} {k = to + 6 + by} (omega arith) refl (omega arith)
 
 -- a function takes the name
-pub named_writes : {text : Bytes} {name : piece.Token} {to : ℕ} {v p q : Part} {o o₁ o₂ o₃ : Bytes} → v.tag ≡ Some tag_function → o₁ ≡ moved_by o (to + 6) v.to (name.end - name.start) → PutToken tag_name text name (to + 3) o₁ o₂ q → o₃ ≡ sets o₂ to (head_of tag_function (v.to + (name.end - name.start) - to - 3)) → p ≡ record { at = v.at; to = v.to + (name.end - name.start); levels = v.levels; tag = v.tag } → Named text name to v o o₃ p
+pub named_writes : {text : Bytes} {name : piece.Token} {to : ℕ} {v p q : Part} {o o₁ o₂ o₃ : Bytes} → v.tag ≡ Some tag_function → o₁ ≡ moved_by o (to + 6) v.to (name.end - name.start) → PutToken tag_name text name (to + 3) o₁ o₂ q → o₃ ≡ sets o₂ to (heading tag_function (v.to + (name.end - name.start) - to - 3)) → p ≡ record { at = v.at; to = v.to + (name.end - name.start); levels = v.levels; tag = v.tag } → Named text name to v o o₃ p
 unfolding content_of
 named_writes {text} {name} {to} {v} {p} {q} {o} {o₁} {o₂} {o₃} k c w d e =
     subst (λ p. Named text name to v o o₃ p) (sym e)
@@ -165,7 +166,7 @@ named_writes {text} {name} {to} {v} {p} {q} {o} {o₁} {o₂} {o₃} k c w d e =
       levels = refl;
       behind = omega arith;
       most = omega arith;
-      lengths = ap length d ∙ length-sets o₂ to (head_of tag_function (v.to + by - to - 3)) ∙ ap length w.stored ∙ length-sets o₁ (to + 3) (field tag_name (content_of text name)) ∙ ap length c ∙ moved_length o (to + 6) v.to by;
+      lengths = ap length d ∙ length-sets o₂ to (heading tag_function (v.to + by - to - 3)) ∙ ap length w.stored ∙ length-sets o₁ (to + 3) (field tag_name (content_of text name)) ∙ ap length c ∙ moved_length o (to + 6) v.to by;
       puts = λ x rest left base _ g s w. go g x rest left base s w.put w.tag;
     })
   where
@@ -185,8 +186,8 @@ named_writes {text} {name} {to} {v} {p} {q} {o} {o₁} {o₂} {o₃} k c w d e =
         let n = content_of text name in
         let nf = named_function n x (s.body u) (s.shape u) in
         let h = as_long g in
-        let y = ap length wf ∙ length-append (head_of tag_function (suc (suc (suc (length ys)))) ++ field tag_name []) ys in
-        let y' = ap length nf ∙ length-append (head_of tag_function (length (field tag_name n ++ ys))) (field tag_name n ++ ys) in
+        let y = ap length wf ∙ length-append (heading tag_function (suc (suc (suc (length ys)))) ++ field tag_name []) ys in
+        let y' = ap length nf ∙ length-append (heading tag_function (length (field tag_name n ++ ys))) (field tag_name n ++ ys) in
         let y'' = length-append (field tag_name n) ys in
         Put.fits (omega (arith, named-levels n x s)) b (omega arith) (j ∙ sym (named-levels n x s))
         (λ z. function_in_place base o o₁ o₂ o₃ n ys to v.to by (f (omega arith) ∙ ap (sets base to) wf) (omega arith) h c w.stored d z ∙ ap (sets base to) (sym nf))

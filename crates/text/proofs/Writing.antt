@@ -15,7 +15,8 @@ use Rattle.text.specs.Token.{Row, kind_of, behind}
 use Rattle.definition.specs.Node.{Node, Nodes, written, written_all, levels, levels_all}
 use Rattle.text.specs.Shape.{statement_tag}
 use Rattle.text.specs.Parse.{past_semicolon, NamesRow, ParametersRow, ExpressionRow, IfRow, ElseRow, FunctionRow, BlockRow, StatementsRow, StatementRow, ClauseRow}
-use Rattle.text.specs.Parts.{end_of, head_of, row_at, Sees, Put, PutNode, Bounds, Spares, WritesNode, Writes, Passes, joined_of, moved_on, closed_of}
+use Rattle.session.specs.Write.{heading}
+use Rattle.text.specs.Parts.{end_of, row_at, Sees, Put, PutNode, Bounds, Spares, WritesNode, Writes, Passes, joined_of, moved_on, closed_of}
 use Rattle.text.specs.declared.part.Part.{Part}
 use Rattle.text.specs.declared.scan.Token as piece
 use Rattle.text.proofs.Larger.{has_level}
@@ -97,22 +98,22 @@ function_writes {text} {at} {to} {left} {o} {o₁} {o₂} {o₃} {p} {q} {r} {u}
         put_one x (w.puts x vs (rw h f)).put))
 
 -- a block: its statements between braces
-pub block_writes : {text : Bytes} {at to l left : ℕ} {o o₁ o₂ : Bytes} {t t' : piece.Token} {p q s : Part} → left ≡ suc l → Sees text at t → Writes StatementsRow text t.end (to + 3) 0 l o o₁ p → Sees text p.at t' → q ≡ moved_on p t'.end → s ≡ closed_of tag_block q → o₂ ≡ sets o₁ to (head_of tag_block (q.to - to - 3)) → at ≤ t.end → p.at ≤ t'.end → WritesNode BlockRow text at to 3 left o o₂ s
+pub block_writes : {text : Bytes} {at to l left : ℕ} {o o₁ o₂ : Bytes} {t t' : piece.Token} {p q s : Part} → left ≡ suc l → Sees text at t → Writes StatementsRow text t.end (to + 3) 0 l o o₁ p → Sees text p.at t' → q ≡ moved_on p t'.end → s ≡ closed_of tag_block q → o₂ ≡ sets o₁ to (heading tag_block (q.to - to - 3)) → at ≤ t.end → p.at ≤ t'.end → WritesNode BlockRow text at to 3 left o o₂ s
 unfolding written levels
 block_writes {text} {at} {to} {l} {left} {o} {o₁} {o₂} {t} {t'} {p} {q} {s} z a w b i j m k n =
-    let m' : o₂ ≡ sets o₁ to (head_of tag_block (p.to - to - 3)) = m ∙ ap (λ q. sets o₁ to (head_of tag_block (q.to - to - 3))) i in
+    let m' : o₂ ≡ sets o₁ to (heading tag_block (p.to - to - 3)) = m ∙ ap (λ q. sets o₁ to (heading tag_block (q.to - to - 3))) i in
     subst (λ left. WritesNode BlockRow text at to 3 left o o₂ s) (sym z) (subst (λ s. WritesNode BlockRow text at to 3 (suc l) o o₂ s) (sym (j ∙ ap (closed_of tag_block) i))
     (record {
       bounds = bounds_from (bounds_field tag_block (bounds_on w.bounds n b.within) m') k (omega arith);
       puts = λ x rest f. go m' x rest f;
     }))
   where
-    go : o₂ ≡ sets o₁ to (head_of tag_block (p.to - to - 3)) → (x : Node) (rest : Row) → BlockRow (row_at text at) rest x → PutNode text rest x (suc l) to o o₂ (closed_of tag_block (moved_on p t'.end))
+    go : o₂ ≡ sets o₁ to (heading tag_block (p.to - to - 3)) → (x : Node) (rest : Row) → BlockRow (row_at text at) rest x → PutNode text rest x (suc l) to o o₂ (closed_of tag_block (moved_on p t'.end))
     go e _ _ (BlockRow.block_row {us = us} {xs} d) =
         record { put = put-field tag_block (put_on (λ h. b.rest ∙ ap behind h) (w.puts xs us (rw a.rest d))) e; tag = λ _. refl }
 
 -- parameters: their names between parentheses
-pub parameters_writes : {text : Bytes} {at to : ℕ} (left : ℕ) {o o₁ o₂ : Bytes} {t : piece.Token} {p s : Part} → Sees text at t → ((left : ℕ) → Writes NamesRow text t.end (to + 3) 0 left o o₁ p) → p.levels ≤ 1 → s ≡ closed_of tag_params p → o₂ ≡ sets o₁ to (head_of tag_params (p.to - to - 3)) → at ≤ t.end → WritesNode ParametersRow text at to 3 left o o₂ s
+pub parameters_writes : {text : Bytes} {at to : ℕ} (left : ℕ) {o o₁ o₂ : Bytes} {t : piece.Token} {p s : Part} → Sees text at t → ((left : ℕ) → Writes NamesRow text t.end (to + 3) 0 left o o₁ p) → p.levels ≤ 1 → s ≡ closed_of tag_params p → o₂ ≡ sets o₁ to (heading tag_params (p.to - to - 3)) → at ≤ t.end → WritesNode ParametersRow text at to 3 left o o₂ s
 unfolding written levels
 parameters_writes {text} {at} {to} left {o} {o₁} {o₂} {t} {p} {s} a w y j m k =
     subst (λ s. WritesNode ParametersRow text at to 3 left o o₂ s) (sym j) (by left)
@@ -130,7 +131,7 @@ parameters_writes {text} {at} {to} left {o} {o₁} {o₂} {t} {p} {s} a w y j m 
     by (suc l) = record { bounds = bounds_from (bounds_field tag_params (w l).bounds m) k (omega arith); puts = λ x rest f. go l x rest f }
 
 -- a statement: what it has inside, and a `;`
-pub one_writes : {text : Bytes} {at to l left : ℕ} {o o₁ o₂ : Bytes} {t : piece.Token} {p q s : Part} → left ≡ suc l → Sees text at t → at < end_of text → Writes ClauseRow text at (to + 3) 0 l o o₁ p → Spares text at (to + 3) p → q ≡ closed_of (statement_tag (number_of t.kind)) p → o₂ ≡ sets o₁ to (head_of (statement_tag (number_of t.kind)) (p.to - to - 3)) → Passes text q s → WritesNode StatementRow text at to 0 left o o₂ s
+pub one_writes : {text : Bytes} {at to l left : ℕ} {o o₁ o₂ : Bytes} {t : piece.Token} {p q s : Part} → left ≡ suc l → Sees text at t → at < end_of text → Writes ClauseRow text at (to + 3) 0 l o o₁ p → Spares text at (to + 3) p → q ≡ closed_of (statement_tag (number_of t.kind)) p → o₂ ≡ sets o₁ to (heading (statement_tag (number_of t.kind)) (p.to - to - 3)) → Passes text q s → WritesNode StatementRow text at to 0 left o o₂ s
 unfolding written levels
 one_writes {text} {at} {to} {l} {left} {o} {o₁} {o₂} {t} {p} {q} {s} z a k w v i m b =
     let f = bounds_field (statement_tag (number_of t.kind)) w.bounds m in

@@ -1,5 +1,5 @@
 -- What passes 2 and 3 promise: the bytes of what is read at an offset, put into an output where there is room, and its levels.
-use Rattle.std.specs.Prelude.{None, Some, ℕ, zero, suc, ◌+◌, ◌*◌, ◌-◌, ◌/◌, ◌%◌, ◌≤◌, ◌<◌, false, [], ◌∷◌, ◌≡◌, length, ltb, eqb}
+use Rattle.std.specs.Prelude.{None, Some, ℕ, zero, suc, ◌+◌, ◌*◌, ◌-◌, ◌≤◌, ◌<◌, false, [], ◌∷◌, ◌≡◌, length, ltb, eqb}
 use Rattle.std.proofs.lemmas.List.Edits.{sets}
 use Rattle.definition.specs.Basic.{Bytes, byte_at, pick}
 use Rattle.definition.specs.Field.{bytes, field}
@@ -19,10 +19,6 @@ use Rattle.text.specs.declared.scan.Token as piece
 -- bytes moved further back, where there is room for all
 abbrev pub moved_by : Bytes → ℕ → ℕ → ℕ → Bytes
 moved_by out from end by = pick (ltb (length out) (end + by)) out (sets out (from + by) (bytes (byte_at out) from (end - from)))
-
--- a head's three bytes
-abbrev pub head_of : ℕ → ℕ → Bytes
-head_of tag size = tag ∷ size / 256 % 256 ∷ size % 256 ∷ []
 
 -- where a text's tokens end at the latest
 unfoldable pub end_of : Bytes → ℕ

@@ -5,17 +5,19 @@ ghost use Rattle.definition.specs.Basic.{pick};
 ghost use Rattle.definition.specs.Field.{field};
 ghost use Rattle.definition.specs.Tag.{tag_name, tag_operator};
 ghost use Rattle.definition.specs.Node.{larger as largerOf};
+ghost use Rattle.session.specs.Write.{heading};
 ghost use Rattle.text.specs.Parse.{NamesRow, ParametersRow};
 ghost use Rattle.text.specs.Shape.{separating as separatingOf};
 ghost use Rattle.text.specs.Kind.{number_of};
 ghost use Rattle.text.specs.declared.kind.Kind.TheVariants as kinds;
-ghost use Rattle.text.specs.Parts.{end_of, head_of, Sees, Holds, content_of, PutToken, Ready, Writes, WritesNode, Skips, Passes, Named, joined_of, moved_on, closed_of};
+ghost use Rattle.text.specs.Parts.{end_of, moved_by, Sees, Holds, content_of, PutToken, Ready, Writes, WritesNode, Skips, Passes, Named, joined_of, moved_on, closed_of};
 
 use crate::kind::Kind;
-use crate::put::{make_room, put, put_bytes, put_head};
 use crate::scan::{Token, next_token, text_end, value};
 use crate::tokens::Tokens;
+use definition::output::store;
 use definition::tag;
+use session::write::{put_bytes, put_head};
 
 // The offset behind it in the text and in the output, its levels of fields, and its tag if it is one field.
 #[derive(Clone, Copy)]
@@ -113,13 +115,24 @@ impl Part {
     }
 }
 
+// Moves the bytes from an offset up to another further back.
+// Kept: offsets and no slice, since an output of no bytes measures, and has no such part.
+pub fn make_room(output: &mut [u8], from: usize, end: usize, by: usize)
+    requires { (from ≤ end) × (end < 1048576) × (by < 10000) }
+    ensures { output.new ≡ moved_by output.old from end by }
+{
+    if end + by <= output.len() {
+        output.copy_within(from..end, from + by);
+    }
+}
+
 // A field of what was put behind its head.
 pub fn close(output: &mut [u8], to: usize, tag: u8, inside: Part) -> Part
     requires { (to + 3 ≤ inside.to) × (inside.to < 1048576) × (inside.levels ≤ 1000) }
     ensures part { result ≡ closed_of tag inside }
-    ensures stored { output.new ≡ sets output.old to (head_of tag (inside.to - to - 3)) }
+    ensures stored { output.new ≡ sets output.old to (heading tag (inside.to - to - 3)) }
 {
-    put_head(output, to, tag, inside.to);
+    put_head(output, to, tag, inside.to - to - 3);
     Part {
         at: inside.at,
         to: inside.to,
@@ -164,8 +177,7 @@ pub fn item_start(token: Token, at: usize) -> usize
 }
 
 // The bytes that a token denotes, or a flag.
-// Kept: text and token apart, here and below, since a token is three numbers that the scan gives by value; one that held the text would
-// lend it twice.
+// Kept: text and token apart, here and below: with its text inside, a token's promises would each add that this text is the one read.
 #[tactic(auto, using(crate::proofs::RowAt::end_within))]
 fn put_content(text: &[u8], output: &mut [u8], token: Token, to: usize) -> usize
     requires { Holds text.now token × (to < 1048576) }
@@ -207,7 +219,7 @@ pub fn put_operator(output: &mut [u8], at: usize, to: usize, b: u8) -> Part
     ensures part { result ≡ record { at = at; to = to + 4; levels = 1; tag = Some tag_operator } }
     ensures stored { output.new ≡ sets output.old to (field tag_operator (b ∷ [])) }
 {
-    put(output, to + 3, b);
+    store(output, to + 3, b);
     close(output, to, tag::OPERATOR, Part::empty(at, to + 4))
 }
 
@@ -254,7 +266,7 @@ pub fn named(text: &[u8], output: &mut [u8], name: Token, to: usize, value: Part
     let by = name.end - name.start;
     make_room(output, to + 6, value.to, by);
     put_field(text, output, tag::NAME, name, to + 3);
-    put_head(output, to, tag::FUNCTION, value.to + by);
+    put_head(output, to, tag::FUNCTION, value.to + by - to - 3);
     Part {
         to: value.to + by,
         ..value

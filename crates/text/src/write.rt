@@ -6,17 +6,15 @@ ghost use Rattle.text.specs.Parts.{end_of, Sees, Ready, Writes, WritesNode, Spar
 
 use crate::kind::Kind;
 use crate::part::{
-    Part, close, item_start, named, put_empty_name, put_field, put_operator, put_parameters,
-    skip_groups, token_at,
+    Part, close, item_start, make_room, named, put_empty_name, put_field, put_operator,
+    put_parameters, skip_groups, token_at,
 };
-use crate::put::make_room;
 use crate::scan::Token;
 use definition::tag;
 
-// Kept: text and output stay two parameters, one lent to be read and one to be written: a struct of both would say in each contract
-// below that the text and the output's place are as they were. `Ready` stays a clause: how much room it asks for differs, and as a ghost
-// field the least would stand beside the clauses that ask for more.
 // From where a part is put: its offsets in the text and in the output, and how many levels are left.
+// Kept: text and output beside it, as `Parts` speaks of the bytes alone: a struct of the two would add that both lends stay the same.
+// Kept: `Ready` a clause: each function asks for its own room, 139,990 to 140,003, and the ghost field of a struct is one for all.
 #[derive(Clone, Copy)]
 struct Place {
     at: usize,

@@ -18,6 +18,7 @@ use compiler::{clear_table, compile, long_enough};
 use definition::limit::{CODE_SIZE, SESSION_SIZE, TABLE_SIZE};
 use definition::{Reason, Refusal, refused};
 use field::after_at;
+use field::fields::Fields;
 use pass::name_tree;
 
 // What an accepted call with records gives: the image's length, and how many records are in the log.
@@ -48,7 +49,7 @@ fn look_ahead(session: &[u8], tree: &[u8], code: &mut [u8], table: &mut [u32]) -
     };
     let from = layout.words_end + 3;
     let end = layout.names_end;
-    let count = name_tree(session, tree, table, code, from, end);
+    let count = name_tree(Fields::new(session, from, end), tree, table, code);
     Outlook {
         count,
         names: end - from,
@@ -64,7 +65,7 @@ fn log_names(session: &[u8], tree: &[u8], code: &mut [u8], table: &mut [u32], na
     ensures { PassesTree tree.now session.now (after session.now 0 + 3) (after session.now 0 + 3 + names) code.new result }
 {
     let from = after_at(session, 0) + 3;
-    name_tree(session, tree, table, code, from, from + names)
+    name_tree(Fields::new(session, from, from + names), tree, table, code)
 }
 
 // The refusal of a call with few records, from the answer without an output: 18 comes in the place of 15.

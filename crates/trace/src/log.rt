@@ -6,27 +6,27 @@ ghost use Rattle.records.specs.Records.{record_of};
 ghost use Rattle.trace.specs.Log.{record_at, log_of};
 
 use records::{Kind, Record};
-use symbol_table::Symbol;
+use symbol_table::{Found, Symbol};
 
-// Writes record n behind those before it: an Identifier's offset, its symbol's code and the functions crossed.
+// Writes record n behind those before it: an Identifier's offset, and what its lookup found.
 // Kept: packed by hand, four bytes for each record, since the log is a part of the code area, which is lent.
-pub fn put_entry(log: &mut [u8], n: usize, at: usize, code: usize, crossed: usize)
+pub fn put_entry(log: &mut [u8], n: usize, at: usize, found: Found)
     requires n_in_bounds { 4 * n + 4 ≤ length log.old }
     requires at_lt_tree_limit { at < tree_limit }
-    requires code_bound { code < 2048 }
-    requires crossed_bound { crossed < 32 }
-    ensures { log_of log.new (n + 1) ≡ record_of at crossed (symbol_of code) ∷ log_of log.old n }
+    requires code_bound { found.code < 2048 }
+    requires crossed_bound { found.crossed < 32 }
+    ensures { log_of log.new (n + 1) ≡ record_of at found.crossed (symbol_of found.code) ∷ log_of log.old n }
 {
     let i = 4 * n;
-    let entry = (at * 65536 + crossed * 2048 + code) as u32;
+    let entry = (at * 65536 + found.crossed * 2048 + found.code as usize) as u32;
     log[i..i + 4].copy_from_slice(&entry.to_be_bytes());
 }
 
-// The record of a symbol's code.
-fn record_of(offset: usize, code: u32, crossed: usize) -> Record
-    ensures { result ≡ record_of offset crossed (symbol_of code) }
+// The record of what the lookup of an Identifier found.
+fn record_of(offset: usize, found: Found) -> Record
+    ensures { result ≡ record_of offset found.crossed (symbol_of found.code) }
 {
-    let (kind, index) = match Symbol::from(code) {
+    let (kind, index) = match Symbol::from(found.code) {
         Symbol::Function => (Kind::Function, 0),
         Symbol::Local(k) => (Kind::Local, k),
         Symbol::Free(k) => (Kind::Free, k),
@@ -37,7 +37,7 @@ fn record_of(offset: usize, code: u32, crossed: usize) -> Record
         offset,
         kind,
         index: index as usize,
-        crossed,
+        crossed: found.crossed,
     }
 }
 
@@ -48,7 +48,9 @@ pub fn record_at(log: &[u8], k: usize) -> Record
 {
     let i = 4 * k;
     let entry = u32::from_be_bytes([log[i], log[i + 1], log[i + 2], log[i + 3]]);
-    let code = entry % 2048;
-    let crossed = entry / 2048 % 32;
-    record_of((entry / 65536) as usize, code, crossed as usize)
+    let found = Found {
+        code: entry % 2048,
+        crossed: (entry / 2048 % 32) as usize,
+    };
+    record_of((entry / 65536) as usize, found)
 }

@@ -57,7 +57,7 @@ impl<'a> Namer<'a> {
         ensures { Names tree.now names.now level Anything (λ _. look_up at (content tree.now at)) 4 self.old self.new }
     {
         if let Ok(found) = resolve_name(Key::new(tree, at), names, self.table, level) {
-            put_entry(self.log, self.count, at, found.code as usize, found.crossed);
+            put_entry(self.log, self.count, at, found);
             self.count += 1;
         }
     }
@@ -83,7 +83,6 @@ impl<'a> Namer<'a> {
     }
 
     // Logs the records of the fields from an offset up to an end.
-    // Kept: both offsets, as `Fields` takes them.
     #[cycle(pass)]
     fn name_row(&mut self, tree: &[u8], names: &[u8], level: usize, from: usize, end: usize)
         requires some { Some (ReadsNodes tree.now from end) }
@@ -133,10 +132,7 @@ impl<'a> Namer<'a> {
         let params = after_at(tree, at + 3);
         let body = after_at(tree, params);
         let k = count_fields(tree, params + 3, body);
-        if NESTING_LIMIT <= level {
-            return;
-        }
-        if ARGUMENTS_LIMIT < k {
+        if NESTING_LIMIT <= level || ARGUMENTS_LIMIT < k {
             return;
         }
         enter(Key::new(tree, at + 3), self.table, level, params + 3, k);
@@ -155,30 +151,22 @@ impl<'a> Namer<'a> {
     }
 }
 
-// Logs the records of a whole tree that was checked, with the session's names from an offset up to an end. How many there are.
-// Kept: the slices one by one, with both offsets, as `start_from` takes them.
-pub fn name_tree(
-    session: &[u8],
-    tree: &[u8],
-    table: &mut [u32],
-    log: &mut [u8],
-    from: usize,
-    end: usize,
-) -> usize
-    requires session_len_bound { length session.now ≤ session_size }
-    requires has_items { HasItems session.now from end }
-    requires has_words { HasWords (take end session.now) }
+// Logs the records of a whole tree that was checked, with a session's names. How many there are.
+pub fn name_tree(names: Fields<'_>, tree: &[u8], table: &mut [u32], log: &mut [u8]) -> usize
+    requires session_len_bound { length names.bytes.now ≤ session_size }
+    requires has_items { HasItems names.bytes.now names.at names.end }
+    requires has_words { HasWords (take names.end names.bytes.now) }
     requires tree_value { verdict (read_tree tree.now) ≡ Good }
     requires table_size_in_bounds { table_size ≤ length table.old }
     requires code_size_in_bounds { code_size ≤ length log.old }
-    ensures { PassesTree tree.now session.now from end log.new result }
+    ensures { PassesTree tree.now names.entry.bytes.now names.entry.at names.entry.end log.new result }
 {
-    start_from(session, table, from, end);
+    start_from(names, table);
     let mut namer = Namer {
         table,
         log,
         count: 0,
     };
-    namer.name_statements(tree, &session[..end]);
+    namer.name_statements(tree, &names.bytes[..names.end]);
     namer.count
 }

@@ -14,7 +14,8 @@ use Rattle.definition.proofs.Basic.{both_true}
 use Rattle.tree.specs.Grammar.{Kind, Statement, Block, Expression, Name, Params, Operator, Nothing, good_head, good_own}
 use Rattle.tree.specs.Kinds.{marked, good_tag, good_content}
 use Rattle.tree.specs.declared.grammar.Wanted.{Wanted}
-use Rattle.tree.specs.Check.{good_field, good_wanted}
+use Rattle.tree.specs.Check.{good_field}
+use Rattle.std.specs.Prelude.{Option, Some, None}
 
 -- a test after another need only be right where that one holds
 under : {x y : Bool} (b : Bool) → (b ≡ true → x ≡ y) → both b x ≡ both b y
@@ -54,34 +55,45 @@ one_tag u t = by (eqb t u) refl
     by true e = let q = eqb-true t u e in rw (le-leb u t (omega arith), le-leb t u (omega arith))
     by false e = up (leb u t) refl (eqb-false t u e)
 
--- whether the content may end before a field of a kind
-pub kind_ends : (e : Bool) (kind : Kind) → (marked e kind).ends ≡ e
-kind_ends e Statement = refl
-kind_ends e Block = refl
-kind_ends e Expression = refl
-kind_ends e (Name least) = refl
-kind_ends e Params = refl
-kind_ends e Operator = refl
-kind_ends e Nothing = refl
+-- whether the content may end before what is wanted
+abbrev pub ends_of : Option Wanted → Bool
+ends_of (Some w) = w.ends
+ends_of None = true
 
--- the rest of what is wanted is the same with either
-pub kind_marked : (e : Bool) (kind : Kind) → marked e kind ≡ record { low = (marked false kind).low; high = (marked false kind).high; least = (marked false kind).least; ends = e }
-kind_marked e Statement = refl
-kind_marked e Block = refl
-kind_marked e Expression = refl
-kind_marked e (Name least) = refl
-kind_marked e Params = refl
-kind_marked e Operator = refl
-kind_marked e Nothing = refl
+-- of a field of a kind, where one may stand
+pub kind_ends : (e : Bool) (kind : Kind) → (kind ≡ Nothing → e ≡ true) → ends_of (marked e kind) ≡ e
+kind_ends e Statement n = refl
+kind_ends e Block n = refl
+kind_ends e Expression n = refl
+kind_ends e (Name least) n = refl
+kind_ends e Params n = refl
+kind_ends e Operator n = refl
+kind_ends e Nothing n = sym (n refl)
+
+-- the tests of a tag and of the content behind it
+abbrev good_by : Option Wanted → ℕ → ℕ → ℕ → Bool
+good_by (Some w) t len first = both (good_tag w t) (good_content w t len first)
+good_by None t len first = false
+
+-- and of a whole field
+abbrev pub good_of : (ℕ → ℕ) → Option Wanted → ℕ → ℕ → Bool
+good_of byte w at end = both (fits at end (head byte at)) (good_by w (byte at) (head byte at).len (byte (at + 3)))
+
+pub good_none : (byte : ℕ → ℕ) {w : Option Wanted} (at end : ℕ) → w ≡ None → good_of byte w at end ≡ false
+good_none byte at end e = ap (λ w. good_of byte w at end) e ∙ both_no (fits at end (head byte at))
 
 -- a field without tested bytes
 plain-content : (w : Wanted) (t len first : ℕ) → (t ≡ tag_identifier → ⊥) → (t ≡ tag_integer → ⊥) → (t ≡ tag_boolean → ⊥) → (t ≡ tag_name → ⊥) → (t ≡ tag_operator → ⊥) → good_content w t len first ≡ true
 plain-content w t len first a b d f g = rw (ne_eqb t tag_identifier a, ne_eqb t tag_integer b, ne_eqb t tag_boolean d, ne_eqb t tag_name f, ne_eqb t tag_operator g)
 
 module _ (e : Bool) (t len first : ℕ) where
-  -- what is wanted of a kind
+  -- what is wanted of a kind that may stand
   abbrev m : Kind → Wanted
-  m kind = marked e kind
+  m kind = the (marked e kind)
+    where
+      the : Option Wanted → Wanted
+      the (Some w) = w
+      the None = record { low = 0; high = 0; least = 0; ends = e }
 
   -- the tests by the kind
   abbrev tests : Kind → Bool
@@ -116,16 +128,8 @@ module _ (e : Bool) (t len first : ℕ) where
           let no = eqb-false t tag_boolean d₁ in
           rw (a₁, b₁, d₁, ne_eqb t tag_name (λ z. omega arith), ne_eqb t tag_operator (λ z. omega arith))
 
-  -- nothing has a tag from 63 to 0
-  none : both (leb 63 t) (leb t 0) ≡ false
-  none = by (leb t 0) refl
-    where
-      by : (b : Bool) → leb t 0 ≡ b → both (leb 63 t) b ≡ false
-      by true q = let l = leb-true t 0 q in rw (lt-leb 63 t (omega arith))
-      by false q = both_no (leb 63 t)
-
   -- each kind
-  each : (kind : Kind) → both (good_tag (m kind) t) (good_content (m kind) t len first) ≡ tests kind
+  each : (kind : Kind) → good_by (marked e kind) t len first ≡ tests kind
   each Statement = statement
   each Block = one (m Block) tag_block true refl (λ q. rw q) ∙ ap (λ b. both b (good_own t first)) (sym (both_id (eqb t tag_block)))
   each Expression = expression
@@ -134,24 +138,14 @@ module _ (e : Bool) (t len first : ℕ) where
       (λ q. rw q (both_id _))
   each Params = one (m Params) tag_params true refl (λ q. rw q) ∙ ap (λ b. both b (good_own t first)) (sym (both_id (eqb t tag_params)))
   each Operator = one (m Operator) tag_operator (eqb len 1) refl (λ q. rw q)
-  each Nothing = rw none
+  each Nothing = refl
 
 -- a whole field of a kind
-pub numbered : (byte : ℕ → ℕ) (e : Bool) (kind : Kind) (at end : ℕ) → good_wanted byte (marked e kind) at end ≡ good_field byte kind at end
+pub numbered : (byte : ℕ → ℕ) (e : Bool) (kind : Kind) (at end : ℕ) → good_of byte (marked e kind) at end ≡ good_field byte kind at end
 numbered byte e kind at end = ap (both (fits at end (head byte at))) (each e (byte at) (head byte at).len (byte (at + 3)) kind)
 
 -- it is not nothing
-pub good_some : (byte : ℕ → ℕ) (kind : Kind) (at end : ℕ) → good_field byte kind at end ≡ true → (marked false kind).low ≡ 63 → ⊥
+pub good_some : (byte : ℕ → ℕ) (kind : Kind) (at end : ℕ) → good_field byte kind at end ≡ true → kind ≡ Nothing → ⊥
 good_some byte kind at end g z =
-    let tests = (both_true (fits at end (head byte at)) _ (rw (sym (numbered byte false kind at end)) at g)).1 in
-    let tag = within (marked false kind).low (byte at) (marked false kind).high (both_true (both (leb (marked false kind).low (byte at)) (leb (byte at) (marked false kind).high)) _ tests).0 in
-    by kind z (omega (arith, tag.0, tag.1))
-  where
-    by : (kind : Kind) → (marked false kind).low ≡ 63 → (marked false kind).low ≤ (marked false kind).high → ⊥
-    by Statement z l = omega arith
-    by Block z l = omega arith
-    by Expression z l = omega arith
-    by (Name least) z l = omega arith
-    by Params z l = omega arith
-    by Operator z l = omega arith
-    by Nothing z l = omega arith
+    let n : false ≡ true = sym (both_no (fits at end (head byte at))) ∙ rw z at g in
+    cc

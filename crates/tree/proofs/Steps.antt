@@ -1,7 +1,7 @@
 -- The steps of the code's check of children.
 use Prim.Native.Nat.{ℕ, zero, suc, ◌+◌, ◌-◌, ◌/◌, ◌%◌, ◌≤◌}
 use native.Mathlib.Omega.{arith}
-use mathlib.Core.Bool.{Bool, true, false}
+use mathlib.Core.Bool.{Bool, true, false, not}
 use mathlib.Core.Path.{◌≡◌, refl, sym, ap, ◌∙◌}
 use lib.Dec.{leb, eqb}
 use borrow.Author.Tests.{leb-true, le-leb, eqb-true, ne_eqb}
@@ -15,11 +15,20 @@ use Rattle.tree.specs.Kinds.{may_end}
 use Rattle.tree.specs.declared.grammar.Wanted.{Wanted}
 use mathlib.Core.List.{List}
 use lib.ListN.{get_or}
-use Rattle.tree.specs.Check.{Checked, Good, and_then, bad_tree, too_deep, outcome_of, next, good_field, good_wanted, ended, check_children, check_inside, check_field, check_all}
-use Rattle.std.specs.Prelude.{Err}
+use Rattle.tree.specs.Check.{Checked, Good, and_then, bad_tree, too_deep, outcome_of, next, good_field, ended, check_children, check_inside, check_field, check_all}
+use Rattle.std.specs.Prelude.{Option, Err}
 use Rattle.tree.proofs.Checking.{children_ended, children_more}
-use Rattle.tree.proofs.Turns.{Turned, turned_again, turned_first}
-use Rattle.tree.proofs.Numbered.{kind_ends, numbered, good_some}
+use Rattle.tree.proofs.Turns.{Turned, turned_again, turned_first, enough_there}
+use Rattle.tree.proofs.Numbered.{ends_of, kind_ends, good_of, numbered, good_some}
+
+-- what the opposite of a test says
+pub denied : {b : Bool} → not b ≡ true → b ≡ false
+denied {b = true} e = cc
+denied {b = false} e = refl
+
+pub allowed : {b : Bool} → not b ≡ false → b ≡ true
+allowed {b = true} e = refl
+allowed {b = false} e = cc
 
 -- a number that is not 0 is a refusal's
 refusal-of : (n : ℕ) → (n ≡ 0 → ⊥) → (r : Refusal) × (outcome_of n ≡ Err r)
@@ -77,7 +86,7 @@ abbrev pub from : (ℕ → ℕ) → ℕ → ℕ → ℕ → ℕ → ℕ → Chec
 from byte levels parent end k at = check_children byte (λ kind at₁ end₁. check_field byte levels kind at₁ end₁) (byte parent) parent (end - (parent + 3) - k) k at end
 
 -- after some children the loop stands at `at`, the kinds are those of the next, and what is left decides
-pub record Left (byte : ℕ → ℕ) (levels parent end at k : ℕ) (kinds : List Wanted) : Type 0 where
+pub record Left (byte : ℕ → ℕ) (levels parent end at k : ℕ) (kinds : List (Option Wanted)) : Type 0 where
   pub start : parent + 3 + k ≤ at
   pub finish : at ≤ end
   pub turned : Turned (byte parent) k kinds
@@ -89,7 +98,7 @@ pub left_none : (byte : ℕ → ℕ) (levels parent end : ℕ) → byte parent �
 left_none byte levels parent end t e = sym (rw (e, t) (children_ended byte (λ kind at₁ end₁. check_field byte levels kind at₁ end₁) tag_call parent end (end - end) 0))
 
 module _ {byte : ℕ → ℕ} {levels parent end : ℕ} where
-  module _ {at k : ℕ} {kinds : List Wanted} (d : Wanted) (l : Left byte levels parent end at k kinds) where
+  module _ {at k : ℕ} {kinds : List (Option Wanted)} (d : Option Wanted) (l : Left byte levels parent end at k kinds) where
     -- what the next child must be
     abbrev kind : Kind
     kind = child_kind (byte parent) k
@@ -99,27 +108,31 @@ module _ {byte : ℕ → ℕ} {levels parent end : ℕ} where
     left_ended e = sym (l.decides ∙ rw e (children_ended byte (λ kind₁ at₁ end₁. check_field byte levels kind₁ at₁ end₁) (byte parent) parent end (end - (parent + 3) - k) k))
 
     -- whether there are enough
-    left_enough_of : at ≡ end → (get_or kinds (k % 4) d).ends ≡ enough_of (byte parent) k
-    left_enough_of e = rw (turned_first d l.turned, kind_ends (may_end (byte parent) k) kind) (by (eqb (byte parent) tag_call) refl)
+    left_enough_of : at ≡ end → ends_of (get_or kinds (k % 4) d) ≡ enough_of (byte parent) k
+    left_enough_of e = rw (turned_first d l.turned, kind_ends (may_end (byte parent) k) kind (λ n. may (eqb (byte parent) tag_call) (enough_there (byte parent) k l.turned.small n))) (by (eqb (byte parent) tag_call) refl)
       where
+        may : (b : Bool) → enough_of (byte parent) k ≡ true → either b (enough_of (byte parent) k) ≡ true
+        may true e = refl
+        may false e = e
+
         by : (b : Bool) → eqb (byte parent) tag_call ≡ b → either b (enough_of (byte parent) k) ≡ enough_of (byte parent) k
         by true q = let t = eqb-true (byte parent) tag_call q in rw (t, le-leb 1 k (l.called t e))
         by false q = refl
 
     -- there, a child is missing
-    pub left_missing : at ≡ end → (get_or kinds (k % 4) d).ends ≡ false → bad_tree parent ≡ check_all byte levels parent end
+    pub left_missing : at ≡ end → ends_of (get_or kinds (k % 4) d) ≡ false → bad_tree parent ≡ check_all byte levels parent end
     left_missing e b = sym (ap (λ b. pick b Good (bad_tree parent)) (sym (left_enough_of e) ∙ b)) ∙ left_ended e
 
     -- or none is
-    pub left_enough : at ≡ end → (get_or kinds (k % 4) d).ends ≡ true → Good ≡ check_all byte levels parent end
+    pub left_enough : at ≡ end → ends_of (get_or kinds (k % 4) d) ≡ true → Good ≡ check_all byte levels parent end
     left_enough e b = sym (ap (λ b. pick b Good (bad_tree parent)) (sym (left_enough_of e) ∙ b)) ∙ left_ended e
 
     -- the test of a field is that of the kind
-    left_good : good_wanted byte (get_or kinds (k % 4) d) at end ≡ good_field byte kind at end
-    left_good = ap (λ n. good_wanted byte n at end) (turned_first d l.turned) ∙ numbered byte (may_end (byte parent) k) kind at end
+    left_good : good_of byte (get_or kinds (k % 4) d) at end ≡ good_field byte kind at end
+    left_good = ap (λ n. good_of byte n at end) (turned_first d l.turned) ∙ numbered byte (may_end (byte parent) k) kind at end
 
     -- a good field is whole
-    pub left_fits : good_wanted byte (get_or kinds (k % 4) d) at end ≡ true → next byte at ≤ end
+    pub left_fits : good_of byte (get_or kinds (k % 4) d) at end ≡ true → next byte at ≤ end
     left_fits g = good_fits byte kind at end (sym left_good ∙ g)
 
     module _ (n : at ≡ end → ⊥) where
@@ -134,14 +147,14 @@ module _ {byte : ℕ → ℕ} {levels parent end : ℕ} where
       child-refused e = sym (child_then ∙ ap (λ d. and_then d (from byte levels parent end (k + 1) (next byte at))) (sym e))
 
       -- its tag, length or own bytes are wrong
-      pub left_bad : good_wanted byte (get_or kinds (k % 4) d) at end ≡ false → bad_tree at ≡ check_all byte levels parent end
+      pub left_bad : good_of byte (get_or kinds (k % 4) d) at end ≡ false → bad_tree at ≡ check_all byte levels parent end
       left_bad g = child-refused (field_bad byte levels kind at end (sym left_good ∙ g))
 
       -- it is too deep
-      pub left_deep : good_wanted byte (get_or kinds (k % 4) d) at end ≡ true → levels ≡ 0 → too_deep at ≡ check_all byte levels parent end
+      pub left_deep : good_of byte (get_or kinds (k % 4) d) at end ≡ true → levels ≡ 0 → too_deep at ≡ check_all byte levels parent end
       left_deep g z = child-refused (field_deep byte levels kind at end (sym left_good ∙ g) z)
 
-      module _ (g : good_wanted byte (get_or kinds (k % 4) d) at end ≡ true) (nz : levels ≡ 0 → ⊥) where
+      module _ (g : good_of byte (get_or kinds (k % 4) d) at end ≡ true) (nz : levels ≡ 0 → ⊥) where
         -- something is wrong inside
         pub left_found : {found : ℕ} → is_leaf (byte at) ≡ false → outcome_of found ≡ check_all byte (levels - 1) at (next byte at) → (found ≡ 0 → ⊥) → outcome_of found ≡ check_all byte levels parent end
         left_found {found} leaf e some = let r = refusal-of found some in r.1 ∙ child-refused (sym r.1 ∙ e ∙ field_children byte levels kind at end (sym left_good ∙ g) nz leaf)

@@ -1,5 +1,5 @@
 -- The grammar as the code goes by it: what is wanted of a field and of a tag's first four children, and the tests of a field against it.
-use Rattle.std.specs.Prelude.{ℕ, Bool, true, leb, eqb, List, [], ◌∷◌}
+use Rattle.std.specs.Prelude.{ℕ, Bool, true, leb, eqb, List, [], ◌∷◌, Option, Some, None}
 use Rattle.tree.specs.declared.grammar.Wanted.{Wanted}
 use Rattle.definition.specs.Basic.{pick, both}
 use Rattle.definition.specs.Limit.{name_limit}
@@ -10,22 +10,22 @@ use Rattle.tree.specs.Grammar.{Kind, Statement, Block, Expression, Name, Params,
 abbrev pub may_end : ℕ → ℕ → Bool
 may_end t k = either (eqb t tag_call) (enough_of t k)
 
--- a field of a kind, before which the content may end, or may not; no tag lies from 63 to 0
-abbrev pub marked : Bool → Kind → Wanted
-marked ends Statement = record { low = tag_expr_stmt; high = tag_return; least = 0; ends = ends }
-marked ends Block = record { low = tag_block; high = tag_block; least = 0; ends = ends }
-marked ends Expression = record { low = tag_identifier; high = tag_macro; least = 0; ends = ends }
-marked ends (Name least) = record { low = tag_name; high = tag_name; least = least; ends = ends }
-marked ends Params = record { low = tag_params; high = tag_params; least = 0; ends = ends }
-marked ends Operator = record { low = tag_operator; high = tag_operator; least = 0; ends = ends }
-marked ends Nothing = record { low = 63; high = 0; least = 0; ends = ends }
+-- a field of a kind, before which the content may end, or may not; none where nothing may stand
+abbrev pub marked : Bool → Kind → Option Wanted
+marked ends Statement = Some (record { low = tag_expr_stmt; high = tag_return; least = 0; ends = ends })
+marked ends Block = Some (record { low = tag_block; high = tag_block; least = 0; ends = ends })
+marked ends Expression = Some (record { low = tag_identifier; high = tag_macro; least = 0; ends = ends })
+marked ends (Name least) = Some (record { low = tag_name; high = tag_name; least = least; ends = ends })
+marked ends Params = Some (record { low = tag_params; high = tag_params; least = 0; ends = ends })
+marked ends Operator = Some (record { low = tag_operator; high = tag_operator; least = 0; ends = ends })
+marked ends Nothing = None
 
 -- what child k of a tag must be
-unfoldable pub wanted : ℕ → ℕ → Wanted
+unfoldable pub wanted : ℕ → ℕ → Option Wanted
 wanted t k = marked (may_end t k) (child_kind t k)
 
 -- what the first four children of a tag must be
-unfoldable pub kinds_of : ℕ → List Wanted
+unfoldable pub kinds_of : ℕ → List (Option Wanted)
 kinds_of t = wanted t 0 ∷ wanted t 1 ∷ wanted t 2 ∷ wanted t 3 ∷ []
 
 -- a tag that is wanted

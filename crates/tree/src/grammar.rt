@@ -16,110 +16,107 @@ pub struct Wanted {
     pub ends: bool,
 }
 
-const STATEMENT_OR_END: Wanted = Wanted {
+const STATEMENT_OR_END: Option<Wanted> = Some(Wanted {
     low: tag::EXPR_STMT,
     high: tag::RETURN,
     least: 0,
     ends: true,
-};
+});
 
-const BLOCK: Wanted = Wanted {
+const BLOCK: Option<Wanted> = Some(Wanted {
     low: tag::BLOCK,
     high: tag::BLOCK,
     least: 0,
     ends: false,
-};
+});
 
-const BLOCK_OR_END: Wanted = Wanted {
+const BLOCK_OR_END: Option<Wanted> = Some(Wanted {
     low: tag::BLOCK,
     high: tag::BLOCK,
     least: 0,
     ends: true,
-};
+});
 
-const EXPRESSION: Wanted = Wanted {
+const EXPRESSION: Option<Wanted> = Some(Wanted {
     low: tag::IDENTIFIER,
     high: tag::MACRO,
     least: 0,
     ends: false,
-};
+});
 
-const EXPRESSION_OR_END: Wanted = Wanted {
+const EXPRESSION_OR_END: Option<Wanted> = Some(Wanted {
     low: tag::IDENTIFIER,
     high: tag::MACRO,
     least: 0,
     ends: true,
-};
+});
 
-const NAME: Wanted = Wanted {
+const NAME: Option<Wanted> = Some(Wanted {
     low: tag::NAME,
     high: tag::NAME,
     least: 1,
     ends: false,
-};
+});
 
-const NAME_OR_EMPTY: Wanted = Wanted {
+const NAME_OR_EMPTY: Option<Wanted> = Some(Wanted {
     low: tag::NAME,
     high: tag::NAME,
     least: 0,
     ends: false,
-};
+});
 
-const NAME_OR_END: Wanted = Wanted {
+const NAME_OR_END: Option<Wanted> = Some(Wanted {
     low: tag::NAME,
     high: tag::NAME,
     least: 1,
     ends: true,
-};
+});
 
-const PARAMS: Wanted = Wanted {
+const PARAMS: Option<Wanted> = Some(Wanted {
     low: tag::PARAMS,
     high: tag::PARAMS,
     least: 0,
     ends: false,
-};
+});
 
-const OPERATOR: Wanted = Wanted {
+const OPERATOR: Option<Wanted> = Some(Wanted {
     low: tag::OPERATOR,
     high: tag::OPERATOR,
     least: 0,
     ends: false,
-};
+});
 
-// No tag lies between 63 and 0.
-const NOTHING: Wanted = Wanted {
-    low: 63,
-    high: 0,
-    least: 0,
-    ends: true,
-};
+// What the children of each tag must be, or that there are none: the first four, and then the same again.
+static OF_BLOCK: [Option<Wanted>; 4] = [STATEMENT_OR_END; 4];
 
-// What the children of each tag must be: the first four, and then the same again.
-static OF_BLOCK: [Wanted; 4] = [STATEMENT_OR_END; 4];
+static OF_VALUE: [Option<Wanted>; 4] = [EXPRESSION, None, None, None];
 
-static OF_VALUE: [Wanted; 4] = [EXPRESSION, NOTHING, NOTHING, NOTHING];
+static OF_LET: [Option<Wanted>; 4] = [NAME, EXPRESSION, None, None];
 
-static OF_LET: [Wanted; 4] = [NAME, EXPRESSION, NOTHING, NOTHING];
+static OF_PREFIX: [Option<Wanted>; 4] = [OPERATOR, EXPRESSION, None, None];
 
-static OF_PREFIX: [Wanted; 4] = [OPERATOR, EXPRESSION, NOTHING, NOTHING];
+static OF_INFIX: [Option<Wanted>; 4] = [EXPRESSION, OPERATOR, EXPRESSION, None];
 
-static OF_INFIX: [Wanted; 4] = [EXPRESSION, OPERATOR, EXPRESSION, NOTHING];
+static OF_IF: [Option<Wanted>; 4] = [EXPRESSION, BLOCK, BLOCK_OR_END, None];
 
-static OF_IF: [Wanted; 4] = [EXPRESSION, BLOCK, BLOCK_OR_END, NOTHING];
+static OF_FUNCTION: [Option<Wanted>; 4] = [NAME_OR_EMPTY, PARAMS, BLOCK, None];
 
-static OF_FUNCTION: [Wanted; 4] = [NAME_OR_EMPTY, PARAMS, BLOCK, NOTHING];
+static OF_LIST: [Option<Wanted>; 4] = [EXPRESSION_OR_END; 4];
 
-static OF_LIST: [Wanted; 4] = [EXPRESSION_OR_END; 4];
+static OF_INDEX: [Option<Wanted>; 4] = [EXPRESSION, EXPRESSION, None, None];
 
-static OF_INDEX: [Wanted; 4] = [EXPRESSION, EXPRESSION, NOTHING, NOTHING];
+static OF_HASH: [Option<Wanted>; 4] = [
+    EXPRESSION_OR_END,
+    EXPRESSION,
+    EXPRESSION_OR_END,
+    EXPRESSION,
+];
 
-static OF_HASH: [Wanted; 4] = [EXPRESSION_OR_END, EXPRESSION, EXPRESSION_OR_END, EXPRESSION];
+static OF_MACRO: [Option<Wanted>; 4] = [PARAMS, BLOCK, None, None];
 
-static OF_MACRO: [Wanted; 4] = [PARAMS, BLOCK, NOTHING, NOTHING];
+static OF_PARAMS: [Option<Wanted>; 4] = [NAME_OR_END; 4];
 
-static OF_PARAMS: [Wanted; 4] = [NAME_OR_END; 4];
-
-static OF_OTHERS: [Wanted; 4] = [NOTHING; 4];
+static OF_OTHERS: [Option<Wanted>; 4] = [None; 4];
 
 // Whether a number lies between two others, both of them in.
 fn within(low: usize, x: usize, high: usize) -> bool
@@ -173,7 +170,7 @@ pub fn is_leaf(t: u8) -> bool
 
 // What the first four children of a tag must be; that a call has one is tested on its own.
 #[tactic(auto, unfolding(crate::specs::Kinds::wanted, crate::specs::Kinds::kinds_of))]
-pub fn child_kinds(t: u8) -> &'static [Wanted; 4]
+pub fn child_kinds(t: u8) -> &'static [Option<Wanted>; 4]
     ensures { result.now ≡ kinds_of t }
 {
     match t {

@@ -4,7 +4,7 @@
 use definition::limit::{LEVEL_LIMIT, TREE_LIMIT};
 use definition::{Reason, Refusal, refused, tag};
 use field::fields::Fields;
-use field::{after_at, length_at};
+use field::{after_at, length_at, length_before};
 
 mod grammar;
 
@@ -18,8 +18,7 @@ ghost use Rattle.tree.specs.Check.{verdict, bad_tree, too_deep, outcome_of, good
 use grammar::{Wanted, child_kinds, good_content, good_tag, is_leaf};
 
 // A refusal 3 at a place as a number; 0 stands for none.
-// Kept: a number comes back in a register; with Result and `?` the check of a tree takes 20 % more instructions, and a call on 30 KB
-// of closures 5 %, where the bar is 3 %.
+// Kept: tried with Result and `?`: the check of a tree takes 20 % more instructions, and a call on 30 KB of closures 5 %; the bar is 3 %.
 fn bad(at: usize) -> usize
     requires { at ≤ tree_limit }
     ensures { outcome_of result ≡ bad_tree at }
@@ -49,18 +48,14 @@ fn outcome(n: usize) -> Result<(), Refusal>
 }
 
 // Whether a whole field that is wanted stands at `at`, before `end`: its tag, its length and its own bytes.
-// Kept: offsets and no slice: `check_all` reads at offsets in the tree, and a slice needs a lemma that moves what it says to them.
+// Kept: offsets and no slice: `length_before`, with which sections are read too, takes them, and `good_wanted` is said of them.
 fn good_field(tree: &[u8], wanted: Wanted, at: usize, end: usize) -> bool
     requires { (at ≤ end) × (end ≤ length tree.now) }
     ensures { result ≡ good_wanted (byte_at tree.now) wanted at end }
 {
-    if end < at + 3 {
+    let Some(len) = length_before(tree, at, end) else {
         return false;
-    }
-    let len = length_at(tree, at);
-    if end < at + 3 + len {
-        return false;
-    }
+    };
     let t = tree[at];
     if !good_tag(wanted, t) {
         return false;
@@ -70,7 +65,7 @@ fn good_field(tree: &[u8], wanted: Wanted, at: usize, end: usize) -> bool
 
 // The children of the field at `parent`, whose content goes up to `end`, in order; then whether one is missing. The answer is a refusal's number.
 // Kept: `field::fields::Fields` goes over fields that are known to be whole, and here each is tested before the next can be found.
-// `k` is counted beside `at`: `kinds.iter().cycle()` would answer an `Option` that is never `None`, and behind the loop it is read, too.
+// Kept: `k` is counted beside `at`: `kinds.iter().cycle()` would answer an `Option` that is never `None`, and `k` is read behind the loop.
 fn check_children(tree: &[u8], levels: usize, parent: usize, end: usize) -> usize
     requires { (parent + 3 ≤ end) × (end ≤ length tree.now) × (end ≤ tree_limit) }
     ensures { outcome_of result ≡ check_all (byte_at tree.now) levels parent end }
@@ -83,7 +78,11 @@ fn check_children(tree: &[u8], levels: usize, parent: usize, end: usize) -> usiz
     let kinds = child_kinds(t);
     let mut k = 0;
     while at != end {
-        if !good_field(tree, kinds[k % 4], at, end) {
+        let next = kinds[k % 4];
+        let Some(wanted) = next else {
+            return bad(at);
+        };
+        if !good_field(tree, wanted, at, end) {
             return bad(at);
         }
         if levels == 0 {
@@ -99,7 +98,11 @@ fn check_children(tree: &[u8], levels: usize, parent: usize, end: usize) -> usiz
         k += 1;
         at = next;
     }
-    if kinds[k % 4].ends { 0 } else { bad(parent) }
+    let next = kinds[k % 4];
+    match next {
+        Some(wanted) if !wanted.ends => bad(parent),
+        _ => 0,
+    }
 }
 
 // A whole tree: one Program, as long as the tree.

@@ -20,6 +20,7 @@ use Rattle.heights.specs.declared.chunk.Kind.TheVariants.{Main}
 use Rattle.heights.specs.Pass.{Passing, Passed, onwards, pass, Verdict, judged, Top, lastly}
 use Rattle.heights.specs.Marks.{marks_from, ChunkReady, PassEnds}
 use Rattle.heights.specs.Chunks.{pool_answer}
+use Rattle.heights.specs.declared.image.BadChunk.{BadChunk}
 use Rattle.heights.specs.declared.chunk.ChunkTop.{ChunkTop}
 use Rattle.heights.proofs.Tables.{one_element}
 use Rattle.heights.proofs.Accepts.{IsHeld, pass_holds, arrives}
@@ -31,13 +32,13 @@ use Rattle.trial.specs.Run.{runnable, Trial, trial}
 use Rattle.trial.specs.Output.{named_globals}
 use Rattle.trial.specs.Cells.{Keeping, work_size, stack_limit}
 use Rattle.trial.specs.Machine.{Safe, EndsAs}
-use Rattle.trial.specs.Call.{first_refused, refused_with, Outcome, trial_outcome, taken_outcome, judged_outcome, image_outcome, run_outcome, outcome_answer, outcome_into, work_after, scan_answer, ScanReady}
+use Rattle.trial.specs.Call.{first_refused, refused_with, Outcome, trial_outcome, taken_outcome, judged_outcome, image_outcome, run_outcome, outcome_answer, outcome_into, work_after, scan_answer}
 use Rattle.trial.specs.declared.Ran.{Ran}
-use Rattle.trial.proofs.CodeLoop.{one_image, main_parts}
+use Rattle.trial.proofs.CodeLoop.{Sound, one_image, main_parts}
 use Rattle.trial.proofs.Scanning.{all_taken, taken_runs, taken-low, named_small}
 
 -- main can be gone over
-pub marks_ready : (b : Bytes) {end pool : ℕ} → ScanReady b end pool → ChunkReady (replicate 65536 0) b 3 end
+pub marks_ready : (b : Bytes) {end pool : ℕ} → Sound b end pool → ChunkReady (replicate 65536 0) b 3 end
 marks_ready b {end} h =
     let p = main_parts b h.reads h.ends h.pools in
     record {
@@ -48,7 +49,7 @@ marks_ready b {end} h =
     }
 
 -- with the marks of the pass
-pub marked : (b : Bytes) (hs : List ℕ) {end : ℕ} (m : Image) (c : CodeAt b 3 end m.code) {k : Option ChunkTop} {l : List ℕ} → PassEnds hs 0 (end - 3) 3 m.code k l → (s : Passing) → pass hs 0 (size_of m.code) m.code ≡ Passed.passed s
+pub marked : (b : Bytes) (hs : List ℕ) {end : ℕ} (m : Image) (c : CodeAt b 3 end m.code) {k : Option ChunkTop} {l : List ℕ} → PassEnds hs (end - 3) 3 m.code k l → (s : Passing) → pass hs 0 (size_of m.code) m.code ≡ Passed.passed s
     → {r : Result ℕ Refusal} → r ≡ scan_answer (first_refused m.pool (marks_from l 3) m.code) (named_globals m.code) → r ≡ scan_answer (refused_with hs m) (named_globals m.code)
 marked b hs {end} m c {l = l} p s e q =
     let z : size_of m.code ≡ end - 3 = (let t = code-size (byte_at b) end 3 (end - 3) c.reads in omega (arith, c.order)) in
@@ -161,13 +162,13 @@ wrong_image b {x} {q} e f hs room = go (read_image b) (sym e ∙ f)
     go (decoded m n) i = let z : ◌≡◌ {A = ℕ} 0 1 = cc in absurd (omega arith)
     go (malformed p) i = let a : refusal bad_image p ≡ q = cc in ap Outcome.refused a
 
-module _ (b : Bytes) {m : Image} (i : ImageAt b m) (hs : List ℕ) (room : ℕ) {r : Result ℕ ℕ} (e : r ≡ pool_answer (judged hs m m.pool)) where
-  pub chunk_failing : {place : ℕ} → r ≡ Err place → image_outcome (read_image b) hs room ≡ Outcome.refused (refusal bad_heights place)
-  chunk_failing {place} f = ap (λ d. image_outcome d hs room) i.reads ∙ go (judged hs m m.pool) (sym e ∙ f)
+module _ (b : Bytes) {m : Image} (i : ImageAt b m) (hs : List ℕ) (room : ℕ) {r : Result ℕ BadChunk} (e : r ≡ pool_answer (judged hs m m.pool)) where
+  pub chunk_failing : {bad : BadChunk} → r ≡ Err bad → image_outcome (read_image b) hs room ≡ Outcome.refused (refusal bad_heights bad.place)
+  chunk_failing {bad} f = ap (λ d. image_outcome d hs room) i.reads ∙ go (judged hs m m.pool) (sym e ∙ f)
     where
-      go : (v : Verdict) → pool_answer v ≡ Err place → judged_outcome v hs m room ≡ Outcome.refused (refusal bad_heights place)
+      go : (v : Verdict) → pool_answer v ≡ Err bad → judged_outcome v hs m room ≡ Outcome.refused (refusal bad_heights bad.place)
       go (Verdict.tops ns) q = let z : ◌≡◌ {A = ℕ} 0 1 = cc in absurd (omega arith)
-      go (Verdict.fails p) q = let a : p ≡ place = cc in ap (λ p. Outcome.refused (refusal bad_heights p)) a
+      go (Verdict.fails p) q = let a : record { place = p } ≡ bad = cc in ap (λ (b : BadChunk). Outcome.refused (refusal bad_heights b.place)) a
 
   pub all_passing : {n : ℕ} → r ≡ Ok n → (ns : List ℕ) × (judged hs m m.pool ≡ Verdict.tops ns)
   all_passing {n} f = go (judged hs m m.pool) refl (sym e ∙ f)

@@ -1,10 +1,10 @@
 -- A loop over the instructions of main, which stands from 3 on.
-use Rattle.std.proofs.Common.{◌≡◌, ℕ, ◌+◌, ◌-◌, ◌<◌, ◌≤◌, [], ◌∷◌, length, sym, refl, ap, ◌∙◌, subst, arith}
+use Rattle.std.proofs.Common.{◌≡◌, ℕ, ◌+◌, ◌-◌, ◌<◌, ◌≤◌, true, [], ◌∷◌, length, sym, refl, ap, ◌∙◌, subst, arith, eqb-true}
 use Rattle.definition.specs.Basic.{Bytes, byte_at}
 use Rattle.definition.specs.Field.{head}
 use Rattle.definition.specs.Opcode.{Instr, size}
 use Rattle.definition.specs.Bytecode.{Code, size_of, Image}
-use Rattle.definition.specs.Decode.{decoded, read_instr}
+use Rattle.definition.specs.Decode.{Decoded, decoded, malformed, read_instr, read_image}
 use Rattle.definition.specs.Trusted.{Stands}
 use Rattle.definition.specs.declared.reason.Refusal.{Refusal}
 use Rattle.opcode.specs.Decoding.{instr_of, decode_answer, read_before}
@@ -16,6 +16,8 @@ use Rattle.listing.proofs.Lines.{whole-read}
 use Rattle.listing.proofs.Images.{parts}
 use Rattle.opcode.proofs.Decoding.{before_within, answered, unanswered}
 use Rattle.std.specs.Prelude.{Err}
+use Rattle.trial.specs.Program.{is_image}
+use Rattle.trial.specs.declared.pool.Program.{Program}
 
 -- bytes read as one image
 pub one_image : {b : Bytes} {m n : Image} → ImageAt b m → ImageAt b n → m ≡ n
@@ -33,6 +35,25 @@ main_parts b {end} {pool} {m} i e q =
       code = subst (λ n. CodeAt b 3 n m.code) (sym e) p.code;
       pools = subst (λ n. PoolAt b n (length b) m.pool) (sym (q ∙ ap (λ n. n + 3) e)) p.pool;
     }
+
+-- a program by its bytes and offsets, with the image that they are
+pub record Sound (b : Bytes) (end pool : ℕ) : Type 0 where
+  pub image : Image
+  pub reads : ImageAt b image
+  pub ends : end ≡ 3 + (head (byte_at b) 0).len
+  pub pools : pool ≡ end + 3
+  pub short : length b ≤ 65535
+
+pub sound : (p : Program) → Sound p.image.now p.end p.pool
+sound p = let h = go (read_image p.image.now) refl p.sound in record { image = h.0; reads = h.1; ends = p.code_ends; pools = p.pool_starts; short = p.short }
+  where
+    go : (d : Decoded Image) → read_image p.image.now ≡ d → is_image d (length p.image.now) ≡ true → (m : Image) × ImageAt p.image.now m
+    go (decoded m n) e i = (m, record { reads = e ∙ ap (decoded m) (eqb-true n (length p.image.now) i) })
+    go (malformed q) e i = let z : ◌≡◌ {A = ℕ} 0 1 = cc in absurd (omega arith)
+
+-- its constants
+pub pools : (p : Program) → PoolAt p.image.now p.pool (length p.image.now) (sound p).image.pool
+pools p = let h = sound p in (main_parts p.image.now h.reads h.ends h.pools).pools
 
 module _ (b : Bytes) (end : ℕ) {c : Code} (h : CodeAt b 3 end c) where
   -- behind some instructions, at an offset

@@ -207,7 +207,7 @@ module _ {b : Bytes} {end pool : ℕ} {m : Image} {h : CodeAt b 3 end m.code} {c
             subst (λ q. EndsAs w₁ (Err q) (trial m)) (sym g.refusal_is) (subst (EndsAs w₁ (Err (refusal g.reason (3 + l.frame.at)))) (sym (ap trial_of d)) EndsAs.stopped)
 
       -- the step can be made
-      pub step_ready : end ≤ 65536 → StepReady w b pool (instr_of i) after s × Runs i.op
+      pub step_ready : end ≤ 65536 → StepReady (instr_of i) after s × Runs i.op
       step_ready g =
           let e = stacked_length l.framed.stack in
           let o = safe.runs stands_here in
@@ -216,8 +216,6 @@ module _ {b : Bytes} {end pool : ℕ} {m : Image} {h : CodeAt b 3 end m.code} {c
             record {
               room =
                   record {
-                    long = l.framed.globals.long;
-                    constants = record { pool = m.pool; is = cs };
                     enough = omega (arith, e, safe.enough stands_here l.reached);
                     low = omega (arith, e, safe.low stands_here l.reached);
                     fits = omega (arith, e, fits safe i.operand i.captures v stands_here l.reached);

@@ -1,9 +1,8 @@
 -- The whole call: its numbers in their order, its answer, its output and its work area.
 use Rattle.std.specs.Prelude.{◌≡◌, ℕ, ◌+◌, ◌*◌, ◌≤◌, Bool, List, [], ◌∷◌, length, nat_le, nat_lt, Option, Some as some, None as none, Result, Ok, Err}
 use Rattle.std.specs.Prelude.{Option, Some as some, None as none}
-use Rattle.definition.specs.Basic.{Bytes, byte_at, pick, both}
+use Rattle.definition.specs.Basic.{Bytes, pick, both}
 use Rattle.definition.specs.Number.{refusal, short_buffer, bad_image, output_short, bad_heights}
-use Rattle.definition.specs.Field.{head}
 use Rattle.definition.specs.Opcode.{Instr}
 use Rattle.definition.specs.Bytecode.{Code, size_of, Const, Image}
 use Rattle.definition.specs.Decode.{Decoded, decoded, malformed, read_image}
@@ -83,14 +82,6 @@ work_after w = pick (nat_lt (length w) work_size) w (cleared work_size w)
 abbrev pub scan_answer : Option ℕ → ℕ → Result ℕ Refusal
 scan_answer (some p) n = Err (refusal Number.not_runnable (3 + p))
 scan_answer none n = Ok n
-
--- an image to go over
-pub record ScanReady (b : Bytes) (end pool : ℕ) : Type 0 where
-  pub image : Image
-  pub reads : ImageAt b image
-  pub ends : end ≡ 3 + (head (byte_at b) 0).len
-  pub pools : pool ≡ end + 3
-  pub short : length b ≤ 65535
 
 -- an image that passes with its heights
 pub record ChunkToRun (b : Bytes) (hs : List ℕ) : Type 0 where

@@ -4,6 +4,7 @@ pub mod Evaluate
 pub mod Output
 pub mod Cells
 pub mod Machine
+pub mod Program
 pub mod Call
 pub mod Examples
 pub mod CallExamples

@@ -1,18 +1,17 @@
 -- What the code's step and run give, beside the definition's.
-use Rattle.std.specs.Prelude.{◌≡◌, ℕ, ◌+◌, ◌<◌, ◌≤◌, true, List, length, ◌==◌, slice_index_or, Option, Some as some, None as none, Result, Ok, Err, set}
+use Rattle.std.specs.Prelude.{◌≡◌, ℕ, ◌+◌, ◌<◌, ◌≤◌, true, List, ◌==◌, slice_index_or, Option, Some as some, None as none, Result, Ok, Err, set}
 use Rattle.std.specs.Prelude.{Option, Some as some, None as none}
-use Rattle.definition.specs.Basic.{Bytes, byte_at, pick}
-use Rattle.definition.specs.Field.{head}
+use Rattle.definition.specs.Basic.{Bytes, pick}
 use Rattle.definition.specs.Opcode.{Instr}
 use Rattle.definition.specs.Bytecode.{Code, size_of, Const, Image}
 use Rattle.definition.specs.Trusted.{Stands, constant_at}
 use Rattle.definition.specs.Effect.{takes, gives}
-use Rattle.listing.specs.Reads.{HasPool, ImageAt}
+use Rattle.listing.specs.Reads.{ImageAt}
 use Rattle.heights.specs.Judgement.{Reaches}
 use Rattle.definition.specs.Number
 use Rattle.trial.specs.Value.{Value, Globals, Infix, Prefix, combined, changed}
-use Rattle.trial.specs.Run.{Action, integer_in, runnable, Frame, Run, top, below, Trial, unset_globals}
-use Rattle.trial.specs.Cells.{Keeps, kinds_at, Stacked, Keeping, work_size, stack_limit}
+use Rattle.trial.specs.Run.{Action, integer_in, runnable, Frame, Run, top, below, Trial}
+use Rattle.trial.specs.Cells.{Keeps, kinds_at, Stacked, Keeping, stack_limit}
 use Rattle.trial.specs.declared.machine.State.{State}
 use Rattle.std.specs.declared.ops.ControlFlow.{ControlFlow}
 use Rattle.std.specs.declared.ops.ControlFlow.TheVariants.{Continue, Break}
@@ -80,9 +79,7 @@ pub record KeptAt (w : List ℕ) (at : ℕ) (v : Value) (w₁ : List ℕ) : Type
   pub is : w₁ ≡ set (set w at word) (kinds_at + at) kind
 
 -- where an instruction stands before a stack: it has enough, there is room for what it gives, and it names a global that there is
-pub record Room (w : List ℕ) (b : Bytes) (pool : ℕ) (i : Instr) (height : ℕ) : Type 0 where
-  pub long : length w ≡ work_size
-  pub constants : HasPool b pool (length b)
+pub record Room (i : Instr) (height : ℕ) : Type 0 where
   pub enough : takes i ≤ height
   pub low : height ≤ stack_limit
   pub fits : height + gives i ≤ stack_limit + takes i
@@ -90,8 +87,8 @@ pub record Room (w : List ℕ) (b : Bytes) (pool : ℕ) (i : Instr) (height : �
   pub global_set : i.op ≡ 0x11 → i.a < 1024
 
 -- the same, and positions and steps are small
-pub record StepReady (w : List ℕ) (b : Bytes) (pool : ℕ) (i : Instr) (next : ℕ) (s : State) : Type 0 where
-  pub room : Room w b pool i s.height
+pub record StepReady (i : Instr) (next : ℕ) (s : State) : Type 0 where
+  pub room : Room i s.height
   pub near : next ≤ 131072
   pub few : s.steps ≤ 131072
 
@@ -128,12 +125,6 @@ pub record Safe (pool : List Const) (c : Code) : Type 0 where
   pub low : {i : Instr} {p x : ℕ} → Stands i p c → Reaches c p x → x ≤ stack_limit
   pub ends : {x : ℕ} → Reaches c (size_of c) x → x ≡ 0
 
--- an image to run on a cleared work area
-pub record RunReady (w : List ℕ) (b : Bytes) (end pool : ℕ) : Type 0 where
-  pub image : Image
-  pub reads : ImageAt b image
-  pub ends : end ≡ 3 + (head (byte_at b) 0).len
-  pub pools : pool ≡ end + 3
-  pub short : length b ≤ 65536
-  pub cleared : Keeping w unset_globals
-  pub safe : Safe image.pool image.code
+-- main of the image that bytes are can be run
+pub record SafeToRun (b : Bytes) : Type 0 where
+  pub safe : (m : Image) → ImageAt b m → Safe m.pool m.code

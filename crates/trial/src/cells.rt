@@ -26,7 +26,7 @@ impl fmt::Display for Value {
 }
 
 // The kind of an integer; a number that is no kind stands where no value is set.
-// Kept: numbers and no enum, since they stand in the work area, which callers lend and which may hold any number.
+// Kept: numbers, words and kinds as parts of one slice: C lends one area of u64 that may hold anything: no enum, no struct stands in it.
 const INTEGER: u64 = 1;
 
 // The kind of a boolean.

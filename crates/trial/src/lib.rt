@@ -33,11 +33,12 @@ pub struct Ran {
     pub steps: usize,
 }
 
+// Kept: four parameters, also below. Tried: a struct of three: in `run` it stood open that what it gives back is the caller's output.
 // Main of a sound image that passes with its heights, on a cleared work area.
 fn run_chunk(
     image: &[u8],
     heights: &[u32],
-    work: &mut [u64],
+    work: &mut [u64; WORK_SIZE],
     output: &mut [u8],
 ) -> Result<Ran, Refusal>
     requires { ChunkToRun image.now heights.now × (work.old ≡ replicate work_size 0) }
@@ -63,7 +64,7 @@ fn run_chunk(
 fn run_image(
     image: &[u8],
     heights: &[u32],
-    work: &mut [u64],
+    work: &mut [u64; WORK_SIZE],
     output: &mut [u8],
 ) -> Result<Ran, Refusal>
     requires { work.old ≡ replicate work_size 0 }
@@ -71,20 +72,17 @@ fn run_image(
     ensures writes { output.new ≡ outcome_into (image_outcome (read_image image.now) heights.now (length output.old)) output.old }
 {
     check_image(image)?;
-    match judge(&mut [0u32; 0], image, heights) {
-        Err(place) => refused(Reason::BadHeights, place),
-        Ok(_) => run_chunk(image, heights, work, output),
-    }
+    judge(&mut [0u32; 0], image, heights)?;
+    run_chunk(image, heights, work, output)
 }
 
 // The same on a work area of just its size, which is cleared before and after.
 fn run_in(
     image: &[u8],
     heights: &[u32],
-    work: &mut [u64],
+    work: &mut [u64; WORK_SIZE],
     output: &mut [u8],
 ) -> Result<Ran, Refusal>
-    requires { length work.old ≡ work_size }
     ensures answers { result ≡ outcome_answer (image_outcome (read_image image.now) heights.now (length output.old)) }
     ensures writes { output.new ≡ outcome_into (image_outcome (read_image image.now) heights.now (length output.old)) output.old }
     ensures clears { work.new ≡ replicate work_size 0 }
@@ -107,8 +105,8 @@ pub fn run(
     ensures writes { output.new ≡ outcome_into (run_outcome image.now heights.now (length work.old) (length output.old)) output.old }
     ensures clears { work.new ≡ work_after work.old }
 {
-    if work.len() < WORK_SIZE {
-        return refused(Reason::ShortBuffer, 0);
+    match work.first_chunk_mut() {
+        Some(work) => run_in(image, heights, work, output),
+        None => refused(Reason::ShortBuffer, 0),
     }
-    run_in(image, heights, &mut work[..WORK_SIZE], output)
 }

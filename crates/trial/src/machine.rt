@@ -5,10 +5,11 @@ ghost use Rattle.definition.specs.Bytecode.{Const, Image};
 ghost use Rattle.opcode.specs.Decoding.{instr_of};
 ghost use Rattle.listing.specs.Reads.{PoolAt, ImageAt};
 ghost use Rattle.trial.specs.Value.{Globals};
-ghost use Rattle.trial.specs.Run.{actions, other, Frame, execute as executed, top as topmost, trial};
-ghost use Rattle.trial.specs.Cells.{Keeps, Stacked, Keeping, kinds_at, work_size};
-ghost use Rattle.trial.specs.Machine.{Produces, Runs, product, reason_of, KeptAt, Room, StepReady, goes_on, Framed, After, RunReady, EndsAs};
+ghost use Rattle.trial.specs.Run.{actions, other, Frame, execute as executed, top as topmost, trial, unset_globals};
+ghost use Rattle.trial.specs.Cells.{Keeps, Stacked, Keeping, kinds_at};
+ghost use Rattle.trial.specs.Machine.{Produces, Runs, product, reason_of, KeptAt, Room, StepReady, goes_on, Framed, After, SafeToRun, EndsAs};
 
+use crate::WORK_SIZE;
 use crate::cells::{KINDS, STACK, Value, combine, negate, parts, truthy, value_in};
 use crate::pool::{Program, integer_at};
 use definition::{Reason, Refusal, refused};
@@ -40,16 +41,16 @@ impl State {
 }
 
 // The value that the work area keeps at a place: its word there, its kind KINDS numbers behind.
-fn kept(work: &[u64], at: usize) -> Option<Value>
-    requires { (length work.now ≡ work_size) × (at < 3072) }
+fn kept(work: &[u64; WORK_SIZE], at: usize) -> Option<Value>
+    requires { at < 3072 }
     ensures { (v : Option Value) → Keeps (slice_index work.now (kinds_at + at)) (slice_index work.now at) v → result ≡ v }
 {
     value_in(work[KINDS + at], work[at])
 }
 
 // Keeps a value at a place.
-fn keep(work: &mut [u64], at: usize, x: Value)
-    requires { (length work.old ≡ work_size) × (at < 3072) }
+fn keep(work: &mut [u64; WORK_SIZE], at: usize, x: Value)
+    requires { at < 3072 }
     ensures { KeptAt work.old at x work.new }
 {
     let (kind, word) = parts(x);
@@ -58,17 +59,22 @@ fn keep(work: &mut [u64], at: usize, x: Value)
 }
 
 // The top of a stack that is so high.
-// Kept: the whole work area with a height, here and below, since a value's kind stands KINDS numbers behind its word, outside the stack.
-fn top(work: &[u64], height: usize) -> Value
-    requires { (length work.now ≡ work_size) × (1 ≤ height) × (height ≤ 1024) }
+// Kept: the whole work area with a height, here and below: a value's kind stands KINDS numbers behind its word, outside the stack.
+fn top(work: &[u64; WORK_SIZE], height: usize) -> Value
+    requires { (1 ≤ height) × (height ≤ 1024) }
     ensures { (st : List Value) → Stacked work.now height st → result ≡ topmost st }
 {
     kept(work, STACK + height - 1).unwrap_or(Value::Null)
 }
 
 // What an instruction puts on the stack; none where it stops the run.
-fn produced(work: &[u64], program: Program<'_>, i: Instruction, height: usize) -> Option<Value>
-    requires { Room work.now program.image.now program.pool (instr_of i) height × Produces i.op }
+fn produced(
+    work: &[u64; WORK_SIZE],
+    program: Program<'_>,
+    i: Instruction,
+    height: usize,
+) -> Option<Value>
+    requires { Room (instr_of i) height × Produces i.op }
     ensures { (cs : List Const) (st : List Value) (g : Globals) → PoolAt program.entry.image.now program.entry.pool (length program.entry.image.now) cs → Keeping work.now g → Stacked work.now height st → result ≡ product cs i.operand st g (slice_index_or actions i.op other) }
 {
     match i.op {
@@ -96,13 +102,13 @@ fn reason(op: u8) -> Reason
 
 // An instruction that puts a value.
 fn produce(
-    work: &mut [u64],
+    work: &mut [u64; WORK_SIZE],
     program: Program<'_>,
     i: Instruction,
     next: usize,
     s: State,
 ) -> Result<ControlFlow<usize, State>, Refusal>
-    requires { StepReady work.old program.image.now program.pool (instr_of i) next s × Produces i.op }
+    requires { StepReady (instr_of i) next s × Produces i.op }
     ensures { (cs : List Const) (f : Frame) → PoolAt program.entry.image.now program.entry.pool (length program.entry.image.now) cs → Framed work.old s f → next ≡ 3 + (f.at + size (instr_of i)) → After work.new f.at result (executed cs (instr_of i) f) }
 {
     let Some(x) = produced(work, program, i, s.height) else {
@@ -115,13 +121,13 @@ fn produce(
 
 // One instruction, `next` behind it: the run goes on, or ReturnValue ends it with its steps.
 fn execute(
-    work: &mut [u64],
+    work: &mut [u64; WORK_SIZE],
     program: Program<'_>,
     i: Instruction,
     next: usize,
     s: State,
 ) -> Result<ControlFlow<usize, State>, Refusal>
-    requires { StepReady work.old program.image.now program.pool (instr_of i) next s × Runs i.op }
+    requires { StepReady (instr_of i) next s × Runs i.op }
     ensures { (cs : List Const) (f : Frame) → PoolAt program.entry.image.now program.entry.pool (length program.entry.image.now) cs → Framed work.old s f → next ≡ 3 + (f.at + size (instr_of i)) → After work.new f.at result (executed cs (instr_of i) f) }
 {
     let k = usize::from(i.operand);
@@ -146,8 +152,8 @@ fn execute(
 }
 
 // The run of main: the instructions executed.
-pub fn run_main(work: &mut [u64], program: Program<'_>) -> Result<usize, Refusal>
-    requires { RunReady work.old program.image.now program.end program.pool }
+pub fn run_main(work: &mut [u64; WORK_SIZE], program: Program<'_>) -> Result<usize, Refusal>
+    requires { Keeping work.old unset_globals × SafeToRun program.image.now }
     ensures { (m : Image) → ImageAt program.entry.image.now m → EndsAs work.new result (trial m) }
 {
     let mut s = State {

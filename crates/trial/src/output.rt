@@ -6,6 +6,7 @@ ghost use Rattle.trial.specs.Value.{Globals};
 ghost use Rattle.trial.specs.Output.{cell, shown};
 ghost use Rattle.trial.specs.Cells.{Keeping, KeepsGlobals};
 
+use crate::WORK_SIZE;
 use crate::cells::KINDS;
 
 // Writes the nine bytes of a value, its kind and its word, the high byte first.
@@ -18,11 +19,11 @@ fn put_cell(output: &mut [u8], at: usize, kind: u64, word: u64)
 }
 
 // Writes the first so many globals.
-pub fn put_globals(output: &mut [u8], work: &[u64], n: usize)
+pub fn put_globals(output: &mut [u8], work: &[u64; WORK_SIZE], n: usize)
     requires { (9 * n ≤ length output.old) × (n ≤ 1024) × KeepsGlobals work.now }
     ensures { (g : Globals) → Keeping work.now g → output.new ≡ over (shown n g) output.old }
 {
-    // Kept: an index, which goes over two parts of the work area and nine bytes a value of the output: `zip` and `enumerate` count too.
+    // Kept: an index: else the loop is over `chunks_exact_mut(9).zip(&work[..n]).zip(&work[KINDS..])`, and takes pairs of pairs apart.
     for k in 0..n {
         put_cell(output, 9 * k, work[KINDS + k], work[k]);
     }

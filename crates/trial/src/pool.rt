@@ -1,8 +1,12 @@
 // A program, and the integers of its pool.
-ghost use Rattle.std.specs.Prelude.{◌≡◌, List, length};
+ghost use Rattle.std.specs.Prelude.{◌≡◌, ◌+◌, ◌≤◌, true, List, length};
+ghost use Rattle.definition.specs.Basic.{byte_at};
+ghost use Rattle.definition.specs.Field.{head};
 ghost use Rattle.definition.specs.Bytecode.{Const};
+ghost use Rattle.definition.specs.Decode.{read_image};
 ghost use Rattle.definition.specs.Trusted.{constant_at};
-ghost use Rattle.listing.specs.Reads.{PoolAt, HasPool};
+ghost use Rattle.listing.specs.Reads.{PoolAt};
+ghost use Rattle.trial.specs.Program.{is_image};
 ghost use Rattle.trial.specs.Run.{integer_in};
 
 use crate::cells::Value;
@@ -16,11 +20,14 @@ pub struct Program<'a> {
     pub image: &'a [u8],
     pub end: usize,
     pub pool: usize,
+    ghost sound: { is_image (read_image image.now) (length image.now) ≡ true },
+    ghost code_ends: { end ≡ 3 + (head (byte_at image.now) 0).len },
+    ghost pool_starts: { pool ≡ end + 3 },
+    ghost short: { length image.now ≤ 65535 },
 }
 
 // The value of the constant of an index, if it is an integer.
 pub fn integer_at(program: Program<'_>, k: usize) -> Option<Value>
-    requires { HasPool program.image.now program.pool (length program.image.now) }
     ensures { (cs : List Const) → PoolAt program.entry.image.now program.entry.pool (length program.entry.image.now) cs → result ≡ integer_in (constant_at cs k) }
 {
     let Program { image, pool, .. } = program;

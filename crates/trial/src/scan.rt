@@ -2,12 +2,12 @@
 ghost use Rattle.std.specs.Prelude.{◌≡◌, ℕ, ◌+◌, ◌<◌, ◌≤◌, List, length, slice_index_or};
 ghost use Rattle.definition.specs.Bytecode.{size_of, Const, Image};
 ghost use Rattle.opcode.specs.Decoding.{instr_of};
-ghost use Rattle.listing.specs.Reads.{PoolAt, HasPool, ImageAt};
+ghost use Rattle.listing.specs.Reads.{PoolAt, ImageAt};
 ghost use Rattle.heights.specs.Marks.{marks_from};
 ghost use Rattle.heights.specs.Pass.{Passing, pass as passed, Passed};
 ghost use Rattle.trial.specs.Run.{actions, other, runnable as takes};
 ghost use Rattle.trial.specs.Output.{names_as, named_globals};
-ghost use Rattle.trial.specs.Call.{ScanReady, first_refused, refused_with, scan_answer};
+ghost use Rattle.trial.specs.Call.{first_refused, refused_with, scan_answer};
 
 use crate::cells::STACK_LIMIT;
 use crate::pool::{Program, integer_at};
@@ -20,7 +20,6 @@ use opcode::{Instruction, opcodes};
 
 // Whether a run takes an instruction, its height apart.
 fn runnable(program: Program<'_>, i: Instruction) -> bool
-    requires { HasPool program.image.now program.pool (length program.image.now) }
     ensures { (cs : List Const) → PoolAt program.entry.image.now program.entry.pool (length program.entry.image.now) cs → result ≡ takes cs (instr_of i) }
 {
     match i.op {
@@ -58,7 +57,7 @@ fn named(n: usize, i: Instruction) -> usize
 
 // The instructions of main, with what arrives before each: how many globals they name, or 27 at the first that a run does not take.
 fn scan_marked(marks: &[u32], program: Program<'_>) -> Result<usize, Refusal>
-    requires { ScanReady program.image.now program.end program.pool × (program.end < length marks.now) }
+    requires { program.end < length marks.now }
     ensures { (m : Image) → ImageAt program.entry.image.now m → result ≡ scan_answer (first_refused m.pool (marks_from marks.now 3) m.code) (named_globals m.code) }
 {
     let mut names = 0;
@@ -73,7 +72,6 @@ fn scan_marked(marks: &[u32], program: Program<'_>) -> Result<usize, Refusal>
 
 // Main, which passes with its heights.
 pub fn scan(program: Program<'_>, heights: &[u32]) -> Result<usize, Refusal>
-    requires { ScanReady program.image.now program.end program.pool }
     ensures { (m : Image) → ImageAt program.entry.image.now m → (s : Passing) → passed heights.now 0 (size_of m.code) m.code ≡ Passed.passed s → result ≡ scan_answer (refused_with heights.now m) (named_globals m.code) }
 {
     let mut marks = [0u32; 65536];
@@ -83,6 +81,6 @@ pub fn scan(program: Program<'_>, heights: &[u32]) -> Result<usize, Refusal>
         start: 3,
         end: program.end,
     };
-    let _ = pass(&mut marks, code, heights, 0);
+    let _ = pass(&mut marks, code, heights);
     scan_marked(&marks, program)
 }

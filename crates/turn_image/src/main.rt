@@ -4,7 +4,7 @@
 
 use bytecode::CHIN_MAIN;
 use definition::Refusal;
-use report::{print_in_image, read_full, write_first};
+use report::{IMAGE_MOST, print_at_offset, with_input, write_first};
 use std::io;
 
 // Translates an image by its first byte.
@@ -20,16 +20,10 @@ fn run(rt: &(impl Print + Eprint), image: &[u8]) -> io::Result<()> {
     let mut output = [0u8; 65536];
     match turn(image, &mut output) {
         Ok(n) => write_first(rt, &output, n),
-        Err(r) => {
-            rt.eprint("turn_image")?;
-            print_in_image(rt, r)
-        }
+        Err(r) => print_at_offset(rt, "turn_image", r, "image"),
     }
 }
 
-// An image has at most 61,446 bytes: a longer input is refused as its first 61,447 are.
 fn main(rt: HostRuntime) -> io::Result<()> {
-    let mut image = [0u8; 65536];
-    let length = read_full(&mut rt.reader(), &mut image)?;
-    run(&rt, &image[..length])
+    with_input(&rt, &mut [0u8; IMAGE_MOST], |image| run(&rt, image))
 }

@@ -67,7 +67,7 @@ impl<'a, 's> Compiler<'a, 's> {
         let value = after_at(tree, at + 3);
         let setting = define(tree, self.table, self.scope.state, at)?;
         self.walk_expression(tree, value)?;
-        self.scope.emit_any(at, setting.op, setting.operand)
+        self.scope.emit_operand(at, setting.op, setting.operand)
     }
 
     // Compiles the statements from an offset up to an end.
@@ -230,7 +230,7 @@ impl<'a, 's> Compiler<'a, 's> {
             return refused(Reason::TooMany, at);
         }
         self.walk_expressions(tree, args, end)?;
-        self.scope.emit_any(at, opcodes::CALL, n)
+        self.scope.emit_operand(at, opcodes::CALL, n)
     }
 
     // Compiles the items of an array or a hash, then its instruction with their number.
@@ -244,7 +244,7 @@ impl<'a, 's> Compiler<'a, 's> {
         let end = after_at(tree, at);
         let n = count_fields(tree, at + 3, end);
         self.walk_expressions(tree, at + 3, end)?;
-        self.scope.emit_any(at, op, n)
+        self.scope.emit_operand(at, op, n)
     }
 
     // Compiles the expressions from an offset up to an end.

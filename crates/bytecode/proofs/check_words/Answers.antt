@@ -6,14 +6,17 @@ use Rattle.bytecode.proofs.check_words.Goals as goal
 pub distinct_names-requires : goal.distinct_names-requires
 distinct_names-requires c =
     let e = c.whole.ensures in
-    own_row c.args.session.now (first_is _ _ _ c.first.ensures.value c.ne.ensures c.if-ne.false) (rw (e.bytes, e.at, e.end) at c.check_names.ensures) c.in_ok-words.was
+    let n = c.new.ensures in
+    rw (n.bytes, n.at, n.end) (own_row c.args.session.now (first_is _ _ _ c.first.ensures.value c.ne.ensures c.if-ne.false) (rw (e.bytes, e.start, e.end) at c.check_names.ensures) c.in_ok-words.was)
 
 pub returns-then-distinct_names : goal.returns-then-distinct_names
 returns-then-distinct_names c =
     let e = c.whole.ensures in
-    own_good c.args.session.now (first_is _ _ _ c.first.ensures.value c.ne.ensures c.if-ne.false) (rw (e.bytes, e.at, e.end) at c.check_names.ensures) c.in_ok-words.was c.distinct_names.ensures c.if-distinct_names.true
+    let n = c.new.ensures in
+    own_good c.args.session.now (first_is _ _ _ c.first.ensures.value c.ne.ensures c.if-ne.false) (rw (e.bytes, e.start, e.end) at c.check_names.ensures) c.in_ok-words.was (rw (n.bytes, n.at, n.end) at c.distinct_names.ensures) c.if-distinct_names.true
 
 pub returns : goal.returns
 returns c =
     let e = c.whole.ensures in
-    own_repeated c.args.session.now (first_is _ _ _ c.first.ensures.value c.ne.ensures c.if-ne.false) (rw (e.bytes, e.at, e.end) at c.check_names.ensures) c.in_ok-words.was c.distinct_names.ensures c.if-distinct_names.false
+    let n = c.new.ensures in
+    own_repeated c.args.session.now (first_is _ _ _ c.first.ensures.value c.ne.ensures c.if-ne.false) (rw (e.bytes, e.start, e.end) at c.check_names.ensures) c.in_ok-words.was (rw (n.bytes, n.at, n.end) at c.distinct_names.ensures) c.if-distinct_names.false

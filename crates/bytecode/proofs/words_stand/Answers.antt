@@ -5,9 +5,11 @@ use Rattle.bytecode.proofs.words_stand.Goals as goal
 pub distinct_names-requires : goal.distinct_names-requires
 distinct_names-requires c =
     let e = c.whole.ensures in
-    handed-row c.args.names.now (rw (e.bytes, e.at, e.end) at c.check_name_fields.ensures) c.in-Ok.is
+    let n = c.new.ensures in
+    rw (n.bytes, n.at, n.end) (handed-row c.args.names.now (rw (e.bytes, e.start, e.end) at c.check_name_fields.ensures) c.in-Ok.is)
 
 pub returns-in-Ok : goal.returns-in-Ok
 returns-in-Ok c =
     let e = c.whole.ensures in
-    handed_tested c.args.names.now (rw (e.bytes, e.at, e.end) at c.check_name_fields.ensures) c.in-Ok.is c.distinct_names.ensures
+    let n = c.new.ensures in
+    handed_tested c.args.names.now (rw (e.bytes, e.start, e.end) at c.check_name_fields.ensures) c.in-Ok.is (rw (n.bytes, n.at, n.end) at c.distinct_names.ensures)

@@ -5,15 +5,7 @@ use Rattle.capi.proofs.Fits.{fits_as, packs_as, turn-fits}
 use Rattle.capi.proofs.monkey_from_chin.Goals as goal
 
 pub pack-requires : goal.pack-requires
-pack-requires c =
-    let k = c in
-    let entry = k in
-    let image = entry.args.image.now in
-    let bytes = are_bytes entry.shared_slice_known-1.given in
-    fits_as k.from_chin-answer.ensures.answers (turn-fits Chin image bytes _)
+pack-requires c = fits_as c.from_chin-answer.ensures.answers (turn-fits Chin _ (are_bytes c.shared_slice_known-1.given) _)
 
 pub returns : goal.returns
-returns c =
-    let pack = c.pack in
-    let turn = c.from_chin-answer in
-    record { answer = packs_as turn.ensures.answers pack.ensures; output = turn.ensures.writes }
+returns c = record { answer = packs_as c.from_chin-answer.ensures.answers c.pack.ensures; output = c.from_chin-answer.ensures.writes }

@@ -4,15 +4,7 @@ use Rattle.capi.proofs.Fits.{fits_as, packs_as, list_fits}
 use Rattle.capi.proofs.monkey_list_image.Goals as goal
 
 pub pack-requires : goal.pack-requires
-pack-requires c =
-    let k = c in
-    let entry = k in
-    let image = entry.args.image.now in
-    let bytes = are_bytes entry.shared_slice_known-1.given in
-    fits_as k.list_image-answer.ensures.answers (list_fits image bytes _)
+pack-requires c = fits_as c.list_image-answer.ensures.answers (list_fits _ (are_bytes c.shared_slice_known-1.given) _)
 
 pub returns : goal.returns
-returns c =
-    let pack = c.pack in
-    let list-image = c.list_image-answer in
-    record { answer = packs_as list-image.ensures.answers pack.ensures; output = list-image.ensures.writes }
+returns c = record { answer = packs_as c.list_image-answer.ensures.answers c.pack.ensures; output = c.list_image-answer.ensures.writes }

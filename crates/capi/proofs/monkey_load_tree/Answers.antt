@@ -6,7 +6,4 @@ pub pack-requires : goal.pack-requires
 pack-requires c = fits_as c.make_tree-answer.ensures.answers (load_fits _ _)
 
 pub returns : goal.returns
-returns c =
-    let pack = c.pack in
-    let make-tree = c.make_tree-answer in
-    record { answer = packs_as make-tree.ensures.answers pack.ensures; output = make-tree.ensures.writes }
+returns c = record { answer = packs_as c.make_tree-answer.ensures.answers c.pack.ensures; output = c.make_tree-answer.ensures.writes }

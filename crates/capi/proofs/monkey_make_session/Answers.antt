@@ -3,13 +3,9 @@ use Rattle.capi.proofs.Fits.{fits_as, packs_as, made-fits, made_told, packs_back
 use Rattle.capi.proofs.monkey_make_session.Goals as goal
 
 pub pack-requires : goal.pack-requires
-pack-requires c =
-    let make-session = c.make_session-answer in
-    fits_as make-session.ensures.answer (made-fits _)
+pack-requires c = fits_as c.make_session-answer.ensures.answer (made-fits _)
 
 pub returns : goal.returns
 returns c =
-    let pack = c.pack in
-    let make-session = c.make_session-answer in
-    let p = packs_as make-session.ensures.answer pack.ensures in
-    record { answer = p; back = packs_back (made_told _) p; session = make-session.ensures.session }
+    let p = packs_as c.make_session-answer.ensures.answer c.pack.ensures in
+    record { answer = p; back = packs_back (made_told _) p; session = c.make_session-answer.ensures.session }

@@ -3,13 +3,9 @@ use Rattle.capi.proofs.Fits.{fits_as, packs_as, words-fits, words-told, packs_ba
 use Rattle.capi.proofs.monkey_make_session_words.Goals as goal
 
 pub pack-requires : goal.pack-requires
-pack-requires c =
-    let make-session-words = c.make_session_words-answer in
-    fits_as make-session-words.ensures.answer (words-fits _ _)
+pack-requires c = fits_as c.make_session_words-answer.ensures.answer (words-fits _ _)
 
 pub returns : goal.returns
 returns c =
-    let pack = c.pack in
-    let make-session-words = c.make_session_words-answer in
-    let p = packs_as make-session-words.ensures.answer pack.ensures in
-    record { answer = p; back = packs_back (words-told _ _) p; session = make-session-words.ensures.session }
+    let p = packs_as c.make_session_words-answer.ensures.answer c.pack.ensures in
+    record { answer = p; back = packs_back (words-told _ _) p; session = c.make_session_words-answer.ensures.session }

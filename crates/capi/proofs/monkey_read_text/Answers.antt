@@ -6,7 +6,4 @@ pub pack-requires : goal.pack-requires
 pack-requires c = fits_as c.read_text-answer.ensures.answer (read_fits _ _)
 
 pub returns : goal.returns
-returns c =
-    let pack = c.pack in
-    let read-text = c.read_text-answer in
-    record { answer = packs_as read-text.ensures.answer pack.ensures; output = read-text.ensures.output }
+returns c = record { answer = packs_as c.read_text-answer.ensures.answer c.pack.ensures; output = c.read_text-answer.ensures.output }

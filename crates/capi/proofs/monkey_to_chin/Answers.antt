@@ -5,15 +5,7 @@ use Rattle.capi.proofs.Fits.{fits_as, packs_as, turn-fits}
 use Rattle.capi.proofs.monkey_to_chin.Goals as goal
 
 pub pack-requires : goal.pack-requires
-pack-requires c =
-    let k = c in
-    let entry = k in
-    let image = entry.args.image.now in
-    let bytes = are_bytes entry.shared_slice_known-1.given in
-    fits_as k.to_chin-answer.ensures.answers (turn-fits Plain image bytes _)
+pack-requires c = fits_as c.to_chin-answer.ensures.answers (turn-fits Plain _ (are_bytes c.shared_slice_known-1.given) _)
 
 pub returns : goal.returns
-returns c =
-    let pack = c.pack in
-    let turn = c.to_chin-answer in
-    record { answer = packs_as turn.ensures.answers pack.ensures; output = turn.ensures.writes }
+returns c = record { answer = packs_as c.to_chin-answer.ensures.answers c.pack.ensures; output = c.to_chin-answer.ensures.writes }

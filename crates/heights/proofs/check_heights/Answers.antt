@@ -1,4 +1,5 @@
 -- `heights::check_heights` meets its contract: the check, the chunks, then the output.
+use Rattle.definition.proofs.Basic.{passed_on}
 use Rattle.definition.proofs.Slices.{are_bytes}
 use native.Mathlib.Omega.{arith}
 use mathlib.Core.Path.{◌∙◌, ap, subst}
@@ -10,38 +11,38 @@ use Rattle.heights.proofs.check_heights.Goals as goal
 pub judge-requires : goal.judge-requires
 judge-requires c = sound c.args.image.now c.check_image.ensures c.in_ok-check_image.was (are_bytes c.type_inv.image)
 
-pub returns-then-output-count : goal.returns-then-output-count
-returns-then-output-count c =
+pub judge-requires-2 : goal.judge-requires-2
+judge-requires-2 c = sound c.args.image.now c.check_image.ensures c.in_ok-check_image.was (are_bytes c.type_inv.image)
+
+pub returns-in_err-count : goal.returns-in_err-count
+returns-in_err-count c =
     let a = c.args in
-    let h = sound c.args.image.now c.check_image.ensures c.in_ok-check_image.was (are_bytes c.type_inv.image) in
+    let h = sound a.image.now c.check_image.ensures c.in_ok-check_image.was (are_bytes c.type_inv.image) in
     let j = c.judge in
-    let k = long a.image.now h.is a.heights.now a.output.now (j.ensures h.image h.is) c.in-Ok.is (omega (arith, c.if-output-count.true, ap length (empty-part j.new.output a.output.now j.auto.output))) in
+    let k = fails a.image.now h.is a.heights.now a.output.now (j.ensures h.image h.is) c.in_err-count.was in
     record {
-      answers = c.refused-then-output-count.ensures ∙ k.0;
+      answers = passed_on c.from_residual-in_err-count.ensures.1 ∙ k.0;
       writes = empty-part j.new.output a.output.now j.auto.output ∙ k.1;
     }
 
-pub judge-requires-in-Ok : goal.judge-requires-in-Ok
-judge-requires-in-Ok c = sound c.args.image.now c.check_image.ensures c.in_ok-check_image.was (are_bytes c.type_inv.image)
-
-pub returns-in-Err : goal.returns-in-Err
-returns-in-Err c =
+pub returns-then-output-count : goal.returns-then-output-count
+returns-then-output-count c =
     let a = c.args in
-    let h = sound c.args.image.now c.check_image.ensures c.in_ok-check_image.was (are_bytes c.type_inv.image) in
+    let h = sound a.image.now c.check_image.ensures c.in_ok-check_image.was (are_bytes c.type_inv.image) in
     let j = c.judge in
-    let k = fails a.image.now h.is a.heights.now a.output.now (j.ensures h.image h.is) c.in-Err.is in
+    let k = long a.image.now h.is a.heights.now a.output.now (j.ensures h.image h.is) c.in_ok-count.was (omega (arith, c.if-output-count.true, ap length (empty-part j.new.output a.output.now j.auto.output))) in
     record {
       answers = c.refused.ensures ∙ k.0;
       writes = empty-part j.new.output a.output.now j.auto.output ∙ k.1;
     }
 
-pub returns-else-output-count : goal.returns-else-output-count
-returns-else-output-count c =
+pub returns : goal.returns
+returns c =
     let a = c.args in
-    let h = sound c.args.image.now c.check_image.ensures c.in_ok-check_image.was (are_bytes c.type_inv.image) in
+    let h = sound a.image.now c.check_image.ensures c.in_ok-check_image.was (are_bytes c.type_inv.image) in
     let j = c.judge in
-    let g = c.judge-in-Ok in
+    let g = c.judge-2 in
     let e = empty-part j.new.output a.output.now j.auto.output in
-    let facts = written a.image.now h.is a.heights.now a.output.now (j.ensures h.image h.is) c.in-Ok.is (omega (arith, c.if-output-count.false, ap length e))
+    let facts = written a.image.now h.is a.heights.now a.output.now (j.ensures h.image h.is) c.in_ok-count.was (omega (arith, c.if-output-count.false, ap length e))
     (subst (λ o. PoolJudges a.heights.now h.image h.image.pool o g.result g.new.output) e (g.ensures h.image h.is)) in
     record { answers = facts.0; writes = facts.1 }

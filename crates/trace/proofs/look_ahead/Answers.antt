@@ -14,14 +14,16 @@ overflow_add-from c =
 
 pub name_tree-count-requires : goal.name_tree-count-requires
 name_tree-count-requires c =
-    record {
+    let n = c.new.ensures in
+    rw (n.bytes, n.at, n.end)
+    (record {
       session_len_bound = omega (arith, c.requires.session);
       has_items = opened_items (opened c.args.session.now (are_bytes c.shared_slice_known-1.given) c.requires.session (sym c.read_layout.ensures.layout ∙ c.in-Some.is));
       has_words = opened_words (opened c.args.session.now (are_bytes c.shared_slice_known-1.given) c.requires.session (sym c.read_layout.ensures.layout ∙ c.in-Some.is));
       tree_value = (sym c.check.ensures ∙ c.in-Ok.is);
       table_size_in_bounds = omega (arith, c.requires.table);
       code_size_in_bounds = omega (arith, c.requires.code);
-    }
+    })
 
 pub overflow_sub-result : goal.overflow_sub-result
 overflow_sub-result c =
@@ -29,7 +31,8 @@ overflow_sub-result c =
 
 pub returns : goal.returns
 returns c =
-    opened_ahead (opened c.args.session.now (are_bytes c.shared_slice_known-1.given) c.requires.session (sym c.read_layout.ensures.layout ∙ c.in-Some.is)) c.name_tree-count.ensures
+    let n = c.new.ensures in
+    opened_ahead (opened c.args.session.now (are_bytes c.shared_slice_known-1.given) c.requires.session (sym c.read_layout.ensures.layout ∙ c.in-Some.is)) (rw (n.bytes, n.at, n.end) at c.name_tree-count.ensures)
 
 pub returns-in_default-check : goal.returns-in_default-check
 returns-in_default-check c =

@@ -5,6 +5,9 @@ use Rattle.trial.specs.Output.{named_globals}
 use Rattle.trial.specs.Call.{refused_with}
 use Rattle.trial.specs.Run.{unset_globals}
 use Rattle.trial.specs.Cells.{Keeping}
+use Rattle.trial.specs.Machine.{Safe}
+use Rattle.definition.specs.Bytecode.{Image}
+use Rattle.trial.proofs.CodeLoop.{one_image}
 use Rattle.trial.proofs.Memory.{cleared_keeps}
 use Rattle.definition.proofs.Basic.{passed_on}
 use Rattle.trial.proofs.Calling.{arrived, main_safe, names_few, names_found, refusal_found, room_short, ended-stopped, ended-ran, answered, written}
@@ -20,7 +23,7 @@ returns-then-output-globals c = let h = c.requires.0 in let a = arrived c.args.h
 }
 
 pub run_main-requires : goal.run_main-requires
-run_main-requires c = let h = c.requires.0 in let a = arrived c.args.heights.now h.image h.passes in let f = names_found (refused_with c.args.heights.now h.image) (c.scan.ensures h.image h.reads a.state a.passed) c.in_ok-globals.was in record { image = h.image; reads = h.reads; ends = c.of-parts.ensures.behind; pools = omega (arith, c.of-parts.ensures.behind, c.of-parts.ensures.next); short = omega (arith, h.short); cleared = subst (λ w. Keeping w unset_globals) (sym c.requires.1) cleared_keeps; safe = main_safe c.args.heights.now h.image h.passes f.0 }
+run_main-requires c = let h = c.requires.0 in let a = arrived c.args.heights.now h.image h.passes in let f = names_found (refused_with c.args.heights.now h.image) (c.scan.ensures h.image h.reads a.state a.passed) c.in_ok-globals.was in (subst (λ w. Keeping w unset_globals) (sym c.requires.1) cleared_keeps, record { safe = λ m j. subst (λ (m : Image). Safe m.pool m.code) (one_image h.reads j) (main_safe c.args.heights.now h.image h.passes f.0) })
 
 pub put_globals-requires : goal.put_globals-requires
 put_globals-requires c = let h = c.requires.0 in let a = arrived c.args.heights.now h.image h.passes in let f = names_found (refused_with c.args.heights.now h.image) (c.scan.ensures h.image h.reads a.state a.passed) c.in_ok-globals.was in let r = ended-ran h.image (length c.args.output.now) f.0 f.1 c.if-output-globals.false (c.run_main.ensures h.image h.reads) c.in_ok-steps.was in (c.if-output-globals.false, omega (arith, f.1, names_few c.args.heights.now h.image h.passes f.0), record { globals = r.globals; keeping = r.keeping })

@@ -6,4 +6,4 @@ use Rattle.bytecode.proofs.Instructions.{CodeLoop}
 use Rattle.bytecode.proofs.code.check_code.Given as goal
 
 abbrev pub invariant-loop-next : goal.invariant-loop-next
-invariant-loop-next l = record { over : Over l.code.bytes.now l.code.end l.next-iterator; so_far : CodeLoop (byte_at l.code.bytes.now) l.code.at l.code.end l.reached; here : l.reached ≡ l.next-iterator.at }
+invariant-loop-next l = record { over : Over l.code.span.bytes.now l.code.span.end l.next-iterator; so_far : CodeLoop (byte_at l.code.span.bytes.now) l.code.span.start l.code.span.end l.reached; here : l.reached ≡ l.next-iterator.at }

@@ -4,4 +4,4 @@ use Rattle.bytecode.proofs.Backward.{BackLoop}
 use Rattle.bytecode.proofs.code.decodes.Given as goal
 
 abbrev pub invariant-loop-at : goal.invariant-loop-at
-invariant-loop-at l = BackLoop (byte_at l.code.bytes.now) l.code.end l.code.at l.at l.good
+invariant-loop-at l = BackLoop (byte_at l.code.span.bytes.now) l.code.span.end l.code.span.start l.at l.good

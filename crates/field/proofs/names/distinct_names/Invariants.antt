@@ -7,6 +7,6 @@ abbrev pub invariant-loop-at : goal.invariant-loop-at
 invariant-loop-at l =
     record {
       can : (goal.iterator-loop-at).can_next l.at-iterator;
-      over : Over l.bytes l.to l.at-iterator;
-      compare : Comparing l.bytes l.from l.to l.at-iterator.at;
+      over : Over l.fields.bytes.now l.fields.end l.at-iterator;
+      compare : Comparing l.fields.bytes.now l.fields.at l.fields.end l.at-iterator.at;
     }

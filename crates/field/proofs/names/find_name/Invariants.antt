@@ -7,6 +7,6 @@ abbrev pub invariant-loop-k : goal.invariant-loop-k
 invariant-loop-k l =
     record {
       can : (goal.iterator-loop-k).can_next l.k-iterator;
-      over : Over l.bytes l.to l.k-iterator.iter;
-      search : Searching l.bytes l.from l.to l.name l.k-iterator.iter.at l.k-iterator.count;
+      over : Over l.fields.bytes.now l.fields.end l.k-iterator.iter;
+      search : Searching l.fields.bytes.now l.fields.at l.fields.end l.name l.k-iterator.iter.at l.k-iterator.count;
     }

@@ -19,18 +19,18 @@ returns-in_err-head-clause-is c =
     let b = c.args.image.now in
     rw (passed_on c.from_residual.ensures.1) (sym (ap code_measured (unfitting b 0 (length b) (is_main Plain) c.head_where.ensures (λ h r q. search rules) c.in_err-head.was (main_content (byte_at b)))))
 
-pub overflow_add-head : goal.overflow_add-head
-overflow_add-head c =
+pub overflow_add-code : goal.overflow_add-code
+overflow_add-code c =
     let b = c.args.image.now in
     let f = fitting b 0 (length b) (is_main Plain) c.head_where.ensures (λ h r q. search rules) c.in_ok-head.was in
     omega arith
 
-pub measure_code-requires : goal.measure_code-requires
-measure_code-requires c =
+pub invariant_of-code : goal.invariant_of-code
+invariant_of-code c =
     let b = c.args.image.now in
     let f = fitting b 0 (length b) (is_main Plain) c.head_where.ensures (λ h r q. search rules) c.in_ok-head.was in
     let s = main_short c.in_ok-head.head f.is_good in
-    record { order = omega arith; within = omega (arith, f.within); few = omega arith }
+    record { part = record { order = omega arith; within = omega (arith, f.within) }; few = omega arith }
 
 pub returns-clause-is : goal.returns-clause-is
 returns-clause-is c =

@@ -17,18 +17,18 @@ returns-in_err-head-clause-is c =
     let b = c.args.image.now in
     rw (passed_on c.from_residual.ensures.1) (sym (ap pool_measured (unfitting b c.args.at (length b) is_pool c.head_where.ensures (λ h r q. search rules) c.in_err-head.was (pool_content (byte_at b)))))
 
-pub overflow_add-at-3 : goal.overflow_add-at-3
-overflow_add-at-3 c =
+pub overflow_add-constants-3 : goal.overflow_add-constants-3
+overflow_add-constants-3 c =
     let b = c.args.image.now in
     let f = fitting b c.args.at (length b) is_pool c.head_where.ensures (λ h r q. search rules) c.in_ok-head.was in
     omega arith
 
-pub measure_constants-requires : goal.measure_constants-requires
-measure_constants-requires c =
+pub invariant_of-constants : goal.invariant_of-constants
+invariant_of-constants c =
     let b = c.args.image.now in
     let f = fitting b c.args.at (length b) is_pool c.head_where.ensures (λ h r q. search rules) c.in_ok-head.was in
     let s = pool_short c.in_ok-head.head f.is_good in
-    record { order = omega arith; within = omega (arith, f.within); few = omega arith }
+    record { part = record { order = omega arith; within = omega (arith, f.within) }; few = omega arith }
 
 pub returns-clause-is : goal.returns-clause-is
 returns-clause-is c =

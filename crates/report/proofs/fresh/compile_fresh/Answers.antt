@@ -1,5 +1,5 @@
 -- `compile_fresh` meets its contract: making the session is not refused, and the call is the definition's in it.
-use Rattle.std.proofs.Common.{rules, ◌≡◌, ap, ◌∙◌, replicate}
+use Rattle.std.proofs.Common.{rules, ap, ◌∙◌, replicate}
 use Rattle.definition.specs.Limit.{code_size, table_size}
 use Rattle.definition.specs.Call.{call, Lent}
 use Rattle.compiler.specs.Stage.{lent_of}

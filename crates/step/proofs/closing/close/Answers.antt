@@ -4,21 +4,18 @@ use Rattle.definition.proofs.Basic.{passed_on}
 use Rattle.step.proofs.Closed.{few_captures, closes_full, closes_stops, closes_on}
 use Rattle.step.proofs.closing.close.Goals as goal
 
-pub loads_size-requires : goal.loads_size-requires
-loads_size-requires c = few_captures c.requires (rw c.of-part.ensures at c.captures-n.ensures)
-
-pub emit_function-requires : goal.emit_function-requires
-emit_function-requires c = few_captures c.requires (rw c.of-part.ensures at c.captures-n.ensures)
+pub originals-originals-requires : goal.originals-originals-requires
+originals-originals-requires c = rw c.of-part.ensures (few_captures c.requires)
 
 pub returns-then-end-loads_size-gt-CODE_SIZE : goal.returns-then-end-loads_size-gt-CODE_SIZE
-returns-then-end-loads_size-gt-CODE_SIZE c = rw c.refused.ensures (record { closed = closes_full _ _ c.requires (rw c.of-part.ensures at c.captures-n.ensures) (rw c.of-part.ensures at c.loads_size.ensures.is) c.if-end-loads_size-gt-CODE_SIZE.true; same = refl })
+returns-then-end-loads_size-gt-CODE_SIZE c = rw c.refused.ensures (record { closed = closes_full _ _ c.requires (rw c.of-part.ensures at c.originals-originals.ensures.count) (rw c.of-part.ensures at c.originals-originals.ensures.symbols) c.loads_size.ensures.is c.if-end-loads_size-gt-CODE_SIZE.true; same = refl })
 
 pub returns-in_err-index : goal.returns-in_err-index
 returns-in_err-index c =
     rw (passed_on c.from_residual.ensures.1)
-    (record { closed = closes_stops _ _ c.requires (rw c.of-part.ensures at c.captures-n.ensures) (rw c.of-part.ensures at c.loads_size.ensures.is) c.if-end-loads_size-gt-CODE_SIZE.false (rw c.of-part.ensures at c.definitions-locals.ensures) c.in_err-index.ensures; same = refl })
+    (record { closed = closes_stops _ _ c.requires (rw c.of-part.ensures at c.originals-originals.ensures.count) (rw c.of-part.ensures at c.originals-originals.ensures.symbols) c.loads_size.ensures.is c.if-end-loads_size-gt-CODE_SIZE.false (rw c.of-part.ensures at c.definitions-locals.ensures) c.in_err-index.ensures; same = refl })
 
 pub returns : goal.returns
 returns c =
     let d = c.emit_function.ensures in
-    record { closed = closes_on _ _ c.requires (rw c.of-part.ensures at c.captures-n.ensures) (rw c.of-part.ensures at c.loads_size.ensures.is) c.if-end-loads_size-gt-CODE_SIZE.false (rw c.of-part.ensures at c.definitions-locals.ensures) c.in_ok-index.ensures (rw (c.outside-scope.ensures, c.of-part.ensures) at d.done); same = d.same }
+    record { closed = closes_on _ _ c.requires (rw c.of-part.ensures at c.originals-originals.ensures.count) (rw c.of-part.ensures at c.originals-originals.ensures.symbols) c.loads_size.ensures.is c.if-end-loads_size-gt-CODE_SIZE.false (rw c.of-part.ensures at c.definitions-locals.ensures) c.in_ok-index.ensures (rw c.outside-scope.ensures at d.done); same = d.same }

@@ -2,5 +2,5 @@
 use Rattle.step.proofs.Loads.{LoadTurn}
 use Rattle.step.proofs.closing.loads.Given as goal
 
-abbrev pub invariant-loop-i : goal.invariant-loop-i
-invariant-loop-i l = LoadTurn l.place l.part.numbers.now l.n l.initial.scope l.scope l.i
+abbrev pub invariant-loop-code : goal.invariant-loop-code
+invariant-loop-code l = LoadTurn l.place l.originals l.initial.scope l.scope l.code-index

@@ -7,5 +7,5 @@ pub returns : goal.returns
 unfolding free_in
 returns c = record {
   value = refl;
-  part_after = rw (c.entry-v.ensures, c.count-n.ensures);
+  part_after = rw c.push_entry.ensures;
 }

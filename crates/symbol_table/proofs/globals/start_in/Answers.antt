@@ -2,20 +2,20 @@
 use mathlib.Core.Path.{sym, subst}
 use native.Mathlib.Omega.{arith}
 use lib.ListN.{set}
-use Rattle.field.proofs.EachField.{over_new, starts_at, can_begin, over_again, is_before, is_behind, is_over}
+use Rattle.field.proofs.EachField.{begins_there, over_new, starts_at, can_begin, over_again, is_before, is_behind, is_over}
 use Rattle.symbol_table.proofs.Starting.{Begun, items_fields, begun-start, begun_here, begun_addable, begun-step, begun_none}
 use Rattle.symbol_table.proofs.globals.start_in.Goals as goal
 
 pub loop-at-init : goal.loop-at-init
 loop-at-init c =
     let a = c.args in
-    let n = c.new-at-items.ensures in
+    let n = begins_there a.names in
     let e = c.into_iter-at-iterator.ensures.into_iter_gives in
     let k = c.clear_heads.ensures in
     record {
       can = can_begin e n (items_fields c.requires.has_items);
       over = over_new e n;
-      begun = subst (λ at. Begun a.session.now a.from a.end (set c.clear_heads.new.globals 0 0) at) (starts_at e n) (begun-start a.session.now a.from c.clear_heads.new.globals (omega arith) k a.end c.requires.has_items);
+      begun = subst (λ at. Begun a.names.bytes.now a.names.at a.names.end (set c.clear_heads.new.globals 0 0) at) (starts_at e n) (begun-start a.names.bytes.now a.names.at c.clear_heads.new.globals (omega arith) k a.names.end c.requires.has_items);
     }
 
 pub add_global-requires : goal.add_global-requires
@@ -23,7 +23,7 @@ add_global-requires c =
     let l = c.loop-at in
     let a = c.args in
     let n = c.in-Some.ensures.steps in
-    let x = subst (λ at. Begun a.session.now a.from a.end l.globals at) (sym n.here) l.invariant.begun in
+    let x = subst (λ at. Begun a.names.bytes.now a.names.at a.names.end l.globals at) (sym n.here) l.invariant.begun in
     record {
       addable = begun_addable _ _ _ _ _ x _ c.requires.session_len_bound (begun_here _ _ _ _ _ x c.requires.has_items (is_before l.invariant.over n)) c.hash_at-hash.ensures.is;
     }
@@ -33,11 +33,11 @@ loop-at-preserved c =
     let l = c.loop-at in
     let a = c.args in
     let n = c.in-Some.ensures.steps in
-    let x = subst (λ at. Begun a.session.now a.from a.end l.globals at) (sym n.here) l.invariant.begun in
+    let x = subst (λ at. Begun a.names.bytes.now a.names.at a.names.end l.globals at) (sym n.here) l.invariant.begun in
     record {
       can = c.in-Some.ensures.goes.keeps;
       over = over_again l.invariant.over n;
-      begun = subst (λ at. Begun a.session.now a.from a.end c.add_global.new.globals at) (sym (is_behind l.invariant.over n))
+      begun = subst (λ at. Begun a.names.bytes.now a.names.at a.names.end c.add_global.new.globals at) (sym (is_behind l.invariant.over n))
           (begun-step _ _ _ _ _ x _ c.requires.session_len_bound (begun_here _ _ _ _ _ x c.requires.has_items (is_before l.invariant.over n)) c.add_global.ensures);
     }
 

@@ -7,6 +7,6 @@ abbrev pub invariant-loop-at : goal.invariant-loop-at
 invariant-loop-at l =
     record {
       can : (goal.iterator-loop-at).can_next l.at-iterator;
-      over : Over l.session l.end l.at-iterator;
-      begun : Begun l.session l.from l.end l.globals l.at-iterator.at;
+      over : Over l.names.bytes.now l.names.end l.at-iterator;
+      begun : Begun l.names.bytes.now l.names.at l.names.end l.globals l.at-iterator.at;
     }

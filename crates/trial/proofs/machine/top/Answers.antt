@@ -9,5 +9,5 @@ use Rattle.trial.proofs.machine.top.Goals as goal
 pub returns : goal.returns
 returns c = λ st s.
     let w = c.args.work.now in
-    let k = c.kept.ensures (some (top st)) (keeps_as (ap (λ k. get_or w k 0) (omega arith)) (ap (λ k. get_or w k 0) (omega arith)) (top_kept s c.requires.1)) in
+    let k = c.kept.ensures (some (top st)) (keeps_as (ap (λ k. get_or w k 0) (omega arith)) (ap (λ k. get_or w k 0) (omega arith)) (top_kept s c.requires.0)) in
     c.unwrap_or.ensures ∙ ap (λ o. unwrap_or o null) k

@@ -11,6 +11,7 @@ use Rattle.definition.proofs.Bytes.{bytes_slice}
 use Rattle.trial.specs.Value.{integer}
 use Rattle.trial.specs.Run.{integer_in}
 use Rattle.trial.proofs.Words.{cast_law}
+use Rattle.trial.proofs.CodeLoop.{pools}
 use Rattle.trial.proofs.Constants.{nth_stands, nth_none, there, here, is-integer, no_integer}
 use Rattle.trial.proofs.pool.integer_at.Goals as goal
 
@@ -34,8 +35,8 @@ slice_bounds-integer-end c =
     let a = c.args in
     let b = a.program.image.now in
     let n = c.new.ensures in
-    let s = nth_stands b n.image n.at n.end c.requires.is c.in_ok-at.ensures.ran in
-    let t = there b a.program.pool a.k s.loop c.requires.is s.before refl in
+    let s = nth_stands b n.image n.at n.end (pools c.args.program) c.in_ok-at.ensures.ran in
+    let t = there b a.program.pool a.k s.loop (pools c.args.program) s.before refl in
     let m = (is-integer b t.standing c.if-image-at-ne-INTEGER_CONST.false).0 in
     omega (arith, t.behind, t.within, m)
 
@@ -60,4 +61,4 @@ bounds-image-at c =
     let a = c.args in
     let b = a.program.image.now in
     let n = c.new.ensures in
-    (nth_stands b n.image n.at n.end c.requires.is c.in_ok-at.ensures.ran).before
+    (nth_stands b n.image n.at n.end (pools c.args.program) c.in_ok-at.ensures.ran).before

@@ -1,7 +1,7 @@
 -- `trial::scan::scan_marked` meets its contract: an instruction a turn.
 use Rattle.std.proofs.Common.{sym, ap, ◌∙◌}
 use Rattle.opcode.proofs.EachInstruction.{over_new, starts_at, over_again, read_at, all_read}
-use Rattle.trial.proofs.CodeLoop.{one_image, main_parts, not_refused}
+use Rattle.trial.proofs.CodeLoop.{sound, one_image, main_parts, not_refused}
 use Rattle.trial.proofs.Scanning.{scanned, scan_begins, same, scan_ends, not-runnable, too_high, scan_again}
 use Rattle.trial.proofs.scan.scan_marked.Goals as goal
 use Rattle.trial.proofs.scan.scan_marked.Goals.{then-not-runnable-via-then-not-runnable, then-not-runnable-via-else-not-runnable+then-marks-at}
@@ -16,12 +16,9 @@ loop-at-init c =
       so_far = λ h. same (scan_begins a.program.image.now a.program.end a.marks.now h.image (main_parts a.program.image.now h.reads h.ends h.pools).code) (starts_at e n.at);
     }
 
-pub runnable-requires : goal.runnable-requires
-runnable-requires c = let h = c.requires.0 in record { pool = h.image.pool; is = (main_parts c.args.program.image.now h.reads h.ends h.pools).pools }
-
 pub returns-then-not-runnable : goal.returns-then-not-runnable
 returns-then-not-runnable c =
-    let h = c.requires.0 in
+    let h = sound c.args.program in
     let q = main_parts c.args.program.image.now h.reads h.ends h.pools in
     let n = c.in-Some.ensures.steps in
     let r = read_at c.loop-at.invariant.over n in
@@ -47,6 +44,6 @@ loop-at-preserved c =
 
 pub returns : goal.returns
 returns c =
-    let p = c.loop-at.invariant.so_far c.requires.0 in
+    let p = c.loop-at.invariant.so_far (sound c.args.program) in
     let e = all_read c.loop-at.invariant.over c.in-None.ensures.steps (λ l x t. not_refused p.behind l t) in
-    λ m j. scan_ends p e ∙ ap (scanned c.args.marks.now) (one_image c.requires.0.reads j)
+    λ m j. scan_ends p e ∙ ap (scanned c.args.marks.now) (one_image (sound c.args.program).reads j)

@@ -152,7 +152,7 @@ pub walk_call-returns : goal.walk_call-returns
 walk_call-returns t c =
     let d = c.in_ok-walk_expression.ensures in
     let e = c.in_ok-walk_expressions.ensures in
-    let f = c.emit_any.ensures in
+    let f = c.emit_operand.ensures in
     record {
       walks = call_walks c.after_at-args.ensures.is c.after_at-end.ensures.is d.walks (few_walks c.args.at c.count_fields-n.ensures c.if-n-gt-ARGUMENTS_LIMIT.false e.walks f.done);
       same = rw f.same (e.same ∙ d.same);
@@ -382,7 +382,7 @@ pub walk_let-returns : goal.walk_let-returns
 walk_let-returns t c =
     let d = c.in_ok-setting.ensures.defines _ _ c.requires.standing.fine in
     let e = c.in_ok-walk_expression.ensures in
-    let f = c.emit_any.ensures in
+    let f = c.emit_operand.ensures in
     record { walks = let_walks c.after_at-value.ensures.is d e.walks f.done; same = rw f.same e.same }
 
 pub walk_list-count_fields-n-requires : goal.walk_list-count_fields-n-requires
@@ -397,7 +397,7 @@ walk_list-returns-in_err-walk_expressions t c =
 pub walk_list-returns : goal.walk_list-returns
 walk_list-returns t c =
     let d = c.in_ok-walk_expressions.ensures in
-    let e = c.emit_any.ensures in
+    let e = c.emit_operand.ensures in
     record { walks = list_walks _ _ c.after_at-end.ensures.is c.count_fields-n.ensures d.walks e.done; same = rw e.same d.same }
 
 pub walk_prefix-returns-in_err-walk_expression : goal.walk_prefix-returns-in_err-walk_expression

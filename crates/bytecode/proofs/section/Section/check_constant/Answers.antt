@@ -14,29 +14,31 @@ use Rattle.bytecode.proofs.section.Section.check_constant.Goals as goal
 pub returns-in_err-head : goal.returns-in_err-head
 returns-in_err-head c =
     let a = c.args in
-    rw (passed_on c.from_residual.ensures.1) (sym (ap item (unfitting a.self.bytes.now a.self.at a.self.end (is_constant a.form) c.head_where.ensures (λ h r q. search rules) c.in_err-head.was (read_content (byte_at a.self.bytes.now)))))
+    rw (passed_on c.from_residual.ensures.1) (sym (ap item (unfitting a.self.span.bytes.now a.self.span.start a.self.span.end (is_constant a.form) c.head_where.ensures (λ h r q. search rules) c.in_err-head.was (read_content (byte_at a.self.span.bytes.now)))))
 
-pub overflow_add-next-2 : goal.overflow_add-next-2
-overflow_add-next-2 c =
+pub behind-content-requires : goal.behind-content-requires
+behind-content-requires c =
     let a = c.args in
-    let f = fitting a.self.bytes.now a.self.at a.self.end (is_constant a.form) c.head_where.ensures (λ h r q. search rules) c.in_ok-head.was in
+    let f = fitting a.self.span.bytes.now a.self.span.start a.self.span.end (is_constant a.form) c.head_where.ensures (λ h r q. search rules) c.in_ok-head.was in
     omega arith
 
 pub returns-then-head-tags : goal.returns-then-head-tags
 returns-then-head-tags c =
     let a = c.args in
-    let f = fitting a.self.bytes.now a.self.at a.self.end (is_constant a.form) c.head_where.ensures (λ h r q. search rules) c.in_ok-head.was in
-    rw f.reads (sym (plain_constant a.form (byte_at a.self.bytes.now) (a.self.at + 3) c.in_ok-head.head f.is_good (λ i. c.if-head-tags.true (i ∙ sym c.tags.ensures.function))))
+    let f = fitting a.self.span.bytes.now a.self.span.start a.self.span.end (is_constant a.form) c.head_where.ensures (λ h r q. search rules) c.in_ok-head.was in
+    rw (f.reads, c.behind-content.ensures.end) (sym (plain_constant a.form (byte_at a.self.span.bytes.now) (a.self.span.start + 3) c.in_ok-head.head f.is_good (λ i. c.if-head-tags.true (i ∙ sym c.tags.ensures.function))))
 
-pub invariant_of-code : goal.invariant_of-code
-invariant_of-code c =
+pub from-requires : goal.from-requires
+from-requires c =
     let a = c.args in
-    let f = fitting a.self.bytes.now a.self.at a.self.end (is_constant a.form) c.head_where.ensures (λ h r q. search rules) c.in_ok-head.was in
-    let l = function_long a.form (byte_at a.self.bytes.now) (a.self.at + 3) c.in_ok-head.head f.is_good (c.if-head-tags.false ∙ c.tags.ensures.function) in
-    record { within = record { order = omega arith; within = omega arith } }
+    let f = fitting a.self.span.bytes.now a.self.span.start a.self.span.end (is_constant a.form) c.head_where.ensures (λ h r q. search rules) c.in_ok-head.was in
+    let l = function_long a.form (byte_at a.self.span.bytes.now) (a.self.span.start + 3) c.in_ok-head.head f.is_good (c.if-head-tags.false ∙ c.tags.ensures.function) in
+    record { order = omega arith; within = c.behind-content.result.within.within }
 
 pub returns : goal.returns
 returns c =
     let a = c.args in
-    let f = fitting a.self.bytes.now a.self.at a.self.end (is_constant a.form) c.head_where.ensures (λ h r q. search rules) c.in_ok-head.was in
-    rw f.reads (c.check_code.ensures c.in_ok-head.head.len (omega arith) ∙ function_item a.form (byte_at a.self.bytes.now) (a.self.at + 3) c.in_ok-head.head f.is_good (c.if-head-tags.false ∙ c.tags.ensures.function))
+    let b = c.behind-content.ensures in
+    let f = fitting a.self.span.bytes.now a.self.span.start a.self.span.end (is_constant a.form) c.head_where.ensures (λ h r q. search rules) c.in_ok-head.was in
+    let k = c.check_code.ensures c.in_ok-head.head.len (omega arith) in
+    rw f.reads ((rw (c.from.ensures.bytes, c.from.ensures.start, c.from.ensures.end, b.bytes, b.start, b.end) at k) ∙ function_item a.form (byte_at a.self.span.bytes.now) (a.self.span.start + 3) c.in_ok-head.head f.is_good (c.if-head-tags.false ∙ c.tags.ensures.function))

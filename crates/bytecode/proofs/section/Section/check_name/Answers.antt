@@ -12,16 +12,16 @@ use Rattle.bytecode.proofs.section.Section.check_name.Goals as goal
 pub returns-in_err-head : goal.returns-in_err-head
 returns-in_err-head c =
     let a = c.args in
-    rw (passed_on c.from_residual.ensures.1) (sym (ap item (unfitting a.self.bytes.now a.self.at a.self.end is_name c.head_where.ensures (λ h r q. search rules) c.in_err-head.was (name_content (byte_at a.self.bytes.now)))))
+    rw (passed_on c.from_residual.ensures.1) (sym (ap item (unfitting a.self.span.bytes.now a.self.span.start a.self.span.end is_name c.head_where.ensures (λ h r q. search rules) c.in_err-head.was (name_content (byte_at a.self.span.bytes.now)))))
 
 pub overflow_add-result-2 : goal.overflow_add-result-2
 overflow_add-result-2 c =
     let a = c.args in
-    let f = fitting a.self.bytes.now a.self.at a.self.end is_name c.head_where.ensures (λ h r q. search rules) c.in_ok-head.was in
+    let f = fitting a.self.span.bytes.now a.self.span.start a.self.span.end is_name c.head_where.ensures (λ h r q. search rules) c.in_ok-head.was in
     omega arith
 
 pub returns : goal.returns
 returns c =
     let a = c.args in
-    let f = fitting a.self.bytes.now a.self.at a.self.end is_name c.head_where.ensures (λ h r q. search rules) c.in_ok-head.was in
+    let f = fitting a.self.span.bytes.now a.self.span.start a.self.span.end is_name c.head_where.ensures (λ h r q. search rules) c.in_ok-head.was in
     rw f.reads

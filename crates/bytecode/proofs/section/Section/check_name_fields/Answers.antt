@@ -11,5 +11,5 @@ use Rattle.bytecode.proofs.section.Section.check_name_fields.Goals as goal
 pub returns : goal.returns
 returns c =
     let a = c.args in
-    c.check_items.ensures (λ at. item (read_name_field (byte_at a.self.bytes.now) at a.self.end)) (λ at w r h p. search rules)
-    ∙ counted-items (read_name_field (byte_at a.self.bytes.now)) a.self.end a.most a.self.at [] refl
+    c.check_items.ensures (λ at. item (read_name_field (byte_at a.self.span.bytes.now) at a.self.span.end)) (λ at w r h p. search rules)
+    ∙ counted-items (read_name_field (byte_at a.self.span.bytes.now)) a.self.span.end a.most a.self.span.start [] refl

@@ -13,16 +13,16 @@ use Rattle.bytecode.proofs.section.Section.check_names.Goals as goal
 pub returns-in_err-head : goal.returns-in_err-head
 returns-in_err-head c =
     let a = c.args in
-    rw (passed_on c.from_residual.ensures.1) (sym (ap checked (unfitting a.self.bytes.now a.self.at (a.self.end) (tagged a.tag) c.head_where.ensures (λ h r q. search rules) c.in_err-head.was (names_content (byte_at a.self.bytes.now) a.most))))
+    rw (passed_on c.from_residual.ensures.1) (sym (ap checked (unfitting a.self.span.bytes.now a.self.span.start (a.self.span.end) (tagged a.tag) c.head_where.ensures (λ h r q. search rules) c.in_err-head.was (names_content (byte_at a.self.span.bytes.now) a.most))))
 
 pub behind-requires : goal.behind-requires
 behind-requires c =
     let a = c.args in
-    let f = fitting a.self.bytes.now a.self.at (a.self.end) (tagged a.tag) c.head_where.ensures (λ h r q. search rules) c.in_ok-head.was in
+    let f = fitting a.self.span.bytes.now a.self.span.start (a.self.span.end) (tagged a.tag) c.head_where.ensures (λ h r q. search rules) c.in_ok-head.was in
     omega arith
 
 pub returns : goal.returns
 returns c =
     let a = c.args in
-    let f = fitting a.self.bytes.now a.self.at (a.self.end) (tagged a.tag) c.head_where.ensures (λ h r q. search rules) c.in_ok-head.was in
-    rw f.reads (rw (c.behind.ensures.bytes, c.behind.ensures.at, c.behind.ensures.end) at c.check_name_fields.ensures)
+    let f = fitting a.self.span.bytes.now a.self.span.start (a.self.span.end) (tagged a.tag) c.head_where.ensures (λ h r q. search rules) c.in_ok-head.was in
+    rw f.reads (rw (c.behind.ensures.bytes, c.behind.ensures.start, c.behind.ensures.end) at c.check_name_fields.ensures)

@@ -16,25 +16,25 @@ use Rattle.bytecode.proofs.section.Section.check_pool.Goals as goal
 pub returns-in_err-head : goal.returns-in_err-head
 returns-in_err-head c =
     let a = c.args in
-    rw (passed_on c.from_residual.ensures.1) (sym (ap checked (unfitting a.self.bytes.now a.self.at a.self.end is_pool c.head_where.ensures (λ h r q. search rules) c.in_err-head.was (pool_content_in (byte_at a.self.bytes.now) a.form))))
+    rw (passed_on c.from_residual.ensures.1) (sym (ap checked (unfitting a.self.span.bytes.now a.self.span.start a.self.span.end is_pool c.head_where.ensures (λ h r q. search rules) c.in_err-head.was (pool_content_in (byte_at a.self.span.bytes.now) a.form))))
 
 pub behind-requires : goal.behind-requires
 behind-requires c =
     let a = c.args in
-    let f = fitting a.self.bytes.now a.self.at a.self.end is_pool c.head_where.ensures (λ h r q. search rules) c.in_ok-head.was in
+    let f = fitting a.self.span.bytes.now a.self.span.start a.self.span.end is_pool c.head_where.ensures (λ h r q. search rules) c.in_ok-head.was in
     omega arith
 
 pub check_items-requires-clause-ahead : goal.check_items-requires-clause-ahead
 check_items-requires-clause-ahead c =
     let a = c.args in
-    let after = c.behind.result.end in
-    λ at next w h p. item_ends (read_const_in a.form (byte_at c.behind.result.bytes.now)) at after (const_ends_in (byte_at c.behind.result.bytes.now) at after a.form) (search rules)
+    let after = c.behind.result.span.end in
+    λ at next w h p. item_ends (read_const_in a.form (byte_at c.behind.result.span.bytes.now)) at after (const_ends_in (byte_at c.behind.result.span.bytes.now) at after a.form) (search rules)
 
 pub returns : goal.returns
 returns c =
     let a = c.args in
-    let f = fitting a.self.bytes.now a.self.at a.self.end is_pool c.head_where.ensures (λ h r q. search rules) c.in_ok-head.was in
+    let f = fitting a.self.span.bytes.now a.self.span.start a.self.span.end is_pool c.head_where.ensures (λ h r q. search rules) c.in_ok-head.was in
     let s = c.behind.result in
-    rw (f.reads, sym c.behind.ensures.end, sym c.behind.ensures.at, sym c.behind.ensures.bytes)
-    (c.check_items.ensures (λ at. item (read_const_in a.form (byte_at s.bytes.now) at s.end)) (λ at w r h p. search rules)
-    ∙ counted-items (read_const_in a.form (byte_at s.bytes.now)) s.end constants_limit s.at [] refl)
+    rw (f.reads, sym c.behind.ensures.end, sym c.behind.ensures.start, sym c.behind.ensures.bytes)
+    (c.check_items.ensures (λ at. item (read_const_in a.form (byte_at s.span.bytes.now) at s.span.end)) (λ at w r h p. search rules)
+    ∙ counted-items (read_const_in a.form (byte_at s.span.bytes.now)) s.span.end constants_limit s.span.start [] refl)

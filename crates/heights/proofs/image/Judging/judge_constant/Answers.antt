@@ -10,6 +10,6 @@ returns c =
     let a = c.args in
     let e = c.if-bytes-start-ne-FUNCTION_CONST.false in
     record {
-      judges = λ x s. let k = chunk a.constant.bytes.now s e in chunk_judges a.constant.bytes.now s e a.self.now.heights.now a.before a.self.now.output.now (c.judge_chunk.ensures.judges k.code k.stands);
+      judges = λ x s. let k = chunk a.constant.bytes.now s e in chunk_judges a.constant.bytes.now s e a.before a.self.now.output.now (c.judge_chunk.ensures.judges k.code k.stands);
       lent = c.judge_chunk.ensures.lent;
     }

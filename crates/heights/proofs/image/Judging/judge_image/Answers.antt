@@ -1,11 +1,9 @@
 -- `judge_image` meets its contract: main, then the pool.
 use Rattle.definition.proofs.Slices.{are_bytes}
 use native.Mathlib.Omega.{arith}
-use mathlib.Core.Path.{sym, ap, subst, ◌∙◌}
+use mathlib.Core.Path.{ap, ◌∙◌}
 use lib.ListN.{length}
-use mathlib.Core.List.{[]}
 use Rattle.listing.proofs.Images.{has_head, code_in, pool_in}
-use Rattle.heights.specs.Chunks.{SoFar, PoolJudges}
 use Rattle.heights.proofs.Whole.{main_ready, main_fails, main_passes, pool_ready}
 use Rattle.heights.proofs.image.Judging.judge_image.Goals as goal
 
@@ -24,22 +22,20 @@ judge_pool-requires c =
     let b = are_bytes c.type_inv.image in
     let i = c.requires.stands.is in
     let j = c.judge_chunk.ensures in
-    pool_ready a.image.now b i c.of.ensures a.self.now.heights.now a.self.now.output.now (j.judges _ (code_in a.image.now i c.of.ensures)) c.in-Some.is 65536 (omega arith) (j.lent.marks ∙ ap length c.requires.blank)
+    pool_ready a.image.now b i c.of.ensures a.heights.now a.self.now.output.now (j.judges _ (code_in a.image.now i c.of.ensures)) c.in-Some.is 65536 (omega arith) (j.lent.marks ∙ ap length c.requires.blank)
 
 pub returns-in_default-clause-judges : goal.returns-in_default-clause-judges
 returns-in_default-clause-judges c =
     let a = c.args in
     let b = are_bytes c.type_inv.image in
     λ m i.
-    main_fails a.image.now b i c.of.ensures a.self.now.heights.now a.self.now.output.now (c.judge_chunk.ensures.judges m.code (code_in a.image.now i c.of.ensures)) c.in_default.is
+    main_fails a.image.now b i c.of.ensures a.heights.now a.self.now.output.now (c.judge_chunk.ensures.judges m.code (code_in a.image.now i c.of.ensures)) c.in_default.is
 
 pub returns-clause-judges : goal.returns-clause-judges
 returns-clause-judges c =
     let a = c.args in
     let b = are_bytes c.type_inv.image in
     let d = c.of.ensures in
-    let h = c.judge_chunk.ensures.lent.heights in
     λ m i.
-    let s = main_passes a.image.now b i d a.self.now.heights.now a.self.now.output.now (c.judge_chunk.ensures.judges m.code (code_in a.image.now i d)) c.in-Some.is in
-    subst (λ hs. PoolJudges hs m m.pool a.self.now.output.now c.judge_pool.result c.judge_pool.new.self.output.now) h
-    (c.judge_pool.ensures.judges m.pool (pool_in a.image.now i d) m a.self.now.output.now (subst (λ hs. SoFar hs m [] a.self.now.output.now c.judge_chunk.new.self.output.now c.in-Some.main) (sym h) s))
+    c.judge_pool.ensures.judges m.pool (pool_in a.image.now i d) a.heights.now m a.self.now.output.now
+    (main_passes a.image.now b i d a.heights.now a.self.now.output.now (c.judge_chunk.ensures.judges m.code (code_in a.image.now i d)) c.in-Some.is)

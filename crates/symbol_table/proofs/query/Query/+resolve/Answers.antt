@@ -14,14 +14,11 @@ resolve_outermost-requires-clause-outside t c = outside_standing _ c.requires.st
 pub returns-then-level-eq0 : goal.returns-then-level-eq0
 returns-then-level-eq0 t c = resolved_outermost _ _ _ _ _ _ c.requires.standing.good _ c.if-level-eq0.true c.resolve_outermost.ensures.crossed c.resolve_outermost.ensures.resolved
 
-pub count-n-requires : goal.count-n-requires
-count-n-requires t c = rw c.of.ensures (good_here _ _ _ _ c.requires.standing.good (c.args.level - 1) (omega arith)).table.sized
-
 pub known_for-outside-requires-clause-outside : goal.known_for-outside-requires-clause-outside
 known_for-outside-requires-clause-outside t c = outside_standing _ c.requires.standing
 
 pub look_at-requires-clause-opened : goal.look_at-requires-clause-opened
-look_at-requires-clause-opened t c = opened_standing _ c.requires.standing (omega arith) (rw c.of.ensures at c.count-n.ensures)
+look_at-requires-clause-opened t c = opened_standing _ c.requires.standing (omega arith) (rw c.of.ensures at c.entries-n.ensures)
 
 pub returns-in-Some : goal.returns-in-Some
 returns-in-Some t c =

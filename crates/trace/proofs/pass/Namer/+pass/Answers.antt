@@ -11,6 +11,7 @@ use mathlib.Core.Path.{refl, sym, ◌∙◌}
 use borrow.Author.Rules.{rules}
 use native.Mathlib.Omega.{arith}
 use Rattle.trace.proofs.pass.Namer.+pass.Goals as goal
+use Rattle.trace.proofs.pass.Namer.+pass.Goals.{name_function-then-level-ge-NESTING_LIMIT-via-then-level-ge-NESTING_LIMIT, name_function-then-level-ge-NESTING_LIMIT-via-else-level-ge-NESTING_LIMIT+then-k-gt-ARGUMENTS_LIMIT}
 
 pub name_field-bounds-tree-at : goal.name_field-bounds-tree-at
 name_field-bounds-tree-at t c = node_first c.requires.some
@@ -58,10 +59,11 @@ pub name_function-count_fields-k-requires : goal.name_function-count_fields-k-re
 name_function-count_fields-k-requires t c = names_in_row (function_params c.after_at-params.ensures.is c.after_at-body.ensures.is c.requires.some)
 
 pub name_function-returns-then-level-ge-NESTING_LIMIT : goal.name_function-returns-then-level-ge-NESTING_LIMIT
-name_function-returns-then-level-ge-NESTING_LIMIT t c = record { passes = nested_passes c.after_at-params.ensures.is c.after_at-body.ensures.is c.count_fields-k.ensures c.requires.standing c.if-level-ge-NESTING_LIMIT.true; table = refl; log = refl; same = refl }
-
-pub name_function-returns-then-k-gt-ARGUMENTS_LIMIT : goal.name_function-returns-then-k-gt-ARGUMENTS_LIMIT
-name_function-returns-then-k-gt-ARGUMENTS_LIMIT t c = record { passes = many_passes c.after_at-params.ensures.is c.after_at-body.ensures.is c.count_fields-k.ensures c.requires.standing c.if-level-ge-NESTING_LIMIT.false c.if-k-gt-ARGUMENTS_LIMIT.true; table = refl; log = refl; same = refl }
+name_function-returns-then-level-ge-NESTING_LIMIT t c =
+    elim c.then-level-ge-NESTING_LIMIT.branch [
+      | name_function-then-level-ge-NESTING_LIMIT-via-then-level-ge-NESTING_LIMIT w ↦ record { passes = nested_passes c.after_at-params.ensures.is c.after_at-body.ensures.is c.count_fields-k.ensures c.requires.standing w.if-level-ge-NESTING_LIMIT.true; table = refl; log = refl; same = refl }
+      | name_function-then-level-ge-NESTING_LIMIT-via-else-level-ge-NESTING_LIMIT+then-k-gt-ARGUMENTS_LIMIT w ↦ record { passes = many_passes c.after_at-params.ensures.is c.after_at-body.ensures.is c.count_fields-k.ensures c.requires.standing w.if-level-ge-NESTING_LIMIT.false w.if-k-gt-ARGUMENTS_LIMIT.true; table = refl; log = refl; same = refl }
+    ]
 
 pub name_function-new-requires : goal.name_function-new-requires
 name_function-new-requires t c = record {

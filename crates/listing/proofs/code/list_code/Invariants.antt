@@ -1,7 +1,0 @@
--- `listing::code::list_code` meets its contract: a line a turn; what is left decides.
-use Rattle.opcode.proofs.EachInstruction.{Over}
-use Rattle.listing.proofs.Lines.{CodeLoop}
-use Rattle.listing.proofs.code.list_code.Given as goal
-
-abbrev pub invariant-loop-place : goal.invariant-loop-place
-invariant-loop-place l = record { over : Over l.code.bytes.now l.code.end l.place-iterator; so_far : CodeLoop l.code.bytes.now l.code.start l.code.end l.initial.output l.at l.output l.next l.place-iterator.at }

@@ -1,0 +1,17 @@
+-- `listing::measure::Piece::measure_function` meets its contract: its three numbers, and its code decides.
+use Prim.Native.Nat.{◌+◌, ◌-◌}
+use mathlib.Core.Path.{◌≡◌, ap, ◌∙◌}
+use native.Mathlib.Omega.{arith}
+use Rattle.definition.specs.Basic.{byte_at}
+use Rattle.definition.specs.Decode.{read_code}
+use Rattle.listing.specs.Measured.{code_measured}
+use Rattle.listing.proofs.Measures.{function_good}
+use Rattle.listing.proofs.measure.Piece.measure_function.Goals as goal
+
+pub returns-clause-is : goal.returns-clause-is
+returns-clause-is c =
+    let a = c.args.self in
+    let len = a.end - a.at in
+    let e : a.end ≡ a.at + len = omega (arith, a.part.order) in
+    let k = c.measure_code.ensures.is len (omega arith) ∙ ap (λ n. code_measured (read_code (byte_at a.image.now) len (a.at + 3) n)) e in
+    function_good a.image.now a.at len k c.in_ok-measured.was (omega arith) c.word-locals.ensures.is c.wide-parameters.ensures.is c.function_length.ensures.is

@@ -1,5 +1,0 @@
--- `listing::text::put_digits` meets its contract: the measure is how many digits there may be.
-use Rattle.listing.proofs.text.+put_digits.Given as goal
-
-abbrev pub decreases-put_digits : goal.decreases-put_digits
-decreases-put_digits l = l.most

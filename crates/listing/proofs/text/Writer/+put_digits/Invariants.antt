@@ -1,0 +1,5 @@
+-- `listing::text::Writer::put_digits` meets its contract: the measure is how many digits there may be.
+use Rattle.listing.proofs.text.Writer.+put_digits.Given as goal
+
+abbrev pub decreases-put_digits : goal.decreases-put_digits
+decreases-put_digits l = l.most
