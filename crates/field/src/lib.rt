@@ -68,3 +68,56 @@ pub fn content_at(bytes: &[u8], at: usize) -> &[u8]
     let end = after_at(bytes, at);
     &bytes[from..end]
 }
+
+// A field that stands whole in some bytes, by its offset.
+#[derive(Clone, Copy)]
+pub struct Field<'a> {
+    pub bytes: &'a [u8],
+    pub at: usize,
+    pub ghost whole: { Whole bytes.now at },
+}
+
+impl<'a> Field<'a> {
+    // The offset after it.
+    #[inline(always)]
+    pub fn after(self) -> usize
+        ensures is { result ≡ after self.entry.bytes.now self.entry.at }
+        ensures near { result < self.entry.at + 65539 }
+    {
+        after_at(self.bytes, self.at)
+    }
+
+    // Its content, a part of the bytes.
+    #[inline(always)]
+    pub fn content(self) -> &'a [u8]
+        ensures { result.now ≡ content self.entry.bytes.now self.entry.at }
+    {
+        content_at(self.bytes, self.at)
+    }
+
+    // The first field of its content.
+    #[inline(always)]
+    pub fn first(self) -> Field<'a>
+        requires { Whole self.bytes.now (self.at + 3) }
+        ensures bytes { result.bytes.now ≡ self.entry.bytes.now }
+        ensures at { result.at ≡ self.entry.at + 3 }
+    {
+        Field {
+            bytes: self.bytes,
+            at: self.at + 3,
+        }
+    }
+
+    // The field behind it.
+    #[inline(always)]
+    pub fn next(self) -> Field<'a>
+        requires { Whole self.bytes.now (after self.bytes.now self.at) }
+        ensures bytes { result.bytes.now ≡ self.entry.bytes.now }
+        ensures at { result.at ≡ after self.entry.bytes.now self.entry.at }
+    {
+        Field {
+            bytes: self.bytes,
+            at: self.after(),
+        }
+    }
+}

@@ -10,14 +10,13 @@ use Rattle.definition.specs.Number.{refusal, output_short, bad_heights}
 use Rattle.definition.specs.Bytecode.{Image}
 use Rattle.definition.specs.Decode.{Decoded, decoded, malformed, read_image}
 use Rattle.definition.specs.Output.{over}
-use Rattle.definition.specs.Valid.{AreBytes}
 use Rattle.definition.specs.declared.reason.Refusal.{Refusal}
 use Rattle.definition.specs.Answer.{Answer}
 use Rattle.std.specs.Prelude.{Ok, Err, Result}
-use Rattle.definition.proofs.Images.{read-image, write-image}
 use Rattle.session.proofs.Stores.{sets_over}
 use Rattle.bytecode.specs.Checked.{image_answer}
 use Rattle.listing.specs.Reads.{ImageAt, HasImage}
+use Rattle.listing.proofs.Images.{image_parts}
 use Rattle.heights.specs.Pass.{Verdict, judged, verdict_answer, verdict_into, heights_answer, heights_into}
 use Rattle.heights.specs.Chunks.{pool_answer, PoolJudges}
 use Rattle.heights.specs.declared.image.BadChunk.{BadChunk}
@@ -29,13 +28,11 @@ empty-part (x ∷ l) o e = absurd (omega arith)
 
 -- an image that was checked
 module _ (b : Bytes) {x : Result ℕ Refusal} (e : x ≡ image_answer (read_image b)) where
-  pub sound : {k : ℕ} → x ≡ Ok k → AreBytes b → HasImage b
-  sound {k} s a = go (read_image b) refl (sym e ∙ s)
+  pub sound : {k : ℕ} → x ≡ Ok k → HasImage b
+  sound {k} s = go (read_image b) refl (sym e ∙ s)
     where
       go : (d : Decoded Image) → read_image b ≡ d → image_answer d ≡ Ok k → HasImage b
-      go (decoded m n) h i =
-          let w = write-image b a h in
-          record { image = m; is = record { reads = ap read_image (sym w.bytes) ∙ read-image m w.sound ∙ ap (λ b. decoded m (length b)) w.bytes } }
+      go (decoded m n) h i = record { image = m; is = record { reads = h ∙ ap (decoded m) (image_parts b h).1 } }
       go (malformed p) h i = let z : ◌≡◌ {A = ℕ} 0 1 = cc in absurd (omega arith)
 
   pub wrong : {q : Refusal} → x ≡ Err q → (hs out : List ℕ) → (Err q ≡ heights_answer (read_image b) hs (length out)) × (out ≡ heights_into (read_image b) hs out)

@@ -10,7 +10,6 @@ use lib.Seq.{drop-drop}
 use borrow.Author.Tests.{le-leb, lt-leb}
 use Rattle.definition.specs.Basic.{Bytes, byte_at, pick}
 use Rattle.definition.specs.Number.{refusal, output_short}
-use Rattle.definition.specs.Valid.{AreBytes}
 use Rattle.definition.specs.Limit.{constants_limit}
 use Rattle.definition.specs.Tag.{tag_function_const}
 use Rattle.definition.specs.Bytecode.{Code, Const, Image}
@@ -20,18 +19,19 @@ use Rattle.std.specs.Prelude.{Ok, Err, Result}
 use Rattle.opcode.specs.Decoding.{read_before, decode_answer, found as instruction_found}
 use Rattle.opcode.specs.declared.Instruction.{Instruction}
 use Rattle.opcode.specs.declared.Decoded.{Decoded as ReadInstruction}
-use Rattle.listing.specs.Reads.{CodeAt, PoolAt, ImageAt}
+use Rattle.listing.specs.Reads.{CodeAt, CodeIn, PoolAt, ImageAt}
+use Rattle.bytecode.specs.declared.span.Span.{Span}
 use Rattle.bytecode.specs.declared.span.Parts.{Parts}
 use Rattle.bytecode.specs.Parts.{Divides}
-use Rattle.listing.proofs.Images.{code_in, pool_in}
+use Rattle.listing.proofs.Images.{image_short, code_in, pool_in}
 use Rattle.listing.proofs.Items.{Reading, begins, ends, Next, next}
 use Rattle.listing.proofs.Lines.{whole-read}
 use Rattle.heights.specs.Judgement.{instructions, counted}
 use Rattle.heights.specs.Chunks.{Standing}
 use Rattle.heights.specs.Proposal.{Proposed, FlowSpot, FlowReady, ConstantFlow, PoolFlow, proposal_answer, proposal_size}
 use Rattle.opcode.proofs.Decoding.{before_within, answered, unanswered}
-use Rattle.heights.proofs.Whole.{image_short, code_short}
-use Rattle.heights.proofs.Judges.{standing_head, no_instructions, chunk, Turn}
+use Rattle.heights.proofs.Whole.{code_short}
+use Rattle.heights.proofs.Judges.{IsCode, standing_head, no_instructions, chunk, Turn}
 
 -- what stays from an index on stays from a later one on
 pub stays_later : (o o₀ : List ℕ) (i j : ℕ) → i ≤ j → drop i o ≡ drop i o₀ → drop j o ≡ drop j o₀
@@ -180,15 +180,18 @@ module _ (b : Bytes) {l : List ℕ} {at next first : ℕ} (h : ConstantFlow l b 
       let z = no_instructions b s n in
       record { many = omega arith; few = omega (arith, h.few, standing_head b s); rest = refl }
 
-  -- a function's chunk
-  pub chunk_flow : byte_at b at ≡ tag_function_const → FlowReady l b (at + 3 + 3) next first
-  chunk_flow e =
-      let c = chunk b h.stands.is e in
-      record { code = record { code = c.code; is = c.stands }; room = h.room; short = h.short; few = omega (arith, h.few) }
+-- a function's chunk
+module _ {s k : Span} (f : IsCode s k) (first : ℕ) where
+  pub chunk_flow : {l : List ℕ} → ConstantFlow l s.bytes.now s.start s.end first → FlowReady l k.bytes.now k.start k.end first
+  chunk_flow {l} h =
+      let c = chunk s.bytes.now h.stands.is f.tag in
+      subst (λ k. FlowReady l k.bytes.now k.start k.end first) (sym f.is) (record { code = record { code = c.code; is = c.stands }; room = h.room; short = h.short; few = omega (arith, h.few) })
 
-  pub chunk_proposed : (e : byte_at b at ≡ tag_function_const) {o o₁ : List ℕ} {r : ℕ} → ((c : Code) → CodeAt b (at + 3 + 3) next c → Proposed (first + length c) next o r o₁)
-      → (x : Const) → Standing b at next x → Proposed (first + instructions x) next o r o₁
-  chunk_proposed e {o} {o₁} {r} f x s = let c = chunk b s e in subst (λ x. Proposed (first + instructions x) next o r o₁) c.is (f c.code c.stands)
+  pub chunk_proposed : {o o₁ : List ℕ} {r : ℕ} → ((c : Code) → CodeIn k c → Proposed (first + length c) k.end o r o₁) → (x : Const) → Standing s.bytes.now s.start s.end x → Proposed (first + instructions x) s.end o r o₁
+  chunk_proposed {o} {o₁} {r} p x h =
+      let c = chunk s.bytes.now h f.tag in
+      let p = subst (λ k. CodeIn k c.code → Proposed (first + length c.code) k.end o r o₁) f.is (p c.code) in
+      subst (λ x. Proposed (first + instructions x) s.end o r o₁) c.is (p c.stands)
 
 -- An image
 
@@ -197,10 +200,10 @@ main_counted : (m : Image) (cs : List Const) → length m.code ≤ counted m cs
 main_counted m [] = omega arith
 main_counted m (x ∷ cs) = let h = main_counted m cs in omega arith
 
-module _ (b : Bytes) (a : AreBytes b) {m : Image} (i : ImageAt b m) {p : Parts} (d : Divides b p) where
+module _ (b : Bytes) {m : Image} (i : ImageAt b m) {p : Parts} (d : Divides b p) where
   pub main_flow : (n : ℕ) → 65536 ≤ n → {l : List ℕ} {count : ℕ} → l ≡ replicate n 0 → count ≡ 0 → FlowReady l p.code.bytes.now p.code.start p.code.end count
   main_flow n h q z =
-      let s = code_short b a i d in
+      let s = code_short b i d in
       record {
         code = record { code = m.code; is = code_in b i d };
         room = omega (arith, ap length q, length-replicate {A = ℕ} n 0);
@@ -210,7 +213,7 @@ module _ (b : Bytes) (a : AreBytes b) {m : Image} (i : ImageAt b m) {p : Parts} 
 
   pub pool_flow : (l : List ℕ) → 65536 ≤ length l → {n r : ℕ} {o o₁ : List ℕ} → Proposed n p.code.end o r o₁ → PoolFlow l p.pool.bytes.now p.pool.start p.pool.end r
   pool_flow l h q =
-      let s = image_short b a i in
+      let s = image_short b i in
       record {
         pool = record { pool = m.pool; is = pool_in b i d };
         room = omega (arith, d.last);

@@ -13,9 +13,11 @@ use Rattle.definition.specs.Tag.{tag_integer_const, tag_string_const, tag_functi
 use Rattle.definition.specs.Field.{head, bytes}
 use Rattle.definition.specs.Bytecode.{Code, Const}
 use Rattle.definition.specs.Decode.{decoded, const_head, read_content, read_const}
-use Rattle.definition.proofs.Basic.{both_true}
+use Rattle.definition.proofs.Basic.{both_true, picked_some}
+use Rattle.bytecode.specs.declared.span.Span.{Span}
+use Rattle.bytecode.specs.Parts.{function_code}
 use Rattle.bytecode.proofs.Fields.{Good, head_read, const_end, const_ends}
-use Rattle.listing.specs.Reads.{CodeAt, PoolAt, function_of}
+use Rattle.listing.specs.Reads.{CodeAt, CodeIn, PoolAt, function_of}
 use Rattle.listing.proofs.Items.{Reading, next}
 use Rattle.listing.proofs.Constants.{function_is}
 use Rattle.heights.specs.Judgement.{instructions}
@@ -27,6 +29,19 @@ use Rattle.heights.specs.Chunks.{comes_to, top_answer, top_into, constant_answer
 use Rattle.heights.specs.declared.chunk.ChunkTop.{ChunkTop}
 use Rattle.heights.specs.declared.image.Progress.{Progress}
 use Rattle.std.specs.Prelude.{Option, Some, None}
+
+-- a constant that is a function, and its code
+pub record IsCode (s k : Span) : Type 0 where
+  pub tag : byte_at s.bytes.now s.start ≡ tag_function_const
+  pub is : k ≡ record { bytes = s.bytes; start = s.start + 3 + 3; end = s.end }
+
+-- whether it is one
+module _ (s : Span) {r : Option Span} (f : r ≡ function_code s) where
+  pub code_of : {k : Span} → r ≡ Some k → IsCode s k
+  code_of e =
+      let g = picked_some (eqb (byte_at s.bytes.now s.start) tag_function_const) (sym e ∙ f) in
+      let n : s.start + 6 ≡ s.start + 3 + 3 = omega arith in
+      record { tag = eqb-true (byte_at s.bytes.now s.start) tag_function_const g.0; is = g.1 ∙ ap (λ n. record { bytes = s.bytes; start = n; end = s.end }) n }
 
 -- what fails does not go on
 pub not_on : {p : ℕ × List ℕ} {A : Type 0} → None ≡ Some p → A
@@ -89,7 +104,7 @@ module _ (b : Bytes) {at next : ℕ} {x : Const} (s : Standing b at next x) wher
       let k : Blank l (suc next) = blank_later (let w = standing_head in omega arith) e in
       no_function n (λ x. Judges next (constant_answer x p) (constant_into x p out) (Some p) out l) (λ c. record { answers = refl; stores = refl; blank = λ _ _. k }) (λ c. record { answers = refl; stores = refl; blank = λ _ _. k })
 
-  -- a function's chunk
+  -- the chunk of a function
   module _ (e : byte_at b at ≡ tag_function_const) where
     pub record Chunk : Type 0 where
       pub code : Code
@@ -101,17 +116,24 @@ module _ (b : Bytes) {at next : ℕ} {x : Const} (s : Standing b at next x) wher
         let f = function_is b at s.end s.constant (λ i. omega arith) refl (λ i. omega arith) s.constant.within in
         record { code = f.code; stands = subst (λ n. CodeAt b (at + 3 + 3) n f.code) (sym s.sized) f.stands; is = f.is }
 
-    pub chunk_judges : (p : Progress) (out : List ℕ) {out₁ l : List ℕ} {r : Option Progress}
-        → Judges next (top_answer (top_of p.heights.now Function 0 chunk.code) p.chunks (drop (length chunk.code) p.heights.now)) (top_into (top_of p.heights.now Function 0 chunk.code) p.chunks out) r out₁ l
-        → Judges next (constant_answer x p) (constant_into x p out) r out₁ l
-    chunk_judges p out {out₁} {l} {r} j = subst (λ x. Judges next (constant_answer x p) (constant_into x p out) r out₁ l) chunk.is j
+-- a function's chunk
+module _ {s k : Span} (f : IsCode s k) where
+  -- it can be judged
+  pub chunk_ready : (l : List ℕ) {chunks : ℕ} → ConstantReady l s.bytes.now s.start s.end chunks → ChunkReady l k.bytes.now k.start k.end × (chunks < 131072)
+  chunk_ready l {chunks} h =
+      let c = chunk s.bytes.now h.stands.is f.tag in
+      let w = standing_head s.bytes.now h.stands.is in
+      subst (λ k. ChunkReady l k.bytes.now k.start k.end × (chunks < 131072)) (sym f.is)
+      (record { code = record { code = c.code; is = c.stands }; room = h.room; short = h.short; blank = blank_later (omega arith) h.blank }, omega (arith, h.few, h.short))
 
--- a function's chunk can be judged
-pub chunk_ready : (b : Bytes) (l : List ℕ) {at next chunks : ℕ} → ConstantReady l b at next chunks → byte_at b at ≡ tag_function_const → ChunkReady l b (at + 3 + 3) next × (chunks < 131072)
-chunk_ready b l h e =
-    let c = chunk b h.stands.is e in
-    let w = standing_head b h.stands.is in
-    (record { code = record { code = c.code; is = c.stands }; room = h.room; short = h.short; blank = blank_later (omega arith) h.blank }, omega (arith, h.few, h.short))
+  -- and is what the constant answers
+  pub chunk_judges : (p : Progress) (out : List ℕ) {out₁ l : List ℕ} {r : Option Progress}
+      → ((c : Code) → CodeIn k c → Judges k.end (top_answer (top_of p.heights.now Function 0 c) p.chunks (drop (length c) p.heights.now)) (top_into (top_of p.heights.now Function 0 c) p.chunks out) r out₁ l)
+      → (x : Const) → Standing s.bytes.now s.start s.end x → Judges s.end (constant_answer x p) (constant_into x p out) r out₁ l
+  chunk_judges p out {out₁} {l} {r} j x h =
+      let c = chunk s.bytes.now h f.tag in
+      let j = subst (λ k. CodeIn k c.code → Judges k.end (top_answer (top_of p.heights.now Function 0 c.code) p.chunks (drop (length c.code) p.heights.now)) (top_into (top_of p.heights.now Function 0 c.code) p.chunks out) r out₁ l) f.is (j c.code) in
+      subst (λ x. Judges s.end (constant_answer x p) (constant_into x p out) r out₁ l) c.is (j c.stands)
 
 -- the constant at an offset of a pool, behind some
 pub record Turn (b : Bytes) (start end at : ℕ) (pool : List Const) (after : ℕ) : Type 0 where

@@ -7,13 +7,10 @@ use lib.ListN.{length, drop, replicate, length-replicate}
 use Rattle.definition.specs.Basic.{Bytes}
 use Rattle.definition.specs.Limit.{image_limit}
 use Rattle.definition.specs.Bytecode.{Const, Image}
-use Rattle.definition.specs.Valid.{AreBytes}
-use Rattle.definition.proofs.Images.{write-image}
-use Rattle.definition.proofs.Places.{image_within}
 use Rattle.listing.specs.Reads.{ImageAt}
 use Rattle.bytecode.specs.declared.span.Parts.{Parts}
 use Rattle.bytecode.specs.Parts.{Divides}
-use Rattle.listing.proofs.Images.{parts, code_in, pool_in}
+use Rattle.listing.proofs.Images.{parts, image_short, code_in, pool_in}
 use Rattle.heights.specs.declared.chunk.Kind.TheVariants.{Main}
 use Rattle.heights.specs.Pass.{Top, top_of, Verdict, also, judged}
 use Rattle.heights.specs.Marks.{ChunkReady}
@@ -29,15 +26,11 @@ judged_main : (hs : List ℕ) (m : Image) → judged hs m [] ≡ also (top_of hs
 unfolding judged
 judged_main hs m = refl
 
-module _ (b : Bytes) (a : AreBytes b) {m : Image} (i : ImageAt b m) where
-  -- a sound image is short
-  pub image_short : length b ≤ image_limit
-  image_short = let w = write-image b a i.reads in omega (arith, image_within m w.sound, ap length w.bytes)
-
+module _ (b : Bytes) {m : Image} (i : ImageAt b m) where
   module _ {p : Parts} (d : Divides b p) where
-    -- and so is main's code
+    -- main's code ends within the limit
     pub code_short : p.code.end ≤ image_limit
-    code_short = omega (arith, image_short, (parts b i refl).code.within, d.behind)
+    code_short = omega (arith, image_short b i, (parts b i refl).code.within, d.behind)
 
     -- main can be judged
     pub main_ready : (n : ℕ) → 65536 ≤ n → {l : List ℕ} → l ≡ replicate n 0 → ChunkReady l p.code.bytes.now p.code.start p.code.end × (0 < 131072)
@@ -89,7 +82,7 @@ module _ (b : Bytes) (a : AreBytes b) {m : Image} (i : ImageAt b m) where
         -- and the pool can be judged
         pub pool_ready : (n : ℕ) → 65536 ≤ n → length l ≡ length {A = ℕ} (replicate n 0) → PoolReady l p.pool.bytes.now p.pool.start p.pool.end p₁.chunks
         pool_ready n h q =
-            let s = image_short in
+            let s = image_short b i in
             record {
               pool = record { pool = m.pool; is = pool_in b i d };
               room = omega (arith, length-replicate {A = ℕ} n 0, d.last);

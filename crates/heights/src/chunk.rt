@@ -1,5 +1,5 @@
 // One forward pass over a chunk. A mark says what arrives at an offset of the image: nothing, no way from the chunk's start, or GROUND + h: the height h.
-// Kept: numbers: with `Height(u32)` an enum takes 256 KB of stack more; with `Height(u16)` each height, u32 in C's lists, is to be tested.
+// Kept: numbers: tried an enum with `Height(u16)`: up to `arrive`, `leap` and `fall` it proved; `free`, `step` and the loops stood open.
 ghost use Rattle.std.specs.Prelude.{true, ◌≡◌, ℕ, ◌+◌, ◌-◌, ◌<◌, ◌≤◌, leb, ltb, length, get_or};
 ghost use Rattle.definition.specs.Basic.{pick, both};
 ghost use Rattle.definition.specs.Effect.{takes as taken, flow_of, falls as follows, leaps as targets};

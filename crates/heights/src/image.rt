@@ -2,7 +2,7 @@
 ghost use Rattle.std.specs.Prelude.{List, [], ◌≡◌, ℕ, ◌<◌, length, drop, replicate};
 ghost use Rattle.definition.specs.Number.{refusal, bad_heights};
 ghost use Rattle.definition.specs.Bytecode.{Code, Const, Image};
-ghost use Rattle.listing.specs.Reads.{CodeIn, PoolIn, ImageAt, HasImage};
+ghost use Rattle.listing.specs.Reads.{CodeIn, PoolIn, ImageAt};
 ghost use Rattle.heights.specs.Pass.{top_of};
 ghost use Rattle.heights.specs.Marks.{ChunkReady};
 ghost use Rattle.heights.specs.Chunks.{top_answer, top_into, constant_answer, constant_into, Judges, Standing, ConstantReady, PoolReady, SoFar, PoolJudges};
@@ -11,7 +11,8 @@ ghost use Rattle.heights.specs.Lent.{Lent};
 use crate::chunk::{Kind, check_chunk};
 use bytecode::{Parts, Span};
 use definition::output::store;
-use definition::{Reason, Refusal, tag};
+use definition::{Reason, Refusal};
+use listing::sound::SoundImage;
 
 // How far the chunks were judged: how many passed, and the heights behind theirs.
 #[derive(Clone, Copy)]
@@ -39,7 +40,6 @@ impl From<BadChunk> for Refusal {
 }
 
 // What judging is lent: the output and the marks.
-// Kept: that an image is sound is a clause: a check tells it, and `Parts::of` takes it apart at once: a type would be made for one line.
 #[derive(Drop)]
 struct Judging<'a> {
     output: &'a mut [u32],
@@ -76,12 +76,10 @@ impl<'a> Judging<'a> {
         ensures judges { (x : Const) → Standing constant.entry.bytes.now constant.entry.start constant.entry.end x → Judges constant.entry.end (constant_answer x before.entry) (constant_into x before.entry self.old.output.now) result self.new.output.now self.new.marks.now }
         ensures lent { Lent self.old self.new }
     {
-        let Span { bytes, start, end } = constant;
-        if bytes[start] != tag::FUNCTION_CONST {
+        let Some(code) = constant.function() else {
             return Some(before);
-        }
-        let start = start + 3 + 3;
-        self.judge_chunk(Span { bytes, start, end }, before, Kind::Function)
+        };
+        self.judge_chunk(code, before, Kind::Function)
     }
 
     // Judges the constants of a pool: how many chunks there are, or the first that fails.
@@ -102,13 +100,12 @@ impl<'a> Judging<'a> {
     }
 
     // Judges main and the pool of a sound image.
-    fn judge_image(&mut self, image: &[u8], heights: &[u32]) -> Result<usize, BadChunk>
-        requires stands { HasImage image.now }
+    fn judge_image(&mut self, image: SoundImage<'_>, heights: &[u32]) -> Result<usize, BadChunk>
         requires blank { self.old.marks.now ≡ replicate 65536 0 }
-        ensures judges { (m : Image) → ImageAt image.now m → PoolJudges heights.now m m.pool self.old.output.now result self.new.output.now }
+        ensures judges { (m : Image) → ImageAt image.entry.bytes.now m → PoolJudges heights.now m m.pool self.old.output.now result self.new.output.now }
         ensures lent { Lent self.old self.new }
     {
-        let Parts { code, pool } = Parts::of(image);
+        let Parts { code, pool } = image.parts();
         let none = Progress { chunks: 0, heights };
         let Some(main) = self.judge_chunk(code, none, Kind::Main) else {
             return Err(BadChunk { place: 0 });
@@ -119,9 +116,8 @@ impl<'a> Judging<'a> {
 
 // Judges main and the pool of a sound image, and stores the greatest heights as far as there is room: how many chunks there are, or the first
 // that fails.
-pub fn judge(output: &mut [u32], image: &[u8], heights: &[u32]) -> Result<usize, BadChunk>
-    requires { HasImage image.now }
-    ensures { (m : Image) → ImageAt image.now m → PoolJudges heights.now m m.pool output.old result output.new }
+pub fn judge(output: &mut [u32], image: SoundImage<'_>, heights: &[u32]) -> Result<usize, BadChunk>
+    ensures { (m : Image) → ImageAt image.entry.bytes.now m → PoolJudges heights.now m m.pool output.old result output.new }
 {
     let marks = &mut [0u32; 65536];
     let mut judge = Judging { output, marks };

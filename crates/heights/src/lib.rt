@@ -14,6 +14,7 @@ ghost use Rattle.heights.specs.Proposal.{proposal_answer, proposal_size};
 use bytecode::check_image;
 use definition::{Reason, Refusal, refused};
 use image::judge;
+use listing::sound::SoundImage;
 use propose::propose;
 
 // Checks the heights offered for an image: how many greatest heights stand at the start of the output then; or 17 where the image is wrong; or 25 at
@@ -23,6 +24,7 @@ pub fn check_heights(image: &[u8], heights: &[u32], output: &mut [u32]) -> Resul
     ensures writes { output.new ≡ heights_into (read_image image.now) heights.now output.old }
 {
     check_image(image)?;
+    let image = SoundImage { bytes: image };
     let count = judge(&mut output[..0], image, heights)?;
     if output.len() < count {
         return refused(Reason::OutputShort, 0);
@@ -38,6 +40,7 @@ pub fn propose_heights(image: &[u8], heights: &mut [u32]) -> Result<usize, Refus
     ensures stays { drop (proposal_size (read_image image.now) (length heights.old)) heights.new ≡ drop (proposal_size (read_image image.now) (length heights.old)) heights.old }
 {
     check_image(image)?;
+    let image = SoundImage { bytes: image };
     let count = propose(&mut heights[..0], image);
     if heights.len() < count {
         return refused(Reason::OutputShort, 0);

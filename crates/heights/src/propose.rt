@@ -1,7 +1,7 @@
 // Heights by forward flow along the code. How many are written is promised, and nothing of the heights: the check judges them.
 ghost use Rattle.std.specs.Prelude.{List, [], ◌≡◌, ◌+◌, ◌<◌, ◌≤◌, length, drop, replicate};
 ghost use Rattle.definition.specs.Bytecode.{Code, Const, Image};
-ghost use Rattle.listing.specs.Reads.{CodeIn, PoolIn, ImageAt, HasImage};
+ghost use Rattle.listing.specs.Reads.{CodeIn, PoolIn, ImageAt};
 ghost use Rattle.heights.specs.Judgement.{instructions, counted};
 ghost use Rattle.heights.specs.Chunks.{Standing};
 ghost use Rattle.heights.specs.Proposal.{Proposed, FlowSpot, FlowReady, ConstantFlow, PoolFlow};
@@ -11,7 +11,7 @@ use crate::chunk::{GROUND, Marks, NO_WAY, height};
 use crate::effect::{gives, takes};
 use bytecode::{Parts, Span};
 use definition::output::store;
-use definition::tag;
+use listing::sound::SoundImage;
 use opcode::Instruction;
 
 // What arrives behind an instruction, as if there were no way to it where it takes more than is there.
@@ -71,12 +71,10 @@ impl<'a> Proposer<'a> {
         ensures proposes { (x : Const) → Standing constant.entry.bytes.now constant.entry.start constant.entry.end x → Proposed (self.old.count + instructions x) constant.entry.end self.old.heights.now self.new.count self.new.heights.now }
         ensures lent { Lends self.old self.new }
     {
-        let Span { bytes, start, end } = constant;
-        if bytes[start] != tag::FUNCTION_CONST {
+        let Some(code) = constant.function() else {
             return;
-        }
-        let start = start + 3 + 3;
-        self.propose_chunk(Span { bytes, start, end })
+        };
+        self.propose_chunk(code)
     }
 
     // Proposes heights for the functions among the constants of a pool.
@@ -91,23 +89,21 @@ impl<'a> Proposer<'a> {
     }
 
     // Proposes heights for main and the pool of a sound image.
-    fn propose_image(&mut self, image: &[u8])
-        requires stands { HasImage image.now }
+    fn propose_image(&mut self, image: SoundImage<'_>)
         requires blank { self.old.marks.now ≡ replicate 65536 0 }
         requires none { self.old.count ≡ 0 }
-        ensures proposes { (m : Image) → ImageAt image.now m → Proposed (counted m m.pool) (length image.now) self.old.heights.now self.new.count self.new.heights.now }
+        ensures proposes { (m : Image) → ImageAt image.entry.bytes.now m → Proposed (counted m m.pool) (length image.entry.bytes.now) self.old.heights.now self.new.count self.new.heights.now }
         ensures same { self.new.heights.ghost_name ≡ self.old.heights.ghost_name }
     {
-        let Parts { code, pool } = Parts::of(image);
+        let Parts { code, pool } = image.parts();
         self.propose_chunk(code);
         self.propose_pool(pool)
     }
 }
 
 // Proposes heights for main and the pool of a sound image, as far as there is room; how many there are.
-pub fn propose(heights: &mut [u32], image: &[u8]) -> usize
-    requires { HasImage image.now }
-    ensures { (m : Image) → ImageAt image.now m → Proposed (counted m m.pool) (length image.now) heights.old result heights.new }
+pub fn propose(heights: &mut [u32], image: SoundImage<'_>) -> usize
+    ensures { (m : Image) → ImageAt image.entry.bytes.now m → Proposed (counted m m.pool) (length image.entry.bytes.now) heights.old result heights.new }
 {
     let marks = &mut [0u32; 65536];
     let mut proposer = Proposer {

@@ -7,9 +7,9 @@ use native.Mathlib.Omega.{arith}
 use lib.Dec.{eqb}
 use lib.ListN.{length}
 use lib.Seq.{sets}
-use borrow.Author.Tests.{eqb-true, leb-true, le-leb}
+use borrow.Author.Tests.{eqb-true, eq-eqb, leb-true, le-leb}
 use Rattle.definition.specs.Basic.{Bytes, byte_at}
-use Rattle.definition.specs.Limit.{pool_limit, constants_limit, code_size}
+use Rattle.definition.specs.Limit.{image_limit, pool_limit, constants_limit, code_size}
 use Rattle.definition.specs.Number.{refusal, bad_image}
 use Rattle.definition.specs.Tag.{tag_main, tag_pool}
 use Rattle.definition.specs.Field.{Head, head, tagged}
@@ -28,7 +28,7 @@ use Rattle.bytecode.proofs.Items.{ended, unlike}
 use Rattle.bytecode.proofs.Fields.{main_content, pool_content, head_read, then_read}
 use Rattle.listing.specs.declared.measure.MeasuredImage.{MeasuredImage}
 use Rattle.listing.specs.Measured.{image_measured}
-use Rattle.listing.specs.Reads.{CodeAt, PoolAt, CodeIn, PoolIn, ImageAt, HasImage, pool_text}
+use Rattle.listing.specs.Reads.{CodeAt, PoolAt, CodeIn, PoolIn, ImageAt, HasImage, is_image, pool_text}
 use Rattle.listing.proofs.Lines.{code-size}
 
 -- nothing follows
@@ -45,7 +45,7 @@ module _ (b : Bytes) where
     pub code : CodeAt b 3 (3 + len) m.code
     pub size : size_of m.code ≡ len
     pub pool : PoolAt b (3 + len + 3) (length b) m.pool
-    pub small : length b ≤ 131072
+    pub small : length b ≤ image_limit
 
   -- a pool that was read up to the end
   record Pool (at : ℕ) (cs : List Const) : Type 0 where
@@ -94,7 +94,7 @@ module _ (b : Bytes) where
     after_head : Head → ℕ → Decoded Image
     after_head h in₀ = then (main_content (byte_at b) h in₀) after-code
 
-    image_parts : Parts m (head (byte_at b) 0).len × (n ≡ length b)
+    pub image_parts : Parts m (head (byte_at b) 0).len × (n ≡ length b)
     unfolding read_image_of after-code after_head
     image_parts =
         let h = head_read (byte_at b) 0 (length b) (main_head (byte_at b)) after_head e in
@@ -112,6 +112,10 @@ module _ (b : Bytes) where
   parts {m} i e = subst (Parts m) (sym e) (image_parts i.reads).0
 
   module _ {m : Image} (i : ImageAt b m) where
+    -- it is short
+    pub image_short : length b ≤ image_limit
+    image_short = (parts i refl).small
+
     -- it has the head that its division reads
     pub has_head : 3 ≤ length b
     has_head = let k = parts i refl in omega (arith, k.code.within)
@@ -123,6 +127,18 @@ module _ (b : Bytes) where
 
       pub pool_in : PoolIn p.pool m.pool
       pool_in = rw (d.constants, d.next, d.last) (parts i refl).pool
+
+-- an image is sound
+module _ (b : Bytes) where
+  pub has_image : is_image (read_image b) (length b) ≡ true → HasImage b
+  has_image s = go (read_image b) refl s
+    where
+      go : (d : Decoded Image) → read_image b ≡ d → is_image d (length b) ≡ true → HasImage b
+      go (decoded m n) e i = record { image = m; is = record { reads = e ∙ ap (decoded m) (eqb-true n (length b) i) } }
+      go (malformed p) e i = let z : ◌≡◌ {A = ℕ} 0 1 = cc in absurd (omega arith)
+
+  pub is_sound : {m : Image} → ImageAt b m → is_image (read_image b) (length b) ≡ true
+  is_sound i = ap (λ d. is_image d (length b)) i.reads ∙ eq-eqb (length b) (length b) refl
 
 -- main code's lines and the pool's
 pub listing_is : (m : Image) → (ascii "main" ++ also (decimal (size_of m.code)) ++ newline ++ code_lines m.code) ++ pool_text m.pool ≡ listing m

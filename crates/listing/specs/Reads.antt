@@ -1,11 +1,11 @@
 -- What stands in an image that was read: code, a constant, a pool.
-use Rattle.std.specs.Prelude.{ℕ, ◌+◌, ◌-◌, ◌*◌, ◌≤◌, ◌≡◌, List, ◌++◌, length}
+use Rattle.std.specs.Prelude.{ℕ, ◌+◌, ◌-◌, ◌*◌, ◌≤◌, ◌==◌, ◌≡◌, Bool, false, List, ◌++◌, length}
 use Rattle.definition.specs.Basic.{Bytes, byte_at}
 use Rattle.definition.specs.Field.{head}
 use Rattle.definition.specs.Text.{ascii, decimal}
 use Rattle.definition.specs.Bytecode.{Code, Const, Image}
 use Rattle.definition.specs.Listing.{also, newline, constant_lines}
-use Rattle.definition.specs.Decode.{decoded, read_code, read_const, read_image}
+use Rattle.definition.specs.Decode.{Decoded, decoded, malformed, read_code, read_const, read_image}
 use Rattle.bytecode.specs.Checked.{constants}
 use Rattle.bytecode.specs.declared.span.Span.{Span}
 
@@ -58,6 +58,11 @@ pub record ImageAt (b : Bytes) (m : Image) : Type 0 where
 pub record HasImage (b : Bytes) : Type 0 where
   pub image : Image
   pub is : ImageAt b image
+
+-- what was read is an image of so many bytes
+abbrev pub is_image : Decoded Image → ℕ → Bool
+is_image (decoded m n) size = n == size
+is_image (malformed p) size = false
 
 -- a function of some code, whose three numbers stand at an offset
 abbrev pub function_of : (ℕ → ℕ) → ℕ → Code → Const

@@ -5,6 +5,7 @@ mod code;
 mod lengths;
 mod measure;
 mod pool;
+pub mod sound;
 pub mod text;
 
 ghost use Rattle.std.specs.Prelude.{◌≡◌, length};
@@ -12,20 +13,20 @@ ghost use Rattle.definition.specs.Bytecode.{Image};
 ghost use Rattle.definition.specs.Decode.{read_image};
 ghost use Rattle.definition.specs.Listing.{listing, list_answer, list_into};
 ghost use Rattle.listing.specs.Put.{Puts};
-ghost use Rattle.listing.specs.Reads.{ImageAt, HasImage};
+ghost use Rattle.listing.specs.Reads.{ImageAt};
 
 use bytecode::Parts;
 use definition::{Reason, Refusal, refused};
 use measure::measure_image;
+use sound::SoundImage;
 use text::Writer;
 
 impl<'a> Writer<'a> {
     // Puts the listing of a sound image, which has so many constants.
-    fn put_listing(&mut self, image: &[u8], constants: usize)
-        requires { HasImage image.now }
-        ensures { (m : Image) → ImageAt image.now m → constants ≡ length m.pool → Puts self.old self.new (listing m) }
+    fn put_listing(&mut self, image: SoundImage<'_>, constants: usize)
+        ensures { (m : Image) → ImageAt image.entry.bytes.now m → constants ≡ length m.pool → Puts self.old self.new (listing m) }
     {
-        let Parts { code, pool } = Parts::of(image);
+        let Parts { code, pool } = image.parts();
         self.put_bytes(b"main");
         self.put_field(code.end - code.start);
         self.put_newline();
@@ -45,6 +46,6 @@ pub fn list_image(image: &[u8], output: &mut [u8]) -> Result<usize, Refusal>
         return refused(Reason::OutputShort, 0);
     }
     let mut writer = Writer { output, at: 0 };
-    writer.put_listing(image, sound.constants);
+    writer.put_listing(SoundImage { bytes: image }, sound.constants);
     Ok(sound.size)
 }

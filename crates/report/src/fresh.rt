@@ -8,6 +8,7 @@ use definition::limit::{CODE_SIZE, SESSION_SIZE, TABLE_SIZE};
 use std::io;
 
 // Compiles a tree in a fresh session.
+#[tactic(auto, using(crate::proofs::Made::made_fresh))]
 pub fn compile_fresh(tree: &[u8], output: &mut [u8]) -> Result<usize, Refusal>
     ensures answer { result ≡ (call tree.now (fresh_lent output.old)).answer }
     ensures output { output.new ≡ (call tree.now (fresh_lent output.old)).lent.output }

@@ -6,6 +6,7 @@ ghost use Rattle.scope.specs.Emission.{longer_chunk, Within, Adds, Changes};
 use super::Chunk;
 use super::instruction::{Instruction, write_instruction, write_word};
 use definition::limit::CODE_SIZE;
+use opcode::operand_length;
 
 // The chunk with an instruction of `n` bytes more.
 fn longer(c: Chunk, n: usize) -> Chunk
@@ -27,7 +28,7 @@ pub fn add_instruction(code: &mut [u8], chunk: &mut Chunk, i: Instruction) -> bo
     ensures { Adds code.old chunk.old i chunk.new result code.new }
 {
     let at = (chunk.start + chunk.len) as usize;
-    let n = 1 + i.operands;
+    let n = 1 + operand_length(i.op);
     if CODE_SIZE < at + n {
         return false;
     }

@@ -3,14 +3,15 @@ ghost use Rattle.std.specs.Prelude.{◌≡◌, [], ◌∷◌, ◌+◌, ◌/◌, 
 ghost use Rattle.std.proofs.lemmas.List.Edits.{sets};
 ghost use Rattle.definition.specs.Opcode.{instr, size, width, operands, bytes_of};
 
-// An instruction to emit: its byte, the number of its operand bytes, which is its byte's, and what they are made of.
+use opcode::operand_length;
+
+// An instruction to emit: its byte, and what its operand bytes are made of.
+// Kept: beside `opcode::Instruction`, whose operands fit: here they are any numbers, of which the low bytes are written.
 #[derive(Clone, Copy)]
 pub struct Instruction {
     pub op: u8,
-    pub operands: usize,
     pub a: usize,
     pub b: usize,
-    pub ghost sized: { operands ≡ width op },
 }
 
 // The low byte of a number.
@@ -33,10 +34,10 @@ pub fn write_word(code: &mut [u8], at: usize, x: usize)
 
 // Writes an instruction's operands.
 fn write_operands(code: &mut [u8], at: usize, i: Instruction)
-    requires { at + i.operands ≤ length code.old }
-    ensures { code.new ≡ sets code.old at (operands i.operands i.a i.b) }
+    requires { at + width i.op ≤ length code.old }
+    ensures { code.new ≡ sets code.old at (operands (width i.op) i.a i.b) }
 {
-    match i.operands {
+    match operand_length(i.op) {
         0 => {}
         1 => {
             code[at] = low(i.a);

@@ -82,7 +82,6 @@ impl<'a> Scope<'a> {
     {
         let i = Instruction {
             op,
-            operands: opcode::operand_length(op),
             a: operand,
             b: 0,
         };
@@ -100,7 +99,6 @@ impl<'a> Scope<'a> {
     {
         let i = Instruction {
             op: opcodes::CLOSURE,
-            operands: 3,
             a: constant,
             b: captures,
         };

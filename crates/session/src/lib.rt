@@ -16,7 +16,6 @@ use definition::{Reason, Refusal, refused, tag};
 use words::raise;
 
 // Writes a fresh session of two fields to the first 65,536 bytes, and leaves the others; a shorter buffer is refused, and nothing in it touched.
-// Kept: beside `begin_session`: what both have is one call of `restore` and two of `put_head`, at offsets of their own.
 pub fn write_fresh(session: &mut [u8]) -> Result<usize, Refusal>
     ensures { made session.old ≡ record { answer = result; session = session.new } }
 {
@@ -24,8 +23,7 @@ pub fn write_fresh(session: &mut [u8]) -> Result<usize, Refusal>
         return refused(Reason::ShortBuffer, 0);
     }
     zero::restore(session, 0, SESSION_SIZE);
-    write::put_head(session, 0, tag::NAMES, 0);
-    write::put_head(session, 3, tag::POOL, 0);
+    finish_session(session, 0, 3, &[]);
     Ok(SESSION_SIZE)
 }
 

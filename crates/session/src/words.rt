@@ -6,8 +6,8 @@ ghost use Rattle.definition.specs.Output.{over};
 ghost use Rattle.definition.specs.Session.{listed, begun, names_bytes, session_bytes};
 ghost use Rattle.session.specs.Write.{raised};
 
-use crate::write;
 use crate::zero::restore;
+use crate::{finish_session, write};
 use definition::builtins::SIX_WORDS;
 use definition::limit::SESSION_SIZE;
 use definition::tag;
@@ -29,6 +29,5 @@ pub fn begin_session(session: &mut [u8], words: &[u8])
     let end = 3 + words.len();
     restore(session, 0, SESSION_SIZE);
     write::put_field(session, 0, tag::WORDS, words);
-    write::put_head(session, end, tag::NAMES, 0);
-    write::put_head(session, end + 3, tag::POOL, 0);
+    finish_session(session, end, end + 3, &[]);
 }

@@ -28,22 +28,20 @@ pub fn copy(out: &mut [u8], at: usize, from: &[u8])
     out[at..end].copy_from_slice(from);
 }
 
-// Puts a field's head where there is room: its tag, and the length of its content in two bytes.
+// Writes a field's head: its tag, and the length of its content in two bytes.
 pub fn put_head(out: &mut [u8], at: usize, tag: u8, len: usize)
-    requires { at < 2 ^ 63 }
+    requires { at + 3 ≤ length out.old }
     ensures { out.new ≡ sets out.old at (heading tag len) }
 {
     let [.., high, low] = len.to_be_bytes();
-    put_bytes(out, at, &[tag, high, low]);
+    out[at..at + 3].copy_from_slice(&[tag, high, low]);
 }
 
 // Writes a field.
-// Kept: its head by `copy`, as there is room: with `put_head`, tried, a row of a compile call takes 3.9 % more instructions; the bar is 3 %.
 pub fn put_field(out: &mut [u8], at: usize, tag: u8, content: &[u8])
     requires { at + (3 + length content.now) ≤ length out.old }
     ensures { out.new ≡ sets out.old at (field tag content.now) }
 {
-    let [.., high, low] = content.len().to_be_bytes();
-    copy(out, at, &[tag, high, low]);
+    put_head(out, at, tag, content.len());
     copy(out, at + 3, content);
 }

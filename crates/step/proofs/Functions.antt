@@ -3,7 +3,7 @@ use Prim.Native.Nat.{ℕ, ◌+◌, ◌≤◌, ◌<◌}
 use native.Mathlib.Omega.{arith}
 use native.Mathlib.Numerals.{add-one}
 use mathlib.Core.List.{List, [], ◌∷◌}
-use mathlib.Core.Path.{◌≡◌, refl, sym, ap, ◌∙◌}
+use mathlib.Core.Path.{◌≡◌, refl, ap, ◌∙◌}
 use lib.ListN.{length}
 use borrow.Author.Tests.{le-leb, lt-leb, lt-ltb, le-ltb}
 use Rattle.definition.specs.Basic.{Bytes}
@@ -11,11 +11,12 @@ use Rattle.definition.specs.Limit.{code_size, nesting_limit, arguments_limit}
 use Rattle.definition.specs.Number
 use Rattle.definition.specs.SymbolTable.{named, with_params}
 use Rattle.definition.specs.Walk.{on, refuse}
-use Rattle.field.specs.Layout.{content, after}
+use Rattle.field.specs.Layout.{content, after, Whole}
+use Rattle.field.specs.Row.{RowTo}
 use Rattle.tree.specs.At.{Row, NamedAt, ParamsAt}
-use Rattle.symbol_table.specs.Name as Name
 use Rattle.symbol_table.specs.Layout.{globals_of, tables_of}
 use Rattle.symbol_table.specs.Contract as Symbol
+use Rattle.symbol_table.specs.Contract.{HasParams}
 use Rattle.scope.specs.declared.State.{State}
 use Rattle.definition.specs.Number.{refusal}
 use Rattle.scope.specs.declared.lent.Scope.{Scope}
@@ -31,24 +32,23 @@ use Rattle.definition.specs.declared.reason.Reason.{Reason}
 -- Parameters in a row
 
 module _ (tree : Bytes) where
-  pub row-fields : (at end : ℕ) (ps : List Bytes) → Row tree (NamedAt tree 1) at end ps → Name.fields tree (length ps) at ≡ ps
-  unfolding Name.fields
-  row-fields at end [] h = refl
-  row-fields at end (x ∷ xs) h = λ i. sym h.1.is i ∷ row-fields (after tree at) end xs h.2 i
+  pub row_to : (at end : ℕ) (ps : List Bytes) → Row tree (NamedAt tree 1) at end ps → RowTo tree end at ps
+  row_to at end [] h = RowTo.end h
+  row_to at end (x ∷ xs) h = RowTo.more h.1.is h.0 (row_to (after tree at) end xs h.2)
 
-  pub row_stands : (at end : ℕ) (ps : List Bytes) → Row tree (NamedAt tree 1) at end ps → Name.Row tree (length ps) at
-  unfolding Name.Row
-  row_stands at end [] h = tt
-  row_stands at end (x ∷ xs) h = (h.1.named.whole.fits, row_stands (after tree at) end xs h.2)
+  -- the parameters of a function, few enough
+  abbrev pub has_params : {at : ℕ} {ps : List Bytes} → ParamsAt tree at ps → length ps ≤ arguments_limit → HasParams tree (at + 3) (after tree at)
+  has_params {at} {ps} x f = record { row = record { names = ps; row = row_to (at + 3) (after tree at) ps x.names.row; within = x.whole.fits }; few = f }
 
 module _ {tree : Bytes} {p n : ℕ} (h : HeadAt tree p n) where
   params_count : {ps : List Bytes} → ParamsAt tree (after tree (p + 3)) ps → n ≡ length ps
   params_count {ps} x = h.counted.names ps x.names
 
-  pub params_stand : {m : ℕ} → m ≡ after tree (p + 3) → Name.Row tree n (m + 3)
-  params_stand e =
-      let x = h.params.1 in
-      rw (e, params_count x) (row_stands tree (after tree (p + 3) + 3) (after tree (after tree (p + 3))) h.params.0 x.names.row)
+  pub params_whole : Whole tree (after tree (p + 3))
+  params_whole = h.params.1.whole
+
+  pub params_stand : n ≤ arguments_limit → HasParams tree (after tree (p + 3) + 3) (after tree (after tree (p + 3)))
+  params_stand g = let x = h.params.1 in has_params tree x (rw (params_count x) at g)
 
   -- a test that refuses
   module _ {t : List ℕ} {s : Scope} where
@@ -70,25 +70,23 @@ module _ {tree : Bytes} {p n : ℕ} (h : HeadAt tree p n) where
       unfolding enter
       enter-many g = refused_enters (λ c e ps m. rw (lt-leb nesting_limit s.state.level l, lt-ltb arguments_limit (length ps) (rw m at g)))
 
-  module _ {t : List ℕ} (s : State) (l : s.level < nesting_limit) (g : n ≤ arguments_limit) {m : ℕ} (o : m ≡ after tree (p + 3)) {t' : List ℕ} (x : Symbol.Enters tree s.level (p + 3) (m + 3) n t t') where
+  module _ {t : List ℕ} (s : State) (l : s.level < nesting_limit) (g : n ≤ arguments_limit) {t' : List ℕ} (x : (h : HasParams tree (after tree (p + 3) + 3) (after tree (after tree (p + 3)))) → Symbol.Enters tree s.level (p + 3) h.row.names t t') where
     -- the table is that of the parameters
     entered_tables : (ps : List Bytes) → ParamsAt tree (after tree (p + 3)) ps → tables_of tree (s.level + 1) t' ≡ with_params ps (named (content tree (p + 3))) ∷ tables_of tree s.level t
-    entered_tables ps y =
-        let j : Name.fields tree n (m + 3) ≡ ps = rw (o, params_count y) (row-fields tree (after tree (p + 3) + 3) (after tree (after tree (p + 3))) ps y.names.row) in
-        ap (λ l. tables_of tree l t') (add-one s.level) ∙ x.tables ∙ ap (λ ps. with_params ps (named (content tree (p + 3))) ∷ tables_of tree s.level t) j
+    entered_tables ps y = ap (λ l. tables_of tree l t') (add-one s.level) ∙ (x (has_params tree y (rw (params_count y) at g))).tables
 
     entered_step : (c e : Bytes) (ps : List Bytes) → ParamsAt tree (after tree (p + 3)) ps
         → on tt (view c e (symbols_of tree (rest e t') (inside s)) (inside s)) ≡ enter p (content tree (p + 3)) ps (view c e (symbols_of tree (rest e t) s) s)
     unfolding enter
     entered_step c e ps y =
         rw (lt-leb nesting_limit s.level l, le-ltb arguments_limit (length ps) (rw (params_count y) at g))
-        (λ u. on tt (view c e (record { globals = globals_of tree (names_of e s) (x.globals u); tables = entered_tables ps y u }) (inside s)))
+        (λ u. on tt (view c e (record { globals = globals_of tree (names_of e s) ((x (params_stand g)).globals u); tables = entered_tables ps y u }) (inside s)))
 
     entered_fine : {e : Bytes} → length t' ≡ length t → FineState tree (rest e t) s → FineState tree (rest e t') (inside s)
     entered_fine {e} k f =
         record {
           words = f.words;
-          symbols = rw (add-one s.level) (x.good (names_of e s) f.symbols);
+          symbols = rw (add-one s.level) ((x (params_stand g)).good (names_of e s) f.symbols);
           level = omega arith;
           area = rw k f.area;
           pool = record { area = f.pool.area; room = f.pool.room; start = f.pool.start; end = f.pool.end };

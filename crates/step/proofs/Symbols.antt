@@ -24,7 +24,7 @@ use Rattle.definition.specs.declared.reason.Refusal.{Refusal}
 use Rattle.scope.specs.Walked.{Walked, walked, stopped}
 use Rattle.scope.specs.View.{Symbols, View, view, Done}
 use Rattle.scope.specs.Machine.{define, placed, with_tables, load, loaded, emit}
-use Rattle.step.specs.declared.Setting.{Setting}
+use Rattle.symbol_table.specs.declared.Access.{Access}
 use Rattle.step.specs.Memory.{rest, names_of, symbols_of, settled, answered, FineState, Fine}
 use Rattle.step.specs.Contract.{Steps, instr_of, placed_at, FineBeside, DefinesBeside}
 use Rattle.step.proofs.Memory.{stop_deeper, done_steps}
@@ -51,7 +51,7 @@ module _ (tree c e : Bytes) (t : List ℕ) (p : ℕ) (s : State) where
   place_fine (Ok (Local k)) f = f
   place_fine (Err e) f = tt
 
-pub define-on : (p : ℕ) {tree : Bytes} {t t' : List ℕ} {s : State} {a : Definition} {r : Result Setting Refusal} → length t' ≡ length t → Symbol.Defines tree s.level (p + 3) a t t' → r ≡ placed_at p a → DefinesBeside tree p t t' s r
+pub define-on : (p : ℕ) {tree : Bytes} {t t' : List ℕ} {s : State} {a : Definition} {r : Result Access Refusal} → length t' ≡ length t → Symbol.Defines tree s.level (p + 3) a t t' → r ≡ placed_at p a → DefinesBeside tree p t t' s r
 unfolding define
 define-on p {tree} {t} {t'} {s} {a} n x i =
     rw i

@@ -17,7 +17,7 @@ use Rattle.step.specs.Memory.{Rest, rest, settled, answered, memory, RoomyState,
 use Rattle.definition.specs.declared.reason.Refusal.{Refusal}
 use Rattle.scope.specs.declared.State.{State}
 use Rattle.scope.specs.Walked.{Walked, walked}
-use Rattle.step.specs.declared.Setting.{Setting}
+use Rattle.symbol_table.specs.declared.Access.{Access}
 
 -- a step that stands alone: on whatever the memory stands for
 abbrev pub Steps : Bytes → Go View → Bytes → Bytes → Rest → Rest → Walked → Walked → Type 0
@@ -39,12 +39,12 @@ pub record Adds (k : View → Res View ℕ) (e e' : Bytes) (s s' : State) (r : R
   pub chunk : s'.chunk ≡ s.chunk
 
 -- the instruction that a setting stands for
-abbrev pub instr_of : Result Setting Refusal → Result Instr Refusal
+abbrev pub instr_of : Result Access Refusal → Result Instr Refusal
 instr_of (Ok x) = Ok (instr x.op x.operand 0)
 instr_of (Err r) = Err r
 
 -- a definition, with the instruction that will set it
-pub record Defines (tree : Bytes) (p : ℕ) (c : Bytes) (m m' : Rest) (s : State) (r : Result Setting Refusal) : Type 0 where
+pub record Defines (tree : Bytes) (p : ℕ) (c : Bytes) (m m' : Rest) (s : State) (r : Result Access Refusal) : Type 0 where
   pub step : answered tree c m' (instr_of r) s ≡ settled (bind (memory tree c m (Ok s)) (λ _. define p (content tree (p + 3))))
   pub fine : Fine tree m' (walked r s)
 
@@ -54,11 +54,11 @@ pub record FineBeside (tree : Bytes) (t : List ℕ) (s : State) : Type 0 where
   pub fine : FineState tree (rest session t) s
 
 -- a definition in the table area, whatever code and session stand beside it
-pub record DefinesBeside (tree : Bytes) (p : ℕ) (t t' : List ℕ) (s : State) (r : Result Setting Refusal) : Type 0 where
+pub record DefinesBeside (tree : Bytes) (p : ℕ) (t t' : List ℕ) (s : State) (r : Result Access Refusal) : Type 0 where
   pub defines : (c e : Bytes) → FineState tree (rest e t) s → Defines tree p c (rest e t) (rest e t') s r
 
 -- a definition's answer, with the instruction that will set it, or the refusal
-abbrev pub placed_at : ℕ → Definition → Result Setting Refusal
+abbrev pub placed_at : ℕ → Definition → Result Access Refusal
 placed_at p (Ok (Global k)) = Ok (record { op = op_set_global; operand = k })
 placed_at p (Ok (Local k)) = Ok (record { op = op_set_local; operand = k })
 placed_at p (Err e) = Err (refusal (define_reason e) p)

@@ -32,7 +32,7 @@ fn loads(scope: &mut Scope<'_>, originals: &[u32], place: usize) -> Result<(), R
 {
     for code in originals {
         let l = load_of(*code);
-        scope.emit_operand(place, l.op, l.operand as usize)?;
+        scope.emit_operand(place, l.op, l.operand)?;
     }
     Ok(())
 }

@@ -17,73 +17,67 @@ ghost use Rattle.step.specs.Frame.{LeavesAlone};
 use closing::close;
 use definition::limit::ARGUMENTS_LIMIT;
 use definition::{Reason, Refusal, limit, refused};
-use field::{after_at, content_at};
+use field::{Field, after_at};
 use opcode::opcodes;
 use pool::add_constant;
 use scope::{Chunk, Scope, State};
-use symbol_table::{DefineError, Key, Slot, load_of, resolve_name};
+use symbol_table::{Access, DefineError, Key, Slot, load_of, resolve_name};
 
 // The open functions, as a level.
 const NESTING_LIMIT: u32 = limit::NESTING_LIMIT as u32;
 
-// The instruction that will set a symbol that was defined.
-#[derive(Clone, Copy)]
-pub struct Setting {
-    pub op: u8,
-    pub operand: usize,
-}
-
 // Compiles an integer or a string: a constant of its own, and Constant.
 // Kept: the slices one by one, here and below: each step is lent what it reads or writes, so that of the rest nothing need be said.
 pub fn literal(
-    tree: &[u8],
+    field: Field<'_>,
     session: &mut [u8],
     scope: &mut Scope<'_>,
-    at: usize,
     tag: u8,
 ) -> Result<(), Refusal>
-    requires whole { Whole tree.now at }
     requires roomy { RoomyState session.old scope.old.state }
-    ensures { StepsOn tree.now (machine.literal at tag (content tree.now at)) scope.old scope.new session.old session.new result }
+    ensures { StepsOn field.entry.bytes.now (machine.literal field.entry.at tag (content field.entry.bytes.now field.entry.at)) scope.old scope.new session.old session.new result }
 {
-    let index = add_constant(session, &mut scope.state, at, tag, content_at(tree, at))?;
-    scope.emit_operand(at, opcodes::CONSTANT, index)
+    let index = add_constant(session, &mut scope.state, field.at, tag, field.content())?;
+    scope.emit_operand(field.at, opcodes::CONSTANT, index)
 }
 
 // Looks an identifier up, and loads its symbol.
 pub fn load(
-    tree: &[u8],
+    field: Field<'_>,
     session: &[u8],
     scope: &mut Scope<'_>,
     table: &mut [u32],
-    at: usize,
 ) -> Result<(), Refusal>
-    requires whole { Whole tree.now at }
-    requires at_lt_tree_limit { at < tree_limit }
-    requires fine { FineState tree.now (rest session.now table.old) scope.old.state }
-    ensures { LoadsOn tree.now at scope.old scope.new (rest session.now table.old) (rest session.now table.new) result }
+    requires at_lt_tree_limit { field.at < tree_limit }
+    requires fine { FineState field.bytes.now (rest session.now table.old) scope.old.state }
+    ensures { LoadsOn field.entry.bytes.now field.entry.at scope.old scope.new (rest session.now table.old) (rest session.now table.new) result }
 {
     let end = scope.state.names_end as usize;
     let level = scope.state.level as usize;
-    match resolve_name(Key::new(tree, at), &session[..end], table, level) {
+    match resolve_name(
+        Key::new(field.bytes, field.at),
+        &session[..end],
+        table,
+        level,
+    ) {
         Ok(found) => {
             let l = load_of(found.code);
-            scope.emit_operand(at, l.op, l.operand as usize)
+            scope.emit_operand(field.at, l.op, l.operand)
         }
-        Err(error) => refused(Reason::from(error), at),
+        Err(error) => refused(Reason::from(error), field.at),
     }
 }
 
 // A definition's answer: the instruction that will set it, or the refusal.
-fn placed(place: usize, answer: Result<Slot, DefineError>) -> Result<Setting, Refusal>
+fn placed(place: usize, answer: Result<Slot, DefineError>) -> Result<Access, Refusal>
     ensures { result ≡ placed_at place answer }
 {
     match answer {
-        Ok(Slot::Global(k)) => Ok(Setting {
+        Ok(Slot::Global(k)) => Ok(Access {
             op: opcodes::SET_GLOBAL,
             operand: k as usize,
         }),
-        Ok(Slot::Local(k)) => Ok(Setting {
+        Ok(Slot::Local(k)) => Ok(Access {
             op: opcodes::SET_LOCAL,
             operand: k as usize,
         }),
@@ -92,7 +86,7 @@ fn placed(place: usize, answer: Result<Slot, DefineError>) -> Result<Setting, Re
 }
 
 // Defines the name of the let at `at`, in a walk that goes on in a state.
-pub fn define(tree: &[u8], table: &mut [u32], state: State, at: usize) -> Result<Setting, Refusal>
+pub fn define(tree: &[u8], table: &mut [u32], state: State, at: usize) -> Result<Access, Refusal>
     requires whole { Whole tree.now (at + 3) }
     requires at_bound { at + 3 < tree_limit }
     requires fine_beside { FineBeside tree.now table.old state }
@@ -143,8 +137,15 @@ pub fn enter(
     if ARGUMENTS_LIMIT < n {
         return refused(Reason::TooMany, at);
     }
-    let row = after_at(tree, at + 3) + 3;
-    symbol_table::enter(Key::new(tree, at + 3), table, level as usize, row, n);
+    let params = after_at(tree, at + 3);
+    let end = after_at(tree, params);
+    symbol_table::enter(
+        Key::new(tree, at + 3),
+        table,
+        level as usize,
+        params + 3,
+        end,
+    );
     scope.state = inside(scope.state);
     Ok(())
 }

@@ -79,9 +79,9 @@ module _ (a : List ℕ) (level name : ℕ) where
           above = rw base_more x.above;
         })
 
-  pub entered : (tree : Bytes) (row n : ℕ) (a' : List ℕ) → Inside (λ r r'. Opens tree name row n r') level a a' → Enters tree level name row n a a'
+  pub entered : (tree : Bytes) (names : List Bytes) (a' : List ℕ) → Inside (λ r r'. Opens tree name names r') level a a' → Enters tree level name names a a'
   unfolding tables_of Good
-  entered tree row n a' x =
+  entered tree names a' x =
       record {
         tables = rw (x.here.table, tables_agree tree [] level a' a x.below);
         globals = take-agree globals_size (base level) a' a (omega arith) x.below;
@@ -90,5 +90,5 @@ module _ (a : List ℕ) (level name : ℕ) where
         above = rw base_more x.above;
       }
 
-pub opened : (tree : Bytes) (r r₁ r₂ : List ℕ) (name hash row n : ℕ) → length r ≡ part_size → name < 32768 → Stands tree name → r₁ ≡ entered_in r name hash (len tree name) → Params tree row n r₁ r₂ → Opens tree name row n r₂
-opened tree r r₁ r₂ name hash row n size below s e x = record { table = x.table ∙ rw (e, entered_table tree name hash below s r size); good = x.good; unmarked = x.marked ∙ rw e (entered_unmarked r name hash (len tree name) size) }
+pub opened : (tree : Bytes) (r r₁ r₂ : List ℕ) (name hash : ℕ) (names : List Bytes) → length r ≡ part_size → name < 32768 → Stands tree name → r₁ ≡ entered_in r name hash (len tree name) → Params tree names r₁ r₂ → Opens tree name names r₂
+opened tree r r₁ r₂ name hash names size below s e x = record { table = x.table ∙ rw (e, entered_table tree name hash below s r size); good = x.good; unmarked = x.marked ∙ rw e (entered_unmarked r name hash (len tree name) size) }

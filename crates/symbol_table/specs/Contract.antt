@@ -8,12 +8,12 @@ use Rattle.definition.specs.declared.reason.Reason.{Reason}
 use Rattle.definition.specs.Opcode.{instr, op_set_global, op_set_local}
 use Rattle.definition.specs.SymbolTable.{Symbol, Table, find, find_global, find_builtin, Resolved, cross, resolve, crossed, Defined, place, named, with_params}
 use Rattle.definition.specs.Session.{Words}
-use Rattle.definition.specs.Limit.{globals_limit, words_limit}
+use Rattle.definition.specs.Limit.{globals_limit, words_limit, arguments_limit}
 use Rattle.definition.specs.Decode.{decoded, items, read_name_field, read_words, read_names, words_in}
 use Rattle.field.specs.Layout.{content}
-use Rattle.field.specs.Row.{RowOf}
+use Rattle.field.specs.Row.{HasRow, RowOf}
 use Rattle.field.specs.declared.fields.Fields.{Fields}
-use Rattle.symbol_table.specs.Name.{Stands, fields, buckets, hash_of}
+use Rattle.symbol_table.specs.Name.{Stands, buckets, hash_of}
 use Rattle.symbol_table.specs.Search.{Way, Goes}
 use Rattle.symbol_table.specs.Layout.{globals_size, heads_at, head_of, part_size, entries_at, tag_in, base, part, symbol_of, table_of, tables_of, globals_of, globals_in, GoodTable, GoodGlobals, Good, entries, marked_at, marks_at, code_of, IsMarked, Marked, GoodPart}
 use Rattle.symbol_table.specs.Store.{global_in}
@@ -216,21 +216,26 @@ pub record Defines (tree : Bytes) (level name : ℕ) (answer : Definition) (a a'
   pub good : (names : Bytes) → Good tree names level a → Good tree names level a'
   pub above : drop (base level) a' ≡ drop (base level) a
 
--- so many parameters more in a function's part, the fields from an offset on
-pub record Params (tree : Bytes) (row n : ℕ) (r r' : List ℕ) : Type 0 where
-  pub table : table_of tree r' ≡ with_params (fields tree n row) (table_of tree r)
+-- the parameters of a function: few enough fields, from an offset up to an end
+pub record HasParams (tree : Bytes) (from end : ℕ) : Type 0 where
+  pub row : HasRow tree from end
+  pub few : length row.names ≤ arguments_limit
+
+-- parameters of these names more in a function's part
+pub record Params (tree : Bytes) (names : List Bytes) (r r' : List ℕ) : Type 0 where
+  pub table : table_of tree r' ≡ with_params names (table_of tree r)
   pub good : GoodTable tree r'
   pub marked : get_or r' marked_at 0 ≡ get_or r marked_at 0
 
 -- a function's part as it is opened: its name, then its parameters, with no entry marked
-pub record Opens (tree : Bytes) (name row n : ℕ) (r' : List ℕ) : Type 0 where
-  pub table : table_of tree r' ≡ with_params (fields tree n row) (named (content tree name))
+pub record Opens (tree : Bytes) (name : ℕ) (names : List Bytes) (r' : List ℕ) : Type 0 where
+  pub table : table_of tree r' ≡ with_params names (named (content tree name))
   pub good : GoodTable tree r'
   pub unmarked : get_or r' marked_at 0 ≡ 0
 
 -- a function is entered
-pub record Enters (tree : Bytes) (level name row n : ℕ) (a a' : List ℕ) : Type 0 where
-  pub tables : tables_of tree (suc level) a' ≡ with_params (fields tree n row) (named (content tree name)) ∷ tables_of tree level a
+pub record Enters (tree : Bytes) (level name : ℕ) (names : List Bytes) (a a' : List ℕ) : Type 0 where
+  pub tables : tables_of tree (suc level) a' ≡ with_params names (named (content tree name)) ∷ tables_of tree level a
   pub good : (names : Bytes) → Good tree names level a → Good tree names (suc level) a'
   pub globals : take globals_size a' ≡ take globals_size a
   pub above : drop (base (suc level)) a' ≡ drop (base (suc level)) a

@@ -1,22 +1,11 @@
 -- Names as fields: a name is known by the offset of its field in some bytes.
-use Rattle.std.specs.Prelude.{ℕ, zero, suc, ◌+◌, ◌*◌, ◌%◌, ◌≤◌, List, [], ◌∷◌, length}
+use Rattle.std.specs.Prelude.{ℕ, ◌+◌, ◌*◌, ◌%◌, ◌≤◌, List, [], ◌∷◌, length}
 use Rattle.definition.specs.Basic.{Bytes}
-use Rattle.field.specs.Layout.{after, content}
+use Rattle.field.specs.Layout.{after}
 
 -- a whole field stands at an offset
 abbrev pub Stands : Bytes → ℕ → Type 0
 Stands b at = after b at ≤ length b
-
-module _ (b : Bytes) where
-  -- the contents of so many fields in a row
-  unfoldable pub fields : ℕ → ℕ → List Bytes
-  fields zero at = []
-  fields (suc n) at = content b at ∷ fields n (after b at)
-
-  -- so many whole fields stand in a row
-  unfoldable pub Row : ℕ → ℕ → Type 0
-  Row zero at = Unit {0}
-  Row (suc n) at = Stands b at × Row n (after b at)
 
 -- hashes are below this
 abbrev pub hash_bound : ℕ

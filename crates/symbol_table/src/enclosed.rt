@@ -1,13 +1,12 @@
 // The table of an open function, in its part of the area.
 // Kept: a part is a slice. Tried: `&mut [u32; PART_SIZE]` by `first_chunk_mut`: the proof of what comes back to the area did not close.
 ghost use Rattle.std.specs.Prelude.{◌≡◌, ◌+◌, ◌^◌, ◌<◌, ◌≤◌, min, length, get_or};
-ghost use Rattle.definition.specs.Limit.{tree_limit, locals_limit, free_limit, arguments_limit};
+ghost use Rattle.definition.specs.Limit.{tree_limit, locals_limit, free_limit};
 ghost use Rattle.definition.specs.SymbolTable.{find};
 ghost use Rattle.field.specs.Layout.{len};
-ghost use Rattle.symbol_table.specs.Name.{Row};
 ghost use Rattle.symbol_table.specs.Layout.{part_size, entries_at, base, part, entries, originals_of, symbols_in, table_of, Sized, GoodTable};
 ghost use Rattle.symbol_table.specs.Store.{entered_in, entry_in, local_in, free_in};
-ghost use Rattle.symbol_table.specs.Contract.{hit_of, PassedOver, Few, Crosses, DefinesLocal, Params, Opens};
+ghost use Rattle.symbol_table.specs.Contract.{hit_of, PassedOver, Few, Crosses, DefinesLocal, HasParams, Params, Opens};
 
 use super::layout::{
     CAPTURES, CODE_UNIT, CODES, ENTRIES_AT, FREE, FUNCTION, GLOBALS_SIZE, LOCAL, LOCALS, MARKED_AT,
@@ -15,8 +14,9 @@ use super::layout::{
 };
 use super::name::{Key, Label, Name};
 use super::{DefineError, Found, LookupError, Slot, Symbol};
+use field::content_at;
+use field::fields::Fields;
 use field::names::same_name;
-use field::{after_at, content_at};
 use std::ops::Range;
 
 // Where the part of the function at a level stands.
@@ -133,7 +133,7 @@ fn enter_in(part: &mut [u32], key: &Key)
 }
 
 // An entry more, with its symbol's code.
-// Kept: `Sized` in the clauses here and below: a struct of the numbers that holds it would say in each promise that its slice is the same.
+// Kept: `Sized` in clauses. Tried: a struct that holds it: each method needs a clause `same` instead, or what comes back stays open.
 fn push_entry(part: &mut [u32], label: Label, code: u32)
     requires sized { Sized part.old }
     requires code { code < 1024 }
@@ -208,30 +208,26 @@ pub fn place_in(part: &mut [u32], label: Label) -> Result<Slot, DefineError>
     Ok(Slot::Local(d))
 }
 
-// So many definitions more, of the fields from an offset on.
-// Kept: by their number, which both walks count for its limit: over `Fields`, up to an end, each clause would say beside it how many.
-fn define_row(tree: &[u8], part: &mut [u32], row: usize, n: usize)
-    requires tree_len_bound { length tree.now ≤ tree_limit }
-    requires good_table { GoodTable tree.now part.old }
-    requires n_bound { get_or part.old 1 0 + n ≤ locals_limit }
-    requires row { Row tree.now n row }
-    ensures { Params tree.now row n part.old part.new }
+// The definitions of a function's parameters, its first.
+fn define_params(params: Fields<'_>, part: &mut [u32])
+    requires tree_len_bound { length params.bytes.now ≤ tree_limit }
+    requires good_table { GoodTable params.bytes.now part.old }
+    requires none { get_or part.old 1 0 ≡ 0 }
+    requires params { HasParams params.bytes.now params.at params.end }
+    ensures { (h : HasParams params.entry.bytes.now params.entry.at params.entry.end) → Params params.entry.bytes.now h.row.names part.old part.new }
 {
-    let mut at = row;
-    for _ in 0..n {
-        define_in(part, Key::new(tree, at).label());
-        at = after_at(tree, at);
+    for at in params {
+        define_in(part, Key::new(params.bytes, at).label());
     }
 }
 
-// A table as its function is opened: its name, then its parameters.
-pub fn open_in(part: &mut [u32], key: &Key, row: usize, n: usize)
+// A table as its function is opened: its name, then its parameters, the fields from an offset up to an end.
+pub fn open_in(part: &mut [u32], key: &Key, from: usize, end: usize)
     requires tree_len_bound { length key.now.tree.now ≤ tree_limit }
     requires part_len { length part.old ≡ part_size }
-    requires row { Row key.now.tree.now n row }
-    requires n_le_arguments_limit { n ≤ arguments_limit }
-    ensures { Opens key.now.tree.now key.now.at row n part.new }
+    requires params { HasParams key.now.tree.now from end }
+    ensures { (h : HasParams key.now.tree.now from end) → Opens key.now.tree.now key.now.at h.row.names part.new }
 {
     enter_in(part, key);
-    define_row(key.tree, part, row, n);
+    define_params(Fields::new(key.tree, from, end), part);
 }

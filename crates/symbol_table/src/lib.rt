@@ -12,15 +12,14 @@ mod words;
 
 ghost use Rattle.std.specs.Prelude.{◌≡◌, ◌+◌, ◌<◌, ◌≤◌, length, get_or, take, drop};
 ghost use Rattle.definition.specs.Basic.{Bytes};
-ghost use Rattle.definition.specs.Limit.{tree_limit, session_size, arguments_limit};
+ghost use Rattle.definition.specs.Limit.{tree_limit, session_size};
 ghost use Rattle.definition.specs.Opcode.{instr};
 ghost use Rattle.definition.specs.SymbolTable.{load_of};
 ghost use Rattle.definition.specs.Decode.{words_in};
 ghost use Rattle.field.specs.Layout.{after};
-ghost use Rattle.symbol_table.specs.Name.{Row};
 ghost use Rattle.symbol_table.specs.Layout.{globals_size, part_size, base, part, symbol_of, Sized, Good};
 ghost use Rattle.symbol_table.specs.Symbols.{meant_by};
-ghost use Rattle.symbol_table.specs.Contract.{lookup_reason, define_reason, Inside, Resolves, DefinesLocal, Defines, Enters, HasWords, HasNames, HasItems, StartsFrom, Starts};
+ghost use Rattle.symbol_table.specs.Contract.{lookup_reason, define_reason, Inside, Resolves, DefinesLocal, Defines, HasParams, Enters, HasWords, HasNames, HasItems, StartsFrom, Starts};
 
 use definition::Reason;
 pub use enclosed::Part;
@@ -112,11 +111,11 @@ impl From<u32> for Symbol {
     }
 }
 
-// An instruction with at most one operand.
+// The instruction that loads or sets a symbol, with at most one operand.
 #[derive(Clone, Copy)]
-pub struct Load {
+pub struct Access {
     pub op: u8,
-    pub operand: u32,
+    pub operand: usize,
 }
 
 // A name's symbol, with the builtins that the session begins with, or document 01's.
@@ -161,15 +160,14 @@ pub fn define(key: Key<'_>, table: &mut [u32], level: usize) -> Result<Slot, Def
     place_at(table, level - 1, key.label())
 }
 
-// One function more is open, with its name and its parameters.
-pub fn enter(key: Key<'_>, table: &mut [u32], level: usize, row: usize, n: usize)
+// One function more is open, with its name and its parameters, the fields from an offset up to an end.
+pub fn enter(key: Key<'_>, table: &mut [u32], level: usize, from: usize, end: usize)
     requires part_size_in_bounds { base level + part_size ≤ length table.old }
     requires tree_len_bound { length key.tree.now ≤ tree_limit }
-    requires row { Row key.tree.now n row }
-    requires n_le_arguments_limit { n ≤ arguments_limit }
-    ensures { Enters key.entry.tree.now level key.entry.at row n table.old table.new }
+    requires params { HasParams key.tree.now from end }
+    ensures { (h : HasParams key.entry.tree.now from end) → Enters key.entry.tree.now level key.entry.at h.row.names table.old table.new }
 {
-    open_in(&mut table[part_range(level)], &key, row, n);
+    open_in(&mut table[part_range(level)], &key, from, end);
 }
 
 // The table area as a walk starts: a session's names are the globals, and no function is open.
@@ -208,7 +206,7 @@ pub fn global_names(table: &[u32]) -> &[u32]
 }
 
 // The instruction that loads a symbol.
-pub fn load_of(code: u32) -> Load
+pub fn load_of(code: u32) -> Access
     ensures { instr result.op result.operand 0 ≡ load_of (symbol_of code) }
 {
     let (op, operand) = match Symbol::from(code) {
@@ -218,5 +216,8 @@ pub fn load_of(code: u32) -> Load
         Symbol::Builtin(k) => (opcodes::GET_BUILTIN, k),
         Symbol::Global(k) => (opcodes::GET_GLOBAL, k),
     };
-    Load { op, operand }
+    Access {
+        op,
+        operand: operand as usize,
+    }
 }

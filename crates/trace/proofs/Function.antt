@@ -15,10 +15,9 @@ use Rattle.definition.specs.Decode.{words_in}
 use Rattle.field.specs.Layout.{len, after, content, Whole}
 use Rattle.tree.specs.At.{FunctionAt}
 use Rattle.tree.specs.Reads.{Some, ReadsBlock, Counted}
-use Rattle.symbol_table.specs.Name.{Row, fields}
 use Rattle.symbol_table.specs.Layout.{part_size, base, tables_of, globals_of, Good}
-use Rattle.symbol_table.specs.Contract.{Enters}
-use Rattle.step.proofs.Functions.{row-fields, row_stands}
+use Rattle.symbol_table.specs.Contract.{HasParams, Enters}
+use Rattle.step.proofs.Functions.{has_params}
 use Rattle.records.specs.Naming.{Names, names, enter_name, naming}
 use Rattle.trace.specs.Log.{log_of}
 use Rattle.trace.specs.Pass.{names_at, Follows, Node, walk_node, ReadsNode, Standing, Passes}
@@ -42,11 +41,12 @@ module _ {tree : Bytes} {at params body k : ℕ} (q : params ≡ after tree (at 
   params_count : {e : Expr} (i : FunctionAt tree (ReadsBlock tree) at e) → k ≡ length i.params
   params_count i = c.names i.params (rw (p, q) i.on_params.names)
 
-  pub params_row : Some (FunctionAt tree (ReadsBlock tree) at) → Row tree k (params + 3)
-  params_row (e, i) = rw (params_count i, q) (row_stands tree (after tree (at + 3) + 3) (after tree (after tree (at + 3))) i.params i.on_params.names.row)
+  -- few enough, they can be defined
+  these_params : {e : Expr} (i : FunctionAt tree (ReadsBlock tree) at e) → k ≤ arguments_limit → HasParams tree (params + 3) body
+  these_params i a = rw (p, q) (has_params tree i.on_params (rw (params_count i) at a))
 
-  params_fields : {e : Expr} (i : FunctionAt tree (ReadsBlock tree) at e) → fields tree k (params + 3) ≡ i.params
-  params_fields i = rw (params_count i, q) (row-fields tree (after tree (at + 3) + 3) (after tree (after tree (at + 3))) i.params i.on_params.names.row)
+  pub params_row : Some (FunctionAt tree (ReadsBlock tree) at) → k ≤ arguments_limit → HasParams tree (params + 3) body
+  params_row (e, i) a = these_params i a
 
   pub body_stands : Some (FunctionAt tree (ReadsBlock tree) at) → Some (ReadsNode tree body)
   body_stands (e, i) = (Node.block i.body, rw (p, q) (record { reads = i.on_body }))
@@ -75,17 +75,22 @@ module _ {tree : Bytes} {at params body k : ℕ} (q : params ≡ after tree (at 
       unfolding enter_name
       many_passes h = stops (λ ps m x f. rw (tables_length tree level t, lt-leb nesting_limit level d, lt-ltb arguments_limit (length ps) (rw m at h)) tt)
 
-      module _ (a : k ≤ arguments_limit) {t₁ : List ℕ} (x : Enters tree level (at + 3) (params + 3) k t t₁) where
+      module _ (a : k ≤ arguments_limit) {t₁ : List ℕ} (x : (h : HasParams tree (params + 3) body) → Enters tree level (at + 3) h.row.names t t₁) where
         pub inside_stands : Some (FunctionAt tree (ReadsBlock tree) at) → length t₁ ≡ length t → Standing tree before (level + 1) t₁ l n (3 + len tree body)
         inside_stands f m =
-            record { words = s.words; symbols = rw (add-one level) (x.good before s.symbols); depth = omega arith; area = omega (arith, s.area); short = s.short; room = omega (arith, s.room, body_fits f) }
+            record { words = s.words; symbols = rw (add-one level) ((x (params_row f a)).good before s.symbols); depth = omega arith; area = omega (arith, s.area); short = s.short; room = omega (arith, s.room, body_fits f) }
+
+        entered_tables : {e : Expr} (i : FunctionAt tree (ReadsBlock tree) at e) → tables_of tree (suc level) t₁ ≡ with_params i.params (named (content tree (at + 3))) ∷ tables_of tree level t
+        entered_tables i =
+            let h : HasParams tree (after tree (at + 3) + 3) (after tree (after tree (at + 3))) = has_params tree i.on_params (rw (params_count i) at a) in
+            ((rw (p, q) at x) h).tables
 
         -- the state inside
         entered : {e : Expr} (i : FunctionAt tree (ReadsBlock tree) at e) → enter_name at (content tree (at + 3)) i.params (names_at tree before level t l n) ≡ on tt (names_at tree before (suc level) t₁ l n)
         unfolding enter_name
         entered i =
             rw (tables_length tree level t, lt-leb nesting_limit level d, le-ltb arguments_limit (length i.params) (rw (params_count i) at a))
-            (λ u. on tt (names (words_in before) (sym (x.tables ∙ ap (λ ps. with_params ps (named (content tree (at + 3))) ∷ tables_of tree level t) (params_fields i)) u) (globals_of tree before (sym x.globals u)) (log_of l n)))
+            (λ u. on tt (names (words_in before) (sym (entered_tables i) u) (globals_of tree before (sym (x (these_params i a)).globals u)) (log_of l n)))
 
         pub function_whole : {t₂ : List ℕ} {l₂ : Bytes} {n₂ : ℕ} → Some (FunctionAt tree (ReadsBlock tree) at) → Passes tree before (level + 1) (ReadsNode tree body) walk_node (3 + len tree body) t₁ t₂ l l₂ n n₂
             → Passes tree before level (FunctionAt tree (ReadsBlock tree) at) (walk_expr naming) (3 + len tree at) t t₂ l l₂ n n₂

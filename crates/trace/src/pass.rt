@@ -135,7 +135,7 @@ impl<'a> Namer<'a> {
         if NESTING_LIMIT <= level || ARGUMENTS_LIMIT < k {
             return;
         }
-        enter(Key::new(tree, at + 3), self.table, level, params + 3, k);
+        enter(Key::new(tree, at + 3), self.table, level, params + 3, body);
         self.name_field(tree, names, level + 1, body)
     }
 

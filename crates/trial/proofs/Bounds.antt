@@ -15,10 +15,9 @@ use Rattle.definition.proofs.Basic.{chosen}
 use Rattle.definition.proofs.Images.{read-image, write-image}
 use Rattle.definition.proofs.Places.{Within}
 use Rattle.listing.specs.Reads.{ImageAt}
-use Rattle.listing.proofs.Images.{parts}
+use Rattle.listing.proofs.Images.{parts, image_short}
 use Rattle.heights.specs.Pass.{Marks, Passed, onwards, pass as checked, Verdict, judged, heights_answer, verdict_answer}
 use Rattle.heights.proofs.Bounds.{heights_numbers, heights_within}
-use Rattle.heights.proofs.Whole.{image_short}
 use Rattle.definition.specs.Number
 use Rattle.trial.specs.Value.{Value, Globals, combined, changed}
 use Rattle.trial.specs.Run.{Action, push, combine, change, constant, pop, jump_not_truthy, jump, get_global, set_global, return_value, other, action_of, integer_in, or_else, Frame, frame, Run, top, below, given, acted, come_to, pass, trial_of, trial, unset_globals}
@@ -119,7 +118,7 @@ run_small b a hs work room = chosen Small (ltb work work_size) (λ _. Small.refu
     go_judged m n q (Verdict.tops ns) j =
         let s = read_whole m n q in
         let k = parts b s refl in
-        let l = image_short b a s in
+        let l = image_short b s in
         taken_small hs m j (omega (arith, k.size, k.code.within, l)) room
     go_judged m n q (Verdict.fails p) j =
         let l = refused-place (heights_within b a hs room) (ap (λ d. heights_answer d hs room) q ∙ ap (λ v. verdict_answer v room) j) in

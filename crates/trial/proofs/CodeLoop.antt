@@ -1,10 +1,10 @@
 -- A loop over the instructions of main, which stands from 3 on.
-use Rattle.std.proofs.Common.{◌≡◌, ℕ, ◌+◌, ◌-◌, ◌<◌, ◌≤◌, true, [], ◌∷◌, length, sym, refl, ap, ◌∙◌, subst, arith, eqb-true}
+use Rattle.std.proofs.Common.{◌≡◌, ℕ, ◌+◌, ◌-◌, ◌<◌, ◌≤◌, [], ◌∷◌, length, sym, refl, ap, ◌∙◌, subst, arith}
 use Rattle.definition.specs.Basic.{Bytes, byte_at}
 use Rattle.definition.specs.Field.{head}
 use Rattle.definition.specs.Opcode.{Instr, size}
 use Rattle.definition.specs.Bytecode.{Code, size_of, Image}
-use Rattle.definition.specs.Decode.{Decoded, decoded, malformed, read_instr, read_image}
+use Rattle.definition.specs.Decode.{decoded, read_instr}
 use Rattle.definition.specs.Trusted.{Stands}
 use Rattle.definition.specs.declared.reason.Refusal.{Refusal}
 use Rattle.opcode.specs.Decoding.{instr_of, decode_answer, read_before}
@@ -13,10 +13,9 @@ use Rattle.opcode.proofs.EachInstruction.{ReadAt}
 use Rattle.listing.specs.Reads.{CodeAt, PoolAt, ImageAt}
 use Rattle.listing.proofs.Items.{Reading, begins, ends, Next, next, all_read}
 use Rattle.listing.proofs.Lines.{whole-read}
-use Rattle.listing.proofs.Images.{parts}
+use Rattle.listing.proofs.Images.{parts, image_short, has_image}
 use Rattle.opcode.proofs.Decoding.{before_within, answered, unanswered}
 use Rattle.std.specs.Prelude.{Err}
-use Rattle.trial.specs.Program.{is_image}
 use Rattle.trial.specs.declared.pool.Program.{Program}
 
 -- bytes read as one image
@@ -45,11 +44,7 @@ pub record Sound (b : Bytes) (end pool : ℕ) : Type 0 where
   pub short : length b ≤ 65535
 
 pub sound : (p : Program) → Sound p.image.now p.end p.pool
-sound p = let h = go (read_image p.image.now) refl p.sound in record { image = h.0; reads = h.1; ends = p.code_ends; pools = p.pool_starts; short = p.short }
-  where
-    go : (d : Decoded Image) → read_image p.image.now ≡ d → is_image d (length p.image.now) ≡ true → (m : Image) × ImageAt p.image.now m
-    go (decoded m n) e i = (m, record { reads = e ∙ ap (decoded m) (eqb-true n (length p.image.now) i) })
-    go (malformed q) e i = let z : ◌≡◌ {A = ℕ} 0 1 = cc in absurd (omega arith)
+sound p = let h = has_image p.image.now p.sound in record { image = h.image; reads = h.is; ends = p.code_ends; pools = p.pool_starts; short = omega (arith, image_short p.image.now h.is) }
 
 -- its constants
 pub pools : (p : Program) → PoolAt p.image.now p.pool (length p.image.now) (sound p).image.pool

@@ -1,5 +1,5 @@
 -- The whole call: its numbers in their order, its answer, its output and its work area.
-use Rattle.std.specs.Prelude.{◌≡◌, ℕ, ◌+◌, ◌*◌, ◌≤◌, Bool, List, [], ◌∷◌, length, nat_le, nat_lt, Option, Some as some, None as none, Result, Ok, Err}
+use Rattle.std.specs.Prelude.{◌≡◌, ℕ, ◌+◌, ◌*◌, Bool, List, [], ◌∷◌, length, nat_le, nat_lt, Option, Some as some, None as none, Result, Ok, Err}
 use Rattle.std.specs.Prelude.{Option, Some as some, None as none}
 use Rattle.definition.specs.Basic.{Bytes, pick, both}
 use Rattle.definition.specs.Number.{refusal, short_buffer, bad_image, output_short, bad_heights}
@@ -89,4 +89,3 @@ pub record ChunkToRun (b : Bytes) (hs : List ℕ) : Type 0 where
   pub reads : ImageAt b image
   pub tops : List ℕ
   pub passes : judged hs image image.pool ≡ Verdict.tops tops
-  pub short : length b ≤ 65535

@@ -4,7 +4,6 @@ pub mod Evaluate
 pub mod Output
 pub mod Cells
 pub mod Machine
-pub mod Program
 pub mod Call
 pub mod Examples
 pub mod CallExamples

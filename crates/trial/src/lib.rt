@@ -18,6 +18,7 @@ use bytecode::{Parts, check_image};
 pub use cells::{Value, value_in};
 use definition::{Reason, Refusal, refused};
 use heights::image::judge;
+use listing::sound::SoundImage;
 use machine::run_main;
 use output::put_globals;
 use pool::Program;
@@ -72,7 +73,8 @@ fn run_image(
     ensures writes { output.new ≡ outcome_into (image_outcome (read_image image.now) heights.now (length output.old)) output.old }
 {
     check_image(image)?;
-    judge(&mut [0u32; 0], image, heights)?;
+    let sound = SoundImage { bytes: image };
+    judge(&mut [0u32; 0], sound, heights)?;
     run_chunk(image, heights, work, output)
 }
 

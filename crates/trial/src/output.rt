@@ -23,7 +23,7 @@ pub fn put_globals(output: &mut [u8], work: &[u64; WORK_SIZE], n: usize)
     requires { (9 * n ≤ length output.old) × (n ≤ 1024) × KeepsGlobals work.now }
     ensures { (g : Globals) → Keeping work.now g → output.new ≡ over (shown n g) output.old }
 {
-    // Kept: an index: else the loop is over `chunks_exact_mut(9).zip(&work[..n]).zip(&work[KINDS..])`, and takes pairs of pairs apart.
+    // Kept: an index: with `for (k, cell) in output[..9 * n].chunks_exact_mut(9).enumerate()` it stood open that a cell has nine bytes.
     for k in 0..n {
         put_cell(output, 9 * k, work[KINDS + k], work[k]);
     }

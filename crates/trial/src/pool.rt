@@ -1,12 +1,11 @@
 // A program, and the integers of its pool.
-ghost use Rattle.std.specs.Prelude.{◌≡◌, ◌+◌, ◌≤◌, true, List, length};
+ghost use Rattle.std.specs.Prelude.{◌≡◌, ◌+◌, true, List, length};
 ghost use Rattle.definition.specs.Basic.{byte_at};
 ghost use Rattle.definition.specs.Field.{head};
 ghost use Rattle.definition.specs.Bytecode.{Const};
 ghost use Rattle.definition.specs.Decode.{read_image};
 ghost use Rattle.definition.specs.Trusted.{constant_at};
-ghost use Rattle.listing.specs.Reads.{PoolAt};
-ghost use Rattle.trial.specs.Program.{is_image};
+ghost use Rattle.listing.specs.Reads.{PoolAt, is_image};
 ghost use Rattle.trial.specs.Run.{integer_in};
 
 use crate::cells::Value;
@@ -23,7 +22,6 @@ pub struct Program<'a> {
     ghost sound: { is_image (read_image image.now) (length image.now) ≡ true },
     ghost code_ends: { end ≡ 3 + (head (byte_at image.now) 0).len },
     ghost pool_starts: { pool ≡ end + 3 },
-    ghost short: { length image.now ≤ 65535 },
 }
 
 // The value of the constant of an index, if it is an integer.

@@ -18,7 +18,7 @@ use Rattle.scope.specs.declared.State.{State}
 use Rattle.std.specs.Prelude.{Ok, Err}
 use Rattle.step.specs.Memory.{Rest, memory, Walks}
 use Rattle.step.specs.Contract.{Defines}
-use Rattle.step.specs.declared.Setting.{Setting}
+use Rattle.symbol_table.specs.declared.Access.{Access}
 use Rattle.tree.specs.At.{ValueAt, LetAt, StmtIs}
 use Rattle.tree.specs.Reads.{ReadsStmt, ReadsExpr, ReadsStmts}
 use Rattle.step.proofs.Memory.{follow, stop_deeper}
@@ -59,7 +59,7 @@ module _ {tree : Bytes} {at : ℕ} {c c₁ c₂ : Bytes} {m m₁ : Rest} {w v r 
 
 module _ {tree : Bytes} {at : ℕ} {c : Bytes} {m m₁ : Rest} {s : State} where
   -- a let: the name is defined, then its value walked, then it is set
-  pub let_walks : {value : ℕ} {c₁ c₂ : Bytes} {m₂ : Rest} {v r : Walked} {x : Setting} → value ≡ after tree (at + 3) → Defines tree at c m m₁ s (Ok x)
+  pub let_walks : {value : ℕ} {c₁ c₂ : Bytes} {m₂ : Rest} {v r : Walked} {x : Access} → value ≡ after tree (at + 3) → Defines tree at c m m₁ s (Ok x)
       → Walks tree (ReadsExpr tree value) (walk_expr machine) c c₁ m₁ m₂ (Ok s) v → Done c₁ c₂ v r (emit at (instr x.op x.operand 0))
       → Walks tree (LetAt tree (ReadsExpr tree) at) (walk_stmt machine) c c₂ m m₂ (Ok s) r
   unfolding walk_stmt

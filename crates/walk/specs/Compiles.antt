@@ -3,6 +3,7 @@ use Rattle.std.specs.Prelude.{ℕ, ◌≡◌, Ok, Result}
 use Rattle.definition.specs.Basic.{Bytes}
 use Rattle.definition.specs.Walk.{Go}
 use Rattle.definition.specs.declared.reason.Refusal.{Refusal}
+use Rattle.field.specs.declared.Field.{Field}
 use Rattle.scope.specs.View.{View}
 use Rattle.scope.specs.Walked.{walked}
 use Rattle.step.specs.Memory.{Rest, rest, Walks}
@@ -25,3 +26,7 @@ names c = (c.session.ghost_name, c.table.ghost_name, c.scope.ghost_name, c.scope
 pub record Compiles {A : Type 0} (tree : Bytes) (R : A → Type 0) (k : A → Go View) (c c' : Compiler) (r : Result (Unit {0}) Refusal) : Type 0 where
   pub walks : Walks tree R k c.scope.now.code.now c'.scope.now.code.now (beside c) (beside c') (Ok c.scope.now.state) (walked r c'.scope.now.state)
   pub same : names c' ≡ names c
+
+-- what was done at a field: R says what stands there
+abbrev pub CompilesAt : {A : Type 0} → Field → (Bytes → ℕ → A → Type 0) → (A → Go View) → Compiler → Compiler → Result (Unit {0}) Refusal → Type 0
+CompilesAt f R = Compiles f.bytes.now (R f.bytes.now f.at)

@@ -1,16 +1,18 @@
 -- What the walk's functions ask of the memory; the walk of parts that functions of their own compile; a whole tree.
-use Rattle.std.specs.Prelude.{ℕ, ◌≤◌, ◌≡◌, length}
+use Rattle.std.specs.Prelude.{ℕ, ◌+◌, ◌≤◌, ◌≡◌, length}
 use Rattle.definition.specs.Basic.{Bytes}
 use Rattle.definition.specs.Limit.{tree_limit}
 use Rattle.definition.specs.Opcode.{instr, op_jump}
-use Rattle.definition.specs.Syntax.{Stmts, Else, Exprs, count}
+use Rattle.definition.specs.Syntax.{Stmt, Stmts, Else, Expr, Exprs, count}
 use Rattle.definition.specs.Tree.{read_tree, Parsed}
 use Rattle.definition.specs.Walk.{on, bind, Go, walk_stmts, walk_else, walk_exprs}
 use Rattle.scope.specs.View.{View, then}
 use Rattle.scope.specs.Machine.{machine, emit, jump, patch}
 use Rattle.scope.specs.declared.State.{State}
 use Rattle.step.specs.Memory.{Rest, FineState}
-use Rattle.tree.specs.Reads.{Branches}
+use Rattle.field.specs.Layout.{after}
+use Rattle.tree.specs.At.{LetAt, PrefixAt, InfixAt, IfAt, FunctionAt, CallAt, IndexAt}
+use Rattle.tree.specs.Reads.{ReadsExpr, ReadsExprs, ReadsBlock, Branches}
 
 -- all stands well for a walk on from a state
 pub record Standing (tree : Bytes) (m : Rest) (s : State) : Type 0 where
@@ -42,3 +44,29 @@ walk_branches p j b v =
 pub record ReadsTree (tree : Bytes) (b : Stmts) : Type 0 where
   pub end : ℕ
   pub reads : read_tree tree ≡ Parsed.parsed b end
+
+-- what stands at an offset, with its parts: each construct that a function of its own compiles
+module _ (tree : Bytes) where
+  abbrev pub Let : ℕ → Stmt → Type 0
+  Let = LetAt tree (ReadsExpr tree)
+
+  abbrev pub Prefix : ℕ → Expr → Type 0
+  Prefix = PrefixAt tree (ReadsExpr tree)
+
+  abbrev pub Infix : ℕ → Expr → Type 0
+  Infix = InfixAt tree (ReadsExpr tree)
+
+  abbrev pub If : ℕ → Expr → Type 0
+  If = IfAt tree (ReadsBlock tree) (ReadsExpr tree)
+
+  abbrev pub Function : ℕ → Expr → Type 0
+  Function = FunctionAt tree (ReadsBlock tree)
+
+  abbrev pub Call : ℕ → Expr → Type 0
+  Call = CallAt tree (ReadsExpr tree)
+
+  abbrev pub Index : ℕ → Expr → Type 0
+  Index = IndexAt tree (ReadsExpr tree)
+
+  abbrev pub Items : ℕ → Exprs → Type 0
+  Items at = ReadsExprs tree (at + 3) (after tree at)

@@ -1,21 +1,19 @@
 // The walk over a tree that reads: statements, blocks and expressions compile each other.
 #![tactic(auto)]
 
-ghost use Rattle.std.specs.Prelude.{◌+◌, ◌≡◌, Ok};
+ghost use Rattle.std.specs.Prelude.{◌≡◌, Ok};
 ghost use Rattle.definition.specs.Walk.{walk_stmt, walk_stmts, walk_expr, walk_exprs};
-ghost use Rattle.field.specs.Layout.{Whole, after};
 ghost use Rattle.scope.specs.Walked.{walked};
 ghost use Rattle.scope.specs.Machine.{machine};
-ghost use Rattle.tree.specs.At.{LetAt, PrefixAt, InfixAt, IfAt, FunctionAt, CallAt, IndexAt};
 ghost use Rattle.tree.specs.Reads.{Some, ReadsStmt, ReadsStmts, ReadsExpr, ReadsExprs, ReadsBlock, ReadsOther, ReadsBranches};
 ghost use Rattle.step.specs.Memory.{rest, FineState, Walks};
-ghost use Rattle.walk.specs.Compiles.{Stands, Compiles};
-ghost use Rattle.walk.specs.Parts.{walk_list, walk_branch, walk_other, walk_branches, ReadsTree};
+ghost use Rattle.walk.specs.Compiles.{Stands, Compiles, CompilesAt};
+ghost use Rattle.walk.specs.Parts.{Let, Prefix, Infix, If, Function, Call, Index, Items, walk_list, walk_branch, walk_other, walk_branches, ReadsTree};
 
 use definition::limit::ARGUMENTS_LIMIT;
 use definition::operator::LESS_THAN;
 use definition::{Reason, Refusal, refused, tag};
-use field::after_at;
+use field::Field;
 use field::fields::Fields;
 use opcode::opcodes;
 use scope::Scope;
@@ -24,7 +22,7 @@ use tree::count_fields;
 
 // The memory that a walk is lent: the session, the table area, the code area with the state.
 // Kept: that all stands well is a clause of the methods, since a ghost field would have to hold after a refusal, too, when a lookup may have
-// captured in outer tables. The tree is their parameter: it is only read, so nothing need be said of it afterwards.
+// captured in outer tables. The field is their parameter: it is only read, so nothing need be said of it afterwards.
 #[derive(Drop)]
 struct Compiler<'a, 's> {
     session: &'a mut [u8],
@@ -33,41 +31,39 @@ struct Compiler<'a, 's> {
 }
 
 impl<'a, 's> Compiler<'a, 's> {
-    // Compiles the statement at `at`.
+    // Compiles a statement.
     #[cycle(walk)]
-    fn walk_statement(&mut self, tree: &[u8], at: usize) -> Result<(), Refusal>
-        requires some { Some (ReadsStmt tree.now at) }
-        requires standing { Stands tree.now self.old }
-        ensures { Compiles tree.now (ReadsStmt tree.now at) (walk_stmt machine) self.old self.new result }
+    fn walk_statement(&mut self, field: Field<'_>) -> Result<(), Refusal>
+        requires some { Some (ReadsStmt field.bytes.now field.at) }
+        requires standing { Stands field.bytes.now self.old }
+        ensures { CompilesAt field.entry ReadsStmt (walk_stmt machine) self.old self.new result }
     {
-        match tree[at] {
+        match field.bytes[field.at] {
             tag::EXPR_STMT => {
-                self.walk_expression(tree, at + 3)?;
-                self.scope.emit(at, opcodes::POP)
+                self.walk_expression(field.first())?;
+                self.scope.emit(field.at, opcodes::POP)
             }
-            tag::BLOCK => {
-                let end = after_at(tree, at);
-                self.walk_block(tree, at + 3, end)
-            }
-            tag::LET => self.walk_let(tree, at),
+            tag::BLOCK => self.walk_block(field.bytes, field.at + 3, field.after()),
+            tag::LET => self.walk_let(field),
             _ => {
-                self.walk_expression(tree, at + 3)?;
-                self.scope.emit(at, opcodes::RETURN_VALUE)
+                self.walk_expression(field.first())?;
+                self.scope.emit(field.at, opcodes::RETURN_VALUE)
             }
         }
     }
 
     // Compiles a let: the name is defined before its value.
     #[cycle(walk)]
-    fn walk_let(&mut self, tree: &[u8], at: usize) -> Result<(), Refusal>
-        requires some { Some (LetAt tree.now (ReadsExpr tree.now) at) }
-        requires standing { Stands tree.now self.old }
-        ensures { Compiles tree.now (LetAt tree.now (ReadsExpr tree.now) at) (walk_stmt machine) self.old self.new result }
+    fn walk_let(&mut self, field: Field<'_>) -> Result<(), Refusal>
+        requires some { Some (Let field.bytes.now field.at) }
+        requires standing { Stands field.bytes.now self.old }
+        ensures { CompilesAt field.entry Let (walk_stmt machine) self.old self.new result }
     {
-        let value = after_at(tree, at + 3);
-        let setting = define(tree, self.table, self.scope.state, at)?;
-        self.walk_expression(tree, value)?;
-        self.scope.emit_operand(at, setting.op, setting.operand)
+        let value = field.first().next();
+        let setting = define(field.bytes, self.table, self.scope.state, field.at)?;
+        self.walk_expression(value)?;
+        self.scope
+            .emit_operand(field.at, setting.op, setting.operand)
     }
 
     // Compiles the statements from an offset up to an end.
@@ -78,173 +74,174 @@ impl<'a, 's> Compiler<'a, 's> {
         ensures { Compiles tree.now (ReadsStmts tree.now from end) (walk_stmts machine) self.old self.new result }
     {
         for at in Fields::new(tree, from, end) {
-            self.walk_statement(tree, at)?;
+            self.walk_statement(Field { bytes: tree, at })?;
         }
         Ok(())
     }
 
-    // Compiles the expression at `at`.
+    // Compiles an expression.
     #[cycle(walk)]
-    fn walk_expression(&mut self, tree: &[u8], at: usize) -> Result<(), Refusal>
-        requires some { Some (ReadsExpr tree.now at) }
-        requires standing { Stands tree.now self.old }
-        ensures { Compiles tree.now (ReadsExpr tree.now at) (walk_expr machine) self.old self.new result }
+    fn walk_expression(&mut self, field: Field<'_>) -> Result<(), Refusal>
+        requires some { Some (ReadsExpr field.bytes.now field.at) }
+        requires standing { Stands field.bytes.now self.old }
+        ensures { CompilesAt field.entry ReadsExpr (walk_expr machine) self.old self.new result }
     {
-        match tree[at] {
+        match field.bytes[field.at] {
             tag::IDENTIFIER => {
                 let session = &mut *self.session;
-                load(tree, session, self.scope, self.table, at)
+                load(field, session, self.scope, self.table)
             }
-            tag::PREFIX => self.walk_prefix(tree, at),
-            tag::INFIX => self.walk_infix(tree, at),
-            tag::IF => self.walk_if(tree, at),
-            tag::FUNCTION => self.walk_function(tree, at),
-            tag::CALL => self.walk_call(tree, at),
-            tag::INTEGER => literal(tree, self.session, self.scope, at, tag::INTEGER_CONST),
-            tag::BOOLEAN => self.scope.boolean(at, tree[at + 3]),
-            tag::STRING => literal(tree, self.session, self.scope, at, tag::STRING_CONST),
-            tag::ARRAY => self.walk_list(tree, at, opcodes::ARRAY),
-            tag::INDEX => self.walk_index(tree, at),
-            tag::HASH => self.walk_list(tree, at, opcodes::HASH),
-            _ => refused(Reason::Macro, at),
+            tag::PREFIX => self.walk_prefix(field),
+            tag::INFIX => self.walk_infix(field),
+            tag::IF => self.walk_if(field),
+            tag::FUNCTION => self.walk_function(field),
+            tag::CALL => self.walk_call(field),
+            tag::INTEGER => literal(field, self.session, self.scope, tag::INTEGER_CONST),
+            tag::BOOLEAN => self.scope.boolean(field.at, field.bytes[field.at + 3]),
+            tag::STRING => literal(field, self.session, self.scope, tag::STRING_CONST),
+            tag::ARRAY => self.walk_list(field, opcodes::ARRAY),
+            tag::INDEX => self.walk_index(field),
+            tag::HASH => self.walk_list(field, opcodes::HASH),
+            _ => refused(Reason::Macro, field.at),
         }
     }
 
     // Compiles a prefix: its operand, then its operator.
     #[cycle(walk)]
-    fn walk_prefix(&mut self, tree: &[u8], at: usize) -> Result<(), Refusal>
-        requires some { Some (PrefixAt tree.now (ReadsExpr tree.now) at) }
-        requires standing { Stands tree.now self.old }
-        ensures { Compiles tree.now (PrefixAt tree.now (ReadsExpr tree.now) at) (walk_expr machine) self.old self.new result }
+    fn walk_prefix(&mut self, field: Field<'_>) -> Result<(), Refusal>
+        requires some { Some (Prefix field.bytes.now field.at) }
+        requires standing { Stands field.bytes.now self.old }
+        ensures { CompilesAt field.entry Prefix (walk_expr machine) self.old self.new result }
     {
-        self.walk_expression(tree, at + 7)?;
-        self.scope.prefix_operator(at, tree[at + 6])
+        self.walk_expression(Field {
+            bytes: field.bytes,
+            at: field.at + 7,
+        })?;
+        self.scope
+            .prefix_operator(field.at, field.bytes[field.at + 6])
     }
 
     // Compiles an infix: its operands, the right one first for `<`, then its operator.
     #[cycle(walk)]
-    fn walk_infix(&mut self, tree: &[u8], at: usize) -> Result<(), Refusal>
-        requires some { Some (InfixAt tree.now (ReadsExpr tree.now) at) }
-        requires standing { Stands tree.now self.old }
-        ensures { Compiles tree.now (InfixAt tree.now (ReadsExpr tree.now) at) (walk_expr machine) self.old self.new result }
+    fn walk_infix(&mut self, field: Field<'_>) -> Result<(), Refusal>
+        requires some { Some (Infix field.bytes.now field.at) }
+        requires standing { Stands field.bytes.now self.old }
+        ensures { CompilesAt field.entry Infix (walk_expr machine) self.old self.new result }
     {
-        let left = at + 3;
-        let op = after_at(tree, left);
-        let right = op + 4;
-        let o = tree[op + 3];
+        let left = field.first();
+        let op = left.next();
+        let right = Field {
+            bytes: field.bytes,
+            at: op.at + 4,
+        };
+        let o = field.bytes[op.at + 3];
         if o == LESS_THAN {
-            self.walk_expression(tree, right)?;
-            self.walk_expression(tree, left)?;
+            self.walk_expression(right)?;
+            self.walk_expression(left)?;
         } else {
-            self.walk_expression(tree, left)?;
-            self.walk_expression(tree, right)?;
+            self.walk_expression(left)?;
+            self.walk_expression(right)?;
         }
-        self.scope.infix_operator(at, o)
+        self.scope.infix_operator(field.at, o)
     }
 
     // Compiles an if: its test, a jump over its first branch, its branches.
     #[cycle(walk)]
-    fn walk_if(&mut self, tree: &[u8], at: usize) -> Result<(), Refusal>
-        requires whole { Whole tree.now at }
-        requires some { Some (IfAt tree.now (ReadsBlock tree.now) (ReadsExpr tree.now) at) }
-        requires standing { Stands tree.now self.old }
-        ensures { Compiles tree.now (IfAt tree.now (ReadsBlock tree.now) (ReadsExpr tree.now) at) (walk_expr machine) self.old self.new result }
+    fn walk_if(&mut self, field: Field<'_>) -> Result<(), Refusal>
+        requires some { Some (If field.bytes.now field.at) }
+        requires standing { Stands field.bytes.now self.old }
+        ensures { CompilesAt field.entry If (walk_expr machine) self.old self.new result }
     {
-        self.walk_expression(tree, at + 3)?;
-        let skip = self.scope.jump(at, opcodes::JUMP_NOT_TRUTHY)?;
-        self.walk_branches(tree, at, skip)
+        self.walk_expression(field.first())?;
+        let skip = self.scope.jump(field.at, opcodes::JUMP_NOT_TRUTHY)?;
+        self.walk_branches(field, skip)
     }
 
-    // Compiles the branches of the if at `at`, whose first jump stands at `skip`.
+    // Compiles the branches of an if, whose first jump stands at `skip`.
     #[cycle(walk)]
-    fn walk_branches(&mut self, tree: &[u8], at: usize, skip: usize) -> Result<(), Refusal>
-        requires whole { Whole tree.now at }
-        requires some { Some (IfAt tree.now (ReadsBlock tree.now) (ReadsExpr tree.now) at) }
-        requires standing { Stands tree.now self.old }
-        ensures { Compiles tree.now (ReadsBranches tree.now at) (walk_branches at skip) self.old self.new result }
+    fn walk_branches(&mut self, field: Field<'_>, skip: usize) -> Result<(), Refusal>
+        requires some { Some (If field.bytes.now field.at) }
+        requires standing { Stands field.bytes.now self.old }
+        ensures { CompilesAt field.entry ReadsBranches (walk_branches field.entry.at skip) self.old self.new result }
     {
-        let branch = after_at(tree, at + 3);
-        self.walk_branch(tree, at, branch)?;
-        let away = self.scope.jump_and_patch(at, skip)?;
-        self.walk_else(tree, at)?;
+        self.walk_branch(field.at, field.first().next())?;
+        let away = self.scope.jump_and_patch(field.at, skip)?;
+        self.walk_else(field)?;
         self.scope.patch(away);
         Ok(())
     }
 
-    // Compiles the block at `at` as a branch of the if at `place`: without its last Pop.
+    // Compiles a block as a branch of the if at `place`: without its last Pop.
     #[cycle(walk)]
-    fn walk_branch(&mut self, tree: &[u8], place: usize, at: usize) -> Result<(), Refusal>
-        requires some { Some (ReadsBlock tree.now at) }
-        requires standing { Stands tree.now self.old }
-        ensures { Compiles tree.now (ReadsBlock tree.now at) (walk_branch place) self.old self.new result }
+    fn walk_branch(&mut self, place: usize, field: Field<'_>) -> Result<(), Refusal>
+        requires some { Some (ReadsBlock field.bytes.now field.at) }
+        requires standing { Stands field.bytes.now self.old }
+        ensures { CompilesAt field.entry ReadsBlock (walk_branch place) self.old self.new result }
     {
-        let end = after_at(tree, at);
-        self.walk_block(tree, at + 3, end)?;
+        self.walk_block(field.bytes, field.at + 3, field.after())?;
         self.scope.drop_pop(place)
     }
 
-    // Compiles the other branch of the if at `place`, or Null where there is none.
+    // Compiles the other branch of an if, or Null where there is none.
     #[cycle(walk)]
-    fn walk_else(&mut self, tree: &[u8], place: usize) -> Result<(), Refusal>
-        requires whole { Whole tree.now place }
-        requires some { Some (IfAt tree.now (ReadsBlock tree.now) (ReadsExpr tree.now) place) }
-        requires standing { Stands tree.now self.old }
-        ensures { Compiles tree.now (ReadsOther tree.now place) (walk_other place) self.old self.new result }
+    fn walk_else(&mut self, field: Field<'_>) -> Result<(), Refusal>
+        requires some { Some (If field.bytes.now field.at) }
+        requires standing { Stands field.bytes.now self.old }
+        ensures { CompilesAt field.entry ReadsOther (walk_other field.entry.at) self.old self.new result }
     {
-        let end = after_at(tree, place);
-        let branch = after_at(tree, place + 3);
-        let at = after_at(tree, branch);
+        let branch = field.first().next();
+        let at = branch.after();
+        let end = field.after();
         if at < end {
-            self.walk_branch(tree, place, at)
+            self.walk_branch(field.at, branch.next())
         } else {
-            self.scope.emit(place, opcodes::NULL)
+            self.scope.emit(field.at, opcodes::NULL)
         }
     }
 
     // Compiles an index: what is indexed, then by what.
     #[cycle(walk)]
-    fn walk_index(&mut self, tree: &[u8], at: usize) -> Result<(), Refusal>
-        requires some { Some (IndexAt tree.now (ReadsExpr tree.now) at) }
-        requires standing { Stands tree.now self.old }
-        ensures { Compiles tree.now (IndexAt tree.now (ReadsExpr tree.now) at) (walk_expr machine) self.old self.new result }
+    fn walk_index(&mut self, field: Field<'_>) -> Result<(), Refusal>
+        requires some { Some (Index field.bytes.now field.at) }
+        requires standing { Stands field.bytes.now self.old }
+        ensures { CompilesAt field.entry Index (walk_expr machine) self.old self.new result }
     {
-        let right = after_at(tree, at + 3);
-        self.walk_expression(tree, at + 3)?;
-        self.walk_expression(tree, right)?;
-        self.scope.emit(at, opcodes::INDEX)
+        let left = field.first();
+        self.walk_expression(left)?;
+        self.walk_expression(left.next())?;
+        self.scope.emit(field.at, opcodes::INDEX)
     }
 
     // Compiles a call: its callee, its arguments unless there are too many, Call.
     #[cycle(walk)]
-    fn walk_call(&mut self, tree: &[u8], at: usize) -> Result<(), Refusal>
-        requires whole { Whole tree.now at }
-        requires some { Some (CallAt tree.now (ReadsExpr tree.now) at) }
-        requires standing { Stands tree.now self.old }
-        ensures { Compiles tree.now (CallAt tree.now (ReadsExpr tree.now) at) (walk_expr machine) self.old self.new result }
+    fn walk_call(&mut self, field: Field<'_>) -> Result<(), Refusal>
+        requires some { Some (Call field.bytes.now field.at) }
+        requires standing { Stands field.bytes.now self.old }
+        ensures { CompilesAt field.entry Call (walk_expr machine) self.old self.new result }
     {
-        let end = after_at(tree, at);
-        let args = after_at(tree, at + 3);
-        let n = count_fields(tree, args, end);
-        self.walk_expression(tree, at + 3)?;
+        let callee = field.first();
+        let args = callee.after();
+        let end = field.after();
+        let n = count_fields(field.bytes, args, end);
+        self.walk_expression(callee)?;
         if ARGUMENTS_LIMIT < n {
-            return refused(Reason::TooMany, at);
+            return refused(Reason::TooMany, field.at);
         }
-        self.walk_expressions(tree, args, end)?;
-        self.scope.emit_operand(at, opcodes::CALL, n)
+        self.walk_expressions(field.bytes, args, end)?;
+        self.scope.emit_operand(field.at, opcodes::CALL, n)
     }
 
     // Compiles the items of an array or a hash, then its instruction with their number.
     #[cycle(walk)]
-    fn walk_list(&mut self, tree: &[u8], at: usize, op: u8) -> Result<(), Refusal>
-        requires whole { Whole tree.now at }
-        requires some { Some (ReadsExprs tree.now (at + 3) (after tree.now at)) }
-        requires standing { Stands tree.now self.old }
-        ensures { Compiles tree.now (ReadsExprs tree.now (at + 3) (after tree.now at)) (walk_list at op) self.old self.new result }
+    fn walk_list(&mut self, field: Field<'_>, op: u8) -> Result<(), Refusal>
+        requires some { Some (Items field.bytes.now field.at) }
+        requires standing { Stands field.bytes.now self.old }
+        ensures { CompilesAt field.entry Items (walk_list field.entry.at op) self.old self.new result }
     {
-        let end = after_at(tree, at);
-        let n = count_fields(tree, at + 3, end);
-        self.walk_expressions(tree, at + 3, end)?;
-        self.scope.emit_operand(at, op, n)
+        let end = field.after();
+        let n = count_fields(field.bytes, field.at + 3, end);
+        self.walk_expressions(field.bytes, field.at + 3, end)?;
+        self.scope.emit_operand(field.at, op, n)
     }
 
     // Compiles the expressions from an offset up to an end.
@@ -256,27 +253,27 @@ impl<'a, 's> Compiler<'a, 's> {
         ensures { Compiles tree.now (ReadsExprs tree.now from end) (walk_exprs machine) self.old self.new result }
     {
         for at in Fields::new(tree, from, end) {
-            self.walk_expression(tree, at)?;
+            self.walk_expression(Field { bytes: tree, at })?;
         }
         Ok(())
     }
 
     // Compiles a function: its body in a chunk of its own, then its closure.
     #[cycle(walk)]
-    fn walk_function(&mut self, tree: &[u8], at: usize) -> Result<(), Refusal>
-        requires some { Some (FunctionAt tree.now (ReadsBlock tree.now) at) }
-        requires standing { Stands tree.now self.old }
-        ensures { Compiles tree.now (FunctionAt tree.now (ReadsBlock tree.now) at) (walk_expr machine) self.old self.new result }
+    fn walk_function(&mut self, field: Field<'_>) -> Result<(), Refusal>
+        requires some { Some (Function field.bytes.now field.at) }
+        requires standing { Stands field.bytes.now self.old }
+        ensures { CompilesAt field.entry Function (walk_expr machine) self.old self.new result }
     {
-        let params = after_at(tree, at + 3);
-        let body = after_at(tree, params);
-        let end = after_at(tree, body);
-        let n = count_fields(tree, params + 3, body);
+        let params = field.first().next();
+        let body = params.next();
+        let end = body.after();
+        let n = count_fields(field.bytes, params.at + 3, body.at);
         let outer = self.scope.state;
-        enter(tree, self.table, self.scope, at, n)?;
-        self.walk_block(tree, body + 3, end)?;
+        enter(field.bytes, self.table, self.scope, field.at, n)?;
+        self.walk_block(field.bytes, body.at + 3, end)?;
         let table = &mut *self.table;
-        leave(self.session, self.scope, table, outer, at, n)
+        leave(self.session, self.scope, table, outer, field.at, n)
     }
 
     // Compiles the statements of a whole tree.

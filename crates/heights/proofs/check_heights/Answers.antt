@@ -1,23 +1,20 @@
 -- `heights::check_heights` meets its contract: the check, the chunks, then the output.
 use Rattle.definition.proofs.Basic.{passed_on}
-use Rattle.definition.proofs.Slices.{are_bytes}
 use native.Mathlib.Omega.{arith}
 use mathlib.Core.Path.{◌∙◌, ap, subst}
 use lib.ListN.{length}
+use Rattle.listing.proofs.Images.{is_sound}
 use Rattle.heights.specs.Chunks.{PoolJudges}
 use Rattle.heights.proofs.Answers.{empty-part, sound, fails, long, written}
 use Rattle.heights.proofs.check_heights.Goals as goal
 
-pub judge-requires : goal.judge-requires
-judge-requires c = sound c.args.image.now c.check_image.ensures c.in_ok-check_image.was (are_bytes c.type_inv.image)
-
-pub judge-requires-2 : goal.judge-requires-2
-judge-requires-2 c = sound c.args.image.now c.check_image.ensures c.in_ok-check_image.was (are_bytes c.type_inv.image)
+pub invariant_of-image : goal.invariant_of-image
+invariant_of-image c = record { sound = is_sound c.args.image.now (sound c.args.image.now c.check_image.ensures c.in_ok-check_image.was).is }
 
 pub returns-in_err-count : goal.returns-in_err-count
 returns-in_err-count c =
     let a = c.args in
-    let h = sound a.image.now c.check_image.ensures c.in_ok-check_image.was (are_bytes c.type_inv.image) in
+    let h = sound a.image.now c.check_image.ensures c.in_ok-check_image.was in
     let j = c.judge in
     let k = fails a.image.now h.is a.heights.now a.output.now (j.ensures h.image h.is) c.in_err-count.was in
     record {
@@ -28,7 +25,7 @@ returns-in_err-count c =
 pub returns-then-output-count : goal.returns-then-output-count
 returns-then-output-count c =
     let a = c.args in
-    let h = sound a.image.now c.check_image.ensures c.in_ok-check_image.was (are_bytes c.type_inv.image) in
+    let h = sound a.image.now c.check_image.ensures c.in_ok-check_image.was in
     let j = c.judge in
     let k = long a.image.now h.is a.heights.now a.output.now (j.ensures h.image h.is) c.in_ok-count.was (omega (arith, c.if-output-count.true, ap length (empty-part j.new.output a.output.now j.auto.output))) in
     record {
@@ -39,7 +36,7 @@ returns-then-output-count c =
 pub returns : goal.returns
 returns c =
     let a = c.args in
-    let h = sound a.image.now c.check_image.ensures c.in_ok-check_image.was (are_bytes c.type_inv.image) in
+    let h = sound a.image.now c.check_image.ensures c.in_ok-check_image.was in
     let j = c.judge in
     let g = c.judge-2 in
     let e = empty-part j.new.output a.output.now j.auto.output in

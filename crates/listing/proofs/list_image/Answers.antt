@@ -1,10 +1,10 @@
 -- `listing::list_image` meets its contract: first the reading that checks and counts, then the text.
 use Rattle.std.proofs.Common.{rules, sym}
-use Rattle.listing.proofs.Images.{sound_image, listing-written}
+use Rattle.listing.proofs.Images.{is_sound, sound_image, listing-written}
 use Rattle.listing.proofs.list_image.Goals as goal
 
-pub put_listing-requires : goal.put_listing-requires
-put_listing-requires c = (sound_image c.args.image.now c.measure_image.ensures c.in_ok-sound.was).0
+pub invariant_of-put_listing : goal.invariant_of-put_listing
+invariant_of-put_listing c = record { sound = is_sound c.args.image.now (sound_image c.args.image.now c.measure_image.ensures c.in_ok-sound.was).0.is }
 
 pub returns : goal.returns
 returns c =

@@ -1,4 +1,5 @@
 -- `session::write_fresh` meets its contract: a short buffer is left alone; any other is zeroed, and gets the two heads.
+use mathlib.Core.Path.{refl}
 use Rattle.session.proofs.Fresh.{made_short, made-fresh}
 use Rattle.session.proofs.write_fresh.Goals as goal
 
@@ -7,7 +8,4 @@ returns-then-session-lt-SESSION_SIZE c = rw c.refused.ensures (made_short c.args
 
 pub returns : goal.returns
 returns c =
-    let first = c in
-    let zeroed = first in
-    let entry = zeroed in
-    made-fresh entry.args.session.now zeroed.if-session-lt-SESSION_SIZE.false zeroed.restore.ensures first.put_head.ensures c.put_head-2.ensures
+    made-fresh c.args.session.now c.if-session-lt-SESSION_SIZE.false c.restore.ensures refl c.finish_session.ensures

@@ -1,7 +1,7 @@
 -- `step::enter` meets its contract: number 14, number 8, then a table and a chunk more.
 use mathlib.Core.Path.{refl}
 use native.Mathlib.Omega.{arith}
-use Rattle.step.proofs.Functions.{params_stand, enter-nested, enter-many, enter-on}
+use Rattle.step.proofs.Functions.{params_whole, params_stand, enter-nested, enter-many, enter-on}
 use Rattle.step.proofs.enter.Goals as goal
 
 pub returns-then-level-ge-NESTING_LIMIT : goal.returns-then-level-ge-NESTING_LIMIT
@@ -16,8 +16,11 @@ new-requires c = let h = c.requires.head_at.named.fits in record { stands = h; w
 pub enter-requires-clause-tree_len_bound : goal.enter-requires-clause-tree_len_bound
 enter-requires-clause-tree_len_bound c = rw c.new.ensures.tree c.requires.tree_len_bound
 
-pub enter-requires-clause-row : goal.enter-requires-clause-row
-enter-requires-clause-row c = rw c.new.ensures.tree (params_stand c.requires.head_at c.after_at-row.ensures.is)
+pub after_at-end-requires : goal.after_at-end-requires
+after_at-end-requires c = rw c.after_at-params.ensures.is (params_whole c.requires.head_at)
+
+pub enter-requires-clause-params : goal.enter-requires-clause-params
+enter-requires-clause-params c = rw (c.new.ensures.tree, c.after_at-end.ensures.is, c.after_at-params.ensures.is) (params_stand c.requires.head_at c.if-n-gt-ARGUMENTS_LIMIT.false)
 
 pub returns : goal.returns
-returns c = let s = c.args.scope.now in record { enters = λ e f. enter-on c.requires.head_at s.state c.if-level-ge-NESTING_LIMIT.false c.if-n-gt-ARGUMENTS_LIMIT.false c.after_at-row.ensures.is (rw (c.new.ensures.tree, c.new.ensures.at) at c.enter.ensures) s.area s.fits c.enter.auto.table c.inside-scope.ensures e f; code = refl; same = refl }
+returns c = let s = c.args.scope.now in record { enters = λ e f. enter-on c.requires.head_at s.state c.if-level-ge-NESTING_LIMIT.false c.if-n-gt-ARGUMENTS_LIMIT.false (rw (c.new.ensures.tree, c.new.ensures.at, c.after_at-end.ensures.is, c.after_at-params.ensures.is) at c.enter.ensures) s.area s.fits c.enter.auto.table c.inside-scope.ensures e f; code = refl; same = refl }

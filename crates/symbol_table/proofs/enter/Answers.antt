@@ -12,6 +12,6 @@ open_in-requires-clause-part_len c =
     ap length (range_part a.level a.table.now r.start r.end) ∙ part_length a.level a.table.now c.requires.part_size_in_bounds
 
 pub returns : goal.returns
-returns c =
+returns c h =
     let r = c.part_range.ensures in
-    entered _ _ _ _ _ _ _ (at_range c.args.level c.args.table.now r.start r.end _ _ c.requires.part_size_in_bounds c.open_in.auto.part c.open_in.ensures)
+    entered _ _ _ _ _ _ (at_range c.args.level c.args.table.now r.start r.end _ _ c.requires.part_size_in_bounds c.open_in.auto.part (c.open_in.ensures h))

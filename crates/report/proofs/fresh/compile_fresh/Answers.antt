@@ -1,16 +1,9 @@
 -- `compile_fresh` meets its contract: making the session is not refused, and the call is the definition's in it.
-use Rattle.std.proofs.Common.{rules, ap, ◌∙◌, replicate}
+use Rattle.std.proofs.Common.{ap, ◌∙◌, replicate}
 use Rattle.definition.specs.Limit.{code_size, table_size}
 use Rattle.definition.specs.Call.{call, Lent}
 use Rattle.compiler.specs.Stage.{lent_of}
-use Rattle.report.proofs.Made.{made_fresh}
 use Rattle.report.proofs.fresh.compile_fresh.Goals as goal
-
-pub returns-in_err-make_session-clause-answer : goal.returns-in_err-make_session-clause-answer
-returns-in_err-make_session-clause-answer c = search (rules, made_fresh)
-
-pub returns-in_err-make_session-clause-output : goal.returns-in_err-make_session-clause-output
-returns-in_err-make_session-clause-output c = search (rules, made_fresh)
 
 pub returns-clause-answer : goal.returns-clause-answer
 returns-clause-answer c =

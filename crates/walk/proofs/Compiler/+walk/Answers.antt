@@ -82,90 +82,91 @@ walk_expressions-returns t c =
 pub walk_branch-returns-in_err-walk_block : goal.walk_branch-returns-in_err-walk_block
 walk_branch-returns-in_err-walk_block t c =
     let d = c.in_err-walk_block.ensures in
-    rw (passed_on c.from_residual.ensures.1) (record { walks = branch_walks c.args.place c.after_at-end.ensures.is d.walks (done_stays d.walks.ready); same = d.same })
+    rw (passed_on c.from_residual.ensures.1) (record { walks = branch_walks c.args.place c.after.ensures.is d.walks (done_stays d.walks.ready); same = d.same })
 
 pub walk_branch-returns : goal.walk_branch-returns
 walk_branch-returns t c =
     let d = c.in_ok-walk_block.ensures in
     let e = c.drop_pop.ensures in
-    record { walks = branch_walks c.args.place c.after_at-end.ensures.is d.walks e.done; same = rw e.same d.same }
+    record { walks = branch_walks c.args.place c.after.ensures.is d.walks e.done; same = rw e.same d.same }
 
 pub walk_branches-returns-in_err-walk_branch : goal.walk_branches-returns-in_err-walk_branch
 walk_branches-returns-in_err-walk_branch t c =
-    let d = c.in_err-walk_branch.ensures in
-    rw (passed_on c.from_residual.ensures.1) (record { walks = branches_walks c.args.skip c.after_at-branch.ensures.is d.walks (walk_stays d.walks.ready); same = d.same })
+    let d = rw (c.next.ensures.bytes, c.next.ensures.at, c.first.ensures.bytes, c.first.ensures.at) at c.in_err-walk_branch.ensures in
+    rw (passed_on c.from_residual.ensures.1) (record { walks = branches_walks c.args.skip refl d.walks (walk_stays d.walks.ready); same = d.same })
 
 pub walk_branches-returns-in_err-away : goal.walk_branches-returns-in_err-away
 walk_branches-returns-in_err-away t c =
-    let d = c.in_ok-walk_branch.ensures in
+    let d = rw (c.next.ensures.bytes, c.next.ensures.at, c.first.ensures.bytes, c.first.ensures.at) at c.in_ok-walk_branch.ensures in
     let j = c.in_err-away.ensures in
-    rw (passed_on c.from_residual-in_err-away.ensures.1) (record { walks = branches_walks c.args.skip c.after_at-branch.ensures.is d.walks (behind_refused c.args.skip d.walks.fine j.jumped); same = rw j.same d.same })
+    rw (passed_on c.from_residual-in_err-away.ensures.1) (record { walks = branches_walks c.args.skip refl d.walks (behind_refused c.args.skip d.walks.fine j.jumped); same = rw j.same d.same })
 
 pub walk_branches-returns-in_err-walk_else : goal.walk_branches-returns-in_err-walk_else
 walk_branches-returns-in_err-walk_else t c =
-    let d = c.in_ok-walk_branch.ensures in
+    let d = rw (c.next.ensures.bytes, c.next.ensures.at, c.first.ensures.bytes, c.first.ensures.at) at c.in_ok-walk_branch.ensures in
     let j = c.in_ok-away.ensures in
     let e = c.in_err-walk_else.ensures in
     rw (passed_on c.from_residual-in_err-walk_else.ensures.1) (record {
-      walks = branches_walks c.args.skip c.after_at-branch.ensures.is d.walks (behind_walks c.args.skip d.walks.fine j.jumped e.walks (done_stays e.walks.ready));
+      walks = branches_walks c.args.skip refl d.walks (behind_walks c.args.skip d.walks.fine j.jumped e.walks (done_stays e.walks.ready));
       same = e.same ∙ rw j.same d.same;
     })
 
 pub walk_branches-returns : goal.walk_branches-returns
 walk_branches-returns t c =
-    let d = c.in_ok-walk_branch.ensures in
+    let d = rw (c.next.ensures.bytes, c.next.ensures.at, c.first.ensures.bytes, c.first.ensures.at) at c.in_ok-walk_branch.ensures in
     let j = c.in_ok-away.ensures in
     let e = c.in_ok-walk_else.ensures in
     let p = c.patch.ensures in
     record {
-      walks = branches_walks c.args.skip c.after_at-branch.ensures.is d.walks (behind_walks c.args.skip d.walks.fine j.jumped e.walks p.done);
+      walks = branches_walks c.args.skip refl d.walks (behind_walks c.args.skip d.walks.fine j.jumped e.walks p.done);
       same = rw p.same (e.same ∙ rw j.same d.same);
     }
 
 pub walk_call-count_fields-n-requires : goal.walk_call-count_fields-n-requires
 walk_call-count_fields-n-requires t c =
-    exprs_in_row (call_args c.after_at-args.ensures.is c.after_at-end.ensures.is c.requires.some)
+    exprs_in_row (call_args (rw (c.first-callee.ensures.bytes, c.first-callee.ensures.at) at c.after-args.ensures.is) c.after-end.ensures.is c.requires.some)
 
 pub walk_call-returns-in_err-walk_expression : goal.walk_call-returns-in_err-walk_expression
 walk_call-returns-in_err-walk_expression t c =
-    let d = c.in_err-walk_expression.ensures in
-    rw (passed_on c.from_residual.ensures.1) (record { walks = call_walks c.after_at-args.ensures.is c.after_at-end.ensures.is d.walks (walk_stays d.walks.ready); same = d.same })
+    let d = rw (c.first-callee.ensures.bytes, c.first-callee.ensures.at) at c.in_err-walk_expression.ensures in
+    rw (passed_on c.from_residual.ensures.1) (record { walks = call_walks (rw (c.first-callee.ensures.bytes, c.first-callee.ensures.at) at c.after-args.ensures.is) c.after-end.ensures.is d.walks (walk_stays d.walks.ready); same = d.same })
 
 pub walk_call-returns-then-n-gt-ARGUMENTS_LIMIT : goal.walk_call-returns-then-n-gt-ARGUMENTS_LIMIT
 walk_call-returns-then-n-gt-ARGUMENTS_LIMIT t c =
-    let d = c.in_ok-walk_expression.ensures in
+    let d = rw (c.first-callee.ensures.bytes, c.first-callee.ensures.at) at c.in_ok-walk_expression.ensures in
     record {
-      walks = call_walks c.after_at-args.ensures.is c.after_at-end.ensures.is d.walks (many_walks c.args.at c.count_fields-n.ensures c.if-n-gt-ARGUMENTS_LIMIT.true d.walks.fine (done_refuses d.walks.ready.area c.refused.ensures));
+      walks = call_walks (rw (c.first-callee.ensures.bytes, c.first-callee.ensures.at) at c.after-args.ensures.is) c.after-end.ensures.is d.walks (many_walks c.args.field.at c.count_fields-n.ensures c.if-n-gt-ARGUMENTS_LIMIT.true d.walks.fine (done_refuses d.walks.ready.area c.refused.ensures));
       same = d.same;
     }
 
 pub walk_call-returns-in_err-walk_expressions : goal.walk_call-returns-in_err-walk_expressions
 walk_call-returns-in_err-walk_expressions t c =
-    let d = c.in_ok-walk_expression.ensures in
+    let d = rw (c.first-callee.ensures.bytes, c.first-callee.ensures.at) at c.in_ok-walk_expression.ensures in
     let e = c.in_err-walk_expressions.ensures in
     rw (passed_on c.from_residual-in_err-walk_expressions.ensures.1) (record {
-      walks = call_walks c.after_at-args.ensures.is c.after_at-end.ensures.is d.walks (few_walks c.args.at c.count_fields-n.ensures c.if-n-gt-ARGUMENTS_LIMIT.false e.walks (done_stays e.walks.ready));
+      walks = call_walks (rw (c.first-callee.ensures.bytes, c.first-callee.ensures.at) at c.after-args.ensures.is) c.after-end.ensures.is d.walks (few_walks c.args.field.at c.count_fields-n.ensures c.if-n-gt-ARGUMENTS_LIMIT.false e.walks (done_stays e.walks.ready));
       same = e.same ∙ d.same;
     })
 
 pub walk_call-returns : goal.walk_call-returns
 walk_call-returns t c =
-    let d = c.in_ok-walk_expression.ensures in
+    let d = rw (c.first-callee.ensures.bytes, c.first-callee.ensures.at) at c.in_ok-walk_expression.ensures in
     let e = c.in_ok-walk_expressions.ensures in
     let f = c.emit_operand.ensures in
     record {
-      walks = call_walks c.after_at-args.ensures.is c.after_at-end.ensures.is d.walks (few_walks c.args.at c.count_fields-n.ensures c.if-n-gt-ARGUMENTS_LIMIT.false e.walks f.done);
+      walks = call_walks (rw (c.first-callee.ensures.bytes, c.first-callee.ensures.at) at c.after-args.ensures.is) c.after-end.ensures.is d.walks (few_walks c.args.field.at c.count_fields-n.ensures c.if-n-gt-ARGUMENTS_LIMIT.false e.walks f.done);
       same = rw f.same (e.same ∙ d.same);
     }
 
 pub walk_else-returns-then-at-end : goal.walk_else-returns-then-at-end
 walk_else-returns-then-at-end t c =
-    record { walks = else_walks c.after_at-branch.ensures.is c.after_at-at.ensures.is c.after_at-end.ensures.is c.if-at-end.true c.walk_branch.ensures.walks; same = c.walk_branch.ensures.same }
+    let d = rw (c.next.ensures.bytes, c.next.ensures.at, c.next-branch.ensures.bytes, c.first.ensures.bytes) at c.walk_branch.ensures in
+    record { walks = else_walks (rw (c.first.ensures.bytes, c.first.ensures.at) at c.next-branch.ensures.at) refl c.after-end.ensures.is (rw (rw (c.next-branch.ensures.bytes, c.first.ensures.bytes) at c.after-at.ensures.is) at c.if-at-end.true) d.walks; same = d.same }
 
 pub walk_else-returns-else-at-end : goal.walk_else-returns-else-at-end
 walk_else-returns-else-at-end t c =
     let e = c.emit.ensures in
-    record { walks = null_walks c.after_at-branch.ensures.is c.after_at-at.ensures.is c.after_at-end.ensures.is c.if-at-end.false c.requires.standing.fine e.done; same = rw e.same refl }
+    record { walks = null_walks (rw (c.first.ensures.bytes, c.first.ensures.at) at c.next-branch.ensures.at) (rw (c.next-branch.ensures.bytes, c.first.ensures.bytes) at c.after-at.ensures.is) c.after-end.ensures.is c.if-at-end.false c.requires.standing.fine e.done; same = rw e.same refl }
 
 pub walk_expression-walk_prefix-requires : goal.walk_expression-walk_prefix-requires
 walk_expression-walk_prefix-requires t c =
@@ -185,7 +186,7 @@ walk_expression-returns-in-34 t c =
 
 pub walk_expression-walk_if-requires : goal.walk_expression-walk_if-requires
 walk_expression-walk_if-requires t c =
-    (search rules, (search rules, (expr_here tag_if c.in-35.is c.requires.some, search rules)))
+    (search rules, (expr_here tag_if c.in-35.is c.requires.some, search rules))
 
 pub walk_expression-returns-in-35 : goal.walk_expression-returns-in-35
 walk_expression-returns-in-35 t c =
@@ -201,7 +202,7 @@ walk_expression-returns-in-36 t c =
 
 pub walk_expression-walk_call-requires : goal.walk_expression-walk_call-requires
 walk_expression-walk_call-requires t c =
-    (search rules, (search rules, (expr_here tag_call c.in-37.is c.requires.some, search rules)))
+    (search rules, (expr_here tag_call c.in-37.is c.requires.some, search rules))
 
 pub walk_expression-returns-in-37 : goal.walk_expression-returns-in-37
 walk_expression-returns-in-37 t c =
@@ -217,7 +218,7 @@ walk_expression-returns-in-42 t c =
 
 pub walk_expression-walk_list-requires : goal.walk_expression-walk_list-requires
 walk_expression-walk_list-requires t c =
-    (search rules, (search rules, (list_items refl (expr_here tag_array c.in-41.is c.requires.some), search rules)))
+    (search rules, (list_items refl (expr_here tag_array c.in-41.is c.requires.some), search rules))
 
 pub walk_expression-returns-in-41 : goal.walk_expression-returns-in-41
 walk_expression-returns-in-41 t c =
@@ -225,14 +226,14 @@ walk_expression-returns-in-41 t c =
 
 pub walk_expression-walk_list-requires-in-43 : goal.walk_expression-walk_list-requires-in-43
 walk_expression-walk_list-requires-in-43 t c =
-    (search rules, (search rules, (list_items refl (expr_here tag_hash c.in-43.is c.requires.some), search rules)))
+    (search rules, (list_items refl (expr_here tag_hash c.in-43.is c.requires.some), search rules))
 
 pub walk_expression-returns-in-43 : goal.walk_expression-returns-in-43
 walk_expression-returns-in-43 t c =
     record { walks = hash_walks c.in-43.is c.walk_list-in-43.ensures.walks; same = c.walk_list-in-43.ensures.same }
 
-pub walk_expression-bounds-tree-at-in-39 : goal.walk_expression-bounds-tree-at-in-39
-walk_expression-bounds-tree-at-in-39 t c =
+pub walk_expression-bounds-field-field-in-39 : goal.walk_expression-bounds-field-field-in-39
+walk_expression-bounds-field-field-in-39 t c =
     boolean_byte c.in-39.is c.requires.some
 
 pub walk_expression-returns-in-32 : goal.walk_expression-returns-in-32
@@ -261,19 +262,19 @@ walk_expression-returns-in_default t c =
 
 pub walk_function-count_fields-n-requires : goal.walk_function-count_fields-n-requires
 walk_function-count_fields-n-requires t c =
-    names_in_row (function_params c.after_at-params.ensures.is c.after_at-body.ensures.is c.requires.some)
+    names_in_row (function_params (rw (c.first.ensures.bytes, c.first.ensures.at) at c.next-params.ensures.at) (rw (c.next-params.ensures.bytes, c.first.ensures.bytes) at c.next-body.ensures.at) c.requires.some)
 
 pub walk_function-returns-in_err-enter : goal.walk_function-returns-in_err-enter
 walk_function-returns-in_err-enter t c =
     let i = c.in_err-enter.ensures in
     let e = i.enters _ c.requires.standing.fine in
-    rw (passed_on c.from_residual.ensures.1) (record { walks = rw i.code (function_walks c.after_at-params.ensures.is c.after_at-body.ensures.is c.after_at-end.ensures.is c.count_fields-n.ensures e (walk_stays e.ready) (leaves_stays e.ready)); same = rw i.same refl })
+    rw (passed_on c.from_residual.ensures.1) (record { walks = rw i.code (function_walks (rw (c.first.ensures.bytes, c.first.ensures.at) at c.next-params.ensures.at) (rw (c.next-params.ensures.bytes, c.first.ensures.bytes) at c.next-body.ensures.at) (rw (c.next-body.ensures.bytes, c.next-params.ensures.bytes, c.first.ensures.bytes) at c.after-end.ensures.is) c.count_fields-n.ensures e (walk_stays e.ready) (leaves_stays e.ready)); same = rw i.same refl })
 
 pub walk_function-returns-in_err-walk_block : goal.walk_function-returns-in_err-walk_block
 walk_function-returns-in_err-walk_block t c =
     let i = c.in_ok-enter.ensures in
     let d = c.in_err-walk_block.ensures in
-    rw (passed_on c.from_residual-in_err-walk_block.ensures.1) (record { walks = function_walks c.after_at-params.ensures.is c.after_at-body.ensures.is c.after_at-end.ensures.is c.count_fields-n.ensures (i.enters _ c.requires.standing.fine) (rw (← i.code) d.walks) (leaves_stays d.walks.ready); same = rw (← i.same) d.same })
+    rw (passed_on c.from_residual-in_err-walk_block.ensures.1) (record { walks = function_walks (rw (c.first.ensures.bytes, c.first.ensures.at) at c.next-params.ensures.at) (rw (c.next-params.ensures.bytes, c.first.ensures.bytes) at c.next-body.ensures.at) (rw (c.next-body.ensures.bytes, c.next-params.ensures.bytes, c.first.ensures.bytes) at c.after-end.ensures.is) c.count_fields-n.ensures (i.enters _ c.requires.standing.fine) (rw (← i.code) d.walks) (leaves_stays d.walks.ready); same = rw (← i.same) d.same })
 
 pub walk_function-leave-requires-clause-deeper : goal.walk_function-leave-requires-clause-deeper
 walk_function-leave-requires-clause-deeper t c =
@@ -285,80 +286,80 @@ walk_function-returns t c =
     let i = c.in_ok-enter.ensures in
     let d = c.in_ok-walk_block.ensures in
     let l = c.leave.ensures.closed in
-    record { walks = function_walks c.after_at-params.ensures.is c.after_at-body.ensures.is c.after_at-end.ensures.is c.count_fields-n.ensures (i.enters _ c.requires.standing.fine) (rw (← i.code) d.walks) (l.leaves _ d.walks.fine); same = rw (l.same, ← i.same) d.same }
+    record { walks = function_walks (rw (c.first.ensures.bytes, c.first.ensures.at) at c.next-params.ensures.at) (rw (c.next-params.ensures.bytes, c.first.ensures.bytes) at c.next-body.ensures.at) (rw (c.next-body.ensures.bytes, c.next-params.ensures.bytes, c.first.ensures.bytes) at c.after-end.ensures.is) c.count_fields-n.ensures (i.enters _ c.requires.standing.fine) (rw (← i.code) d.walks) (l.leaves _ d.walks.fine); same = rw (l.same, ← i.same) d.same }
 
 pub walk_if-returns-in_err-walk_expression : goal.walk_if-returns-in_err-walk_expression
 walk_if-returns-in_err-walk_expression t c =
-    let d = c.in_err-walk_expression.ensures in
+    let d = rw (c.first.ensures.bytes, c.first.ensures.at) at c.in_err-walk_expression.ensures in
     rw (passed_on c.from_residual.ensures.1) (record { walks = if_walks d.walks (walk_stays d.walks.ready); same = d.same })
 
 pub walk_if-returns-in_err-skip : goal.walk_if-returns-in_err-skip
 walk_if-returns-in_err-skip t c =
-    let d = c.in_ok-walk_expression.ensures in
+    let d = rw (c.first.ensures.bytes, c.first.ensures.at) at c.in_ok-walk_expression.ensures in
     let j = c.in_err-skip.ensures in
-    rw (passed_on c.from_residual-in_err-skip.ensures.1) (record { walks = if_walks d.walks (jump_refused (walk_branches c.args.at) d.walks.fine j.jumped); same = rw j.same d.same })
+    rw (passed_on c.from_residual-in_err-skip.ensures.1) (record { walks = if_walks d.walks (jump_refused (walk_branches c.args.field.at) d.walks.fine j.jumped); same = rw j.same d.same })
 
 pub walk_if-returns : goal.walk_if-returns
 walk_if-returns t c =
-    let d = c.in_ok-walk_expression.ensures in
+    let d = rw (c.first.ensures.bytes, c.first.ensures.at) at c.in_ok-walk_expression.ensures in
     let j = c.in_ok-skip.ensures in
     let e = c.walk_branches.ensures in
-    record { walks = if_walks d.walks (jump_walk (walk_branches c.args.at) d.walks.fine j.jumped e.walks); same = e.same ∙ rw j.same d.same }
+    record { walks = if_walks d.walks (jump_walk (walk_branches c.args.field.at) d.walks.fine j.jumped e.walks); same = e.same ∙ rw j.same d.same }
 
 pub walk_index-returns-in_err-walk_expression : goal.walk_index-returns-in_err-walk_expression
 walk_index-returns-in_err-walk_expression t c =
-    let d = c.in_err-walk_expression.ensures in
-    rw (passed_on c.from_residual.ensures.1) (record { walks = index_walks c.after_at-right.ensures.is d.walks (walk_stays d.walks.ready) (done_stays d.walks.ready); same = d.same })
+    let d = rw (c.first-left.ensures.bytes, c.first-left.ensures.at) at c.in_err-walk_expression.ensures in
+    rw (passed_on c.from_residual.ensures.1) (record { walks = index_walks refl d.walks (walk_stays d.walks.ready) (done_stays d.walks.ready); same = d.same })
 
 pub walk_index-returns-in_err-walk_expression-2 : goal.walk_index-returns-in_err-walk_expression-2
 walk_index-returns-in_err-walk_expression-2 t c =
-    let d = c.in_ok-walk_expression.ensures in
-    let e = c.in_err-walk_expression-2.ensures in
-    rw (passed_on c.from_residual-in_err-walk_expression-2.ensures.1) (record { walks = index_walks c.after_at-right.ensures.is d.walks e.walks (done_stays e.walks.ready); same = e.same ∙ d.same })
+    let d = rw (c.first-left.ensures.bytes, c.first-left.ensures.at) at c.in_ok-walk_expression.ensures in
+    let e = rw (c.next.ensures.bytes, c.next.ensures.at, c.first-left.ensures.bytes, c.first-left.ensures.at) at c.in_err-walk_expression-2.ensures in
+    rw (passed_on c.from_residual-in_err-walk_expression-2.ensures.1) (record { walks = index_walks refl d.walks e.walks (done_stays e.walks.ready); same = e.same ∙ d.same })
 
 pub walk_index-returns : goal.walk_index-returns
 walk_index-returns t c =
-    let d = c.in_ok-walk_expression.ensures in
-    let e = c.in_ok-walk_expression-2.ensures in
+    let d = rw (c.first-left.ensures.bytes, c.first-left.ensures.at) at c.in_ok-walk_expression.ensures in
+    let e = rw (c.next.ensures.bytes, c.next.ensures.at, c.first-left.ensures.bytes, c.first-left.ensures.at) at c.in_ok-walk_expression-2.ensures in
     let f = c.emit.ensures in
-    record { walks = index_walks c.after_at-right.ensures.is d.walks e.walks f.done; same = rw f.same (e.same ∙ d.same) }
+    record { walks = index_walks refl d.walks e.walks f.done; same = rw f.same (e.same ∙ d.same) }
 
 pub walk_infix-returns-in_err-walk_expression : goal.walk_infix-returns-in_err-walk_expression
 walk_infix-returns-in_err-walk_expression t c =
     let d = c.in_err-walk_expression.ensures in
-    rw (passed_on c.from_residual.ensures.1) (record { walks = less_walks c.after_at-op.ensures.is c.if-o-eq-LESS_THAN.true d.walks (walk_stays d.walks.ready) (done_stays d.walks.ready); same = d.same })
+    rw (passed_on c.from_residual.ensures.1) (record { walks = less_walks (rw (c.first-left.ensures.bytes, c.first-left.ensures.at) at c.next-op.ensures.at) c.if-o-eq-LESS_THAN.true d.walks (walk_stays d.walks.ready) (done_stays d.walks.ready); same = d.same })
 
 pub walk_infix-returns-in_err-walk_expression-2 : goal.walk_infix-returns-in_err-walk_expression-2
 walk_infix-returns-in_err-walk_expression-2 t c =
     let d = c.in_ok-walk_expression.ensures in
-    let e = c.in_err-walk_expression-2.ensures in
-    rw (passed_on c.from_residual-in_err-walk_expression-2.ensures.1) (record { walks = less_walks c.after_at-op.ensures.is c.if-o-eq-LESS_THAN.true d.walks e.walks (done_stays e.walks.ready); same = e.same ∙ d.same })
+    let e = (rw (c.first-left.ensures.bytes, c.first-left.ensures.at) at c.in_err-walk_expression-2.ensures) in
+    rw (passed_on c.from_residual-in_err-walk_expression-2.ensures.1) (record { walks = less_walks (rw (c.first-left.ensures.bytes, c.first-left.ensures.at) at c.next-op.ensures.at) c.if-o-eq-LESS_THAN.true d.walks e.walks (done_stays e.walks.ready); same = e.same ∙ d.same })
 
 pub walk_infix-returns-in_err-walk_expression-3 : goal.walk_infix-returns-in_err-walk_expression-3
 walk_infix-returns-in_err-walk_expression-3 t c =
-    let d = c.in_err-walk_expression-3.ensures in
-    rw (passed_on c.from_residual-in_err-walk_expression-3.ensures.1) (record { walks = infix_walks c.after_at-op.ensures.is c.if-o-eq-LESS_THAN.false d.walks (walk_stays d.walks.ready) (done_stays d.walks.ready); same = d.same })
+    let d = (rw (c.first-left.ensures.bytes, c.first-left.ensures.at) at c.in_err-walk_expression-3.ensures) in
+    rw (passed_on c.from_residual-in_err-walk_expression-3.ensures.1) (record { walks = infix_walks (rw (c.first-left.ensures.bytes, c.first-left.ensures.at) at c.next-op.ensures.at) c.if-o-eq-LESS_THAN.false d.walks (walk_stays d.walks.ready) (done_stays d.walks.ready); same = d.same })
 
 pub walk_infix-returns-in_err-walk_expression-4 : goal.walk_infix-returns-in_err-walk_expression-4
 walk_infix-returns-in_err-walk_expression-4 t c =
-    let d = c.in_ok-walk_expression-3.ensures in
+    let d = (rw (c.first-left.ensures.bytes, c.first-left.ensures.at) at c.in_ok-walk_expression-3.ensures) in
     let e = c.in_err-walk_expression-4.ensures in
-    rw (passed_on c.from_residual-in_err-walk_expression-4.ensures.1) (record { walks = infix_walks c.after_at-op.ensures.is c.if-o-eq-LESS_THAN.false d.walks e.walks (done_stays e.walks.ready); same = e.same ∙ d.same })
+    rw (passed_on c.from_residual-in_err-walk_expression-4.ensures.1) (record { walks = infix_walks (rw (c.first-left.ensures.bytes, c.first-left.ensures.at) at c.next-op.ensures.at) c.if-o-eq-LESS_THAN.false d.walks e.walks (done_stays e.walks.ready); same = e.same ∙ d.same })
 
 pub walk_infix-returns : goal.walk_infix-returns
 walk_infix-returns t c =
-    let tree = c.args.tree.now in
-    let op = c.after_at-op.result in
+    let tree = c.args.field.bytes.now in
+    let op = c.next-op.result.at in
     let e = c.infix_operator.ensures in
     elim c.if-o-eq-LESS_THAN.branch [
       | walk_infix-then-o-eq-LESS_THAN+in_ok-walk_expression+in_ok-walk_expression-2 w ↦
           let d = w.in_ok-walk_expression.ensures in
-          let u = subst (λ y. Compiles tree (ReadsExpr tree (c.args.at + 3)) (walk_expr machine) w.walk_expression.new.self y (Ok tt)) (sym w.self-is) w.in_ok-walk_expression-2.ensures in
-          record { walks = less_walks c.after_at-op.ensures.is w.if-o-eq-LESS_THAN.true d.walks u.walks e.done; same = rw e.same (u.same ∙ d.same) }
+          let u = subst (λ y. Compiles tree (ReadsExpr tree (c.args.field.at + 3)) (walk_expr machine) w.walk_expression.new.self y (Ok tt)) (sym w.self-is) (rw (c.first-left.ensures.bytes, c.first-left.ensures.at) at w.in_ok-walk_expression-2.ensures) in
+          record { walks = less_walks (rw (c.first-left.ensures.bytes, c.first-left.ensures.at) at c.next-op.ensures.at) w.if-o-eq-LESS_THAN.true d.walks u.walks e.done; same = rw e.same (u.same ∙ d.same) }
       | walk_infix-else-o-eq-LESS_THAN+in_ok-walk_expression-3+in_ok-walk_expression-4 w ↦
-          let d = w.in_ok-walk_expression-3.ensures in
+          let d = (rw (c.first-left.ensures.bytes, c.first-left.ensures.at) at w.in_ok-walk_expression-3.ensures) in
           let u = subst (λ y. Compiles tree (ReadsExpr tree (op + 4)) (walk_expr machine) w.walk_expression-else-o-eq-LESS_THAN.new.self y (Ok tt)) (sym w.self-is) w.in_ok-walk_expression-4.ensures in
-          record { walks = infix_walks c.after_at-op.ensures.is w.if-o-eq-LESS_THAN.false d.walks u.walks e.done; same = rw e.same (u.same ∙ d.same) }
+          record { walks = infix_walks (rw (c.first-left.ensures.bytes, c.first-left.ensures.at) at c.next-op.ensures.at) w.if-o-eq-LESS_THAN.false d.walks u.walks e.done; same = rw e.same (u.same ∙ d.same) }
     ]
 
 pub walk_let-returns-in_err-setting : goal.walk_let-returns-in_err-setting
@@ -368,37 +369,37 @@ walk_let-returns-in_err-setting t c =
 
 pub walk_let-walk_expression-requires : goal.walk_let-walk_expression-requires
 walk_let-walk_expression-requires t c =
-    let q = c.after_at-value.ensures.is in
+    let q = (rw (c.first.ensures.bytes, c.first.ensures.at) at c.next-value.ensures.at) in
     let d = c.in_ok-setting.ensures.defines c.args.self.now.scope.now.code.now _ c.requires.standing.fine in
-    (omega (arith, inside_at q (let_inside c.requires.some.1).1, c.decreases), (let_value q c.requires.some, record { fine = d.fine; short = c.requires.standing.short }))
+    rw (c.next-value.ensures.bytes, c.first.ensures.bytes) (omega (arith, inside_at q (let_inside c.requires.some.1).1, c.decreases), (let_value q c.requires.some, record { fine = d.fine; short = c.requires.standing.short }))
 
 pub walk_let-returns-in_err-walk_expression : goal.walk_let-returns-in_err-walk_expression
 walk_let-returns-in_err-walk_expression t c =
     let d = c.in_ok-setting.ensures.defines _ _ c.requires.standing.fine in
-    let e = c.in_err-walk_expression.ensures in
-    rw (passed_on c.from_residual-in_err-walk_expression.ensures.1) (record { walks = let_walks c.after_at-value.ensures.is d e.walks (done_stays e.walks.ready); same = e.same })
+    let e = rw (c.next-value.ensures.bytes, c.next-value.ensures.at, c.first.ensures.bytes, c.first.ensures.at) at c.in_err-walk_expression.ensures in
+    rw (passed_on c.from_residual-in_err-walk_expression.ensures.1) (record { walks = let_walks refl d e.walks (done_stays e.walks.ready); same = e.same })
 
 pub walk_let-returns : goal.walk_let-returns
 walk_let-returns t c =
     let d = c.in_ok-setting.ensures.defines _ _ c.requires.standing.fine in
-    let e = c.in_ok-walk_expression.ensures in
+    let e = rw (c.next-value.ensures.bytes, c.next-value.ensures.at, c.first.ensures.bytes, c.first.ensures.at) at c.in_ok-walk_expression.ensures in
     let f = c.emit_operand.ensures in
-    record { walks = let_walks c.after_at-value.ensures.is d e.walks f.done; same = rw f.same e.same }
+    record { walks = let_walks refl d e.walks f.done; same = rw f.same e.same }
 
 pub walk_list-count_fields-n-requires : goal.walk_list-count_fields-n-requires
 walk_list-count_fields-n-requires t c =
-    exprs_in_row (rw c.after_at-end.ensures.is c.requires.some)
+    exprs_in_row (rw c.after-end.ensures.is c.requires.some)
 
 pub walk_list-returns-in_err-walk_expressions : goal.walk_list-returns-in_err-walk_expressions
 walk_list-returns-in_err-walk_expressions t c =
     let d = c.in_err-walk_expressions.ensures in
-    rw (passed_on c.from_residual.ensures.1) (record { walks = list_walks _ _ c.after_at-end.ensures.is c.count_fields-n.ensures d.walks (done_stays d.walks.ready); same = d.same })
+    rw (passed_on c.from_residual.ensures.1) (record { walks = list_walks _ _ c.after-end.ensures.is c.count_fields-n.ensures d.walks (done_stays d.walks.ready); same = d.same })
 
 pub walk_list-returns : goal.walk_list-returns
 walk_list-returns t c =
     let d = c.in_ok-walk_expressions.ensures in
     let e = c.emit_operand.ensures in
-    record { walks = list_walks _ _ c.after_at-end.ensures.is c.count_fields-n.ensures d.walks e.done; same = rw e.same d.same }
+    record { walks = list_walks _ _ c.after-end.ensures.is c.count_fields-n.ensures d.walks e.done; same = rw e.same d.same }
 
 pub walk_prefix-returns-in_err-walk_expression : goal.walk_prefix-returns-in_err-walk_expression
 walk_prefix-returns-in_err-walk_expression t c =
@@ -411,29 +412,34 @@ walk_prefix-returns t c =
     let e = c.prefix_operator.ensures in
     record { walks = prefix_walks d.walks e.done; same = rw e.same d.same }
 
+pub walk_statement-first-requires : goal.walk_statement-first-requires
+walk_statement-first-requires t c =
+    let here = stmt_here tag_expr_stmt c.in-17.is c.requires.some in
+    (value_expr here).1.field.whole
+
 pub walk_statement-walk_expression-requires : goal.walk_statement-walk_expression-requires
 walk_statement-walk_expression-requires t c =
     let here = stmt_here tag_expr_stmt c.in-17.is c.requires.some in
-    (omega (arith, value-inside here.1), (value_expr here, search rules))
+    rw (c.first.ensures.bytes, c.first.ensures.at) (omega (arith, value-inside here.1), (value_expr here, search rules))
 
 pub walk_statement-returns-in_err-walk_expression-in-17 : goal.walk_statement-returns-in_err-walk_expression-in-17
 walk_statement-returns-in_err-walk_expression-in-17 t c =
-    let d = c.in_err-walk_expression-in-17.ensures in
+    let d = rw (c.first.ensures.bytes, c.first.ensures.at) at c.in_err-walk_expression-in-17.ensures in
     rw (passed_on c.from_residual.ensures.1) (record { walks = expr_stmt_walks c.in-17.is d.walks (done_stays d.walks.ready); same = d.same })
 
 pub walk_statement-returns-in_ok-walk_expression-in-17 : goal.walk_statement-returns-in_ok-walk_expression-in-17
 walk_statement-returns-in_ok-walk_expression-in-17 t c =
-    let d = c.in_ok-walk_expression-in-17.ensures in
+    let d = rw (c.first.ensures.bytes, c.first.ensures.at) at c.in_ok-walk_expression-in-17.ensures in
     let e = c.emit.ensures in
     record { walks = expr_stmt_walks c.in-17.is d.walks e.done; same = rw e.same d.same }
 
 pub walk_statement-walk_block-requires : goal.walk_statement-walk_block-requires
 walk_statement-walk_block-requires t c =
-    (search rules, (block_body c.after_at-end.ensures.is (stmt_here tag_block c.in-18.is c.requires.some), search rules))
+    (search rules, (block_body c.after.ensures.is (stmt_here tag_block c.in-18.is c.requires.some), search rules))
 
 pub walk_statement-returns-in-18 : goal.walk_statement-returns-in-18
 walk_statement-returns-in-18 t c =
-    record { walks = block_walks c.in-18.is c.after_at-end.ensures.is c.walk_block.ensures.walks; same = c.walk_block.ensures.same }
+    record { walks = block_walks c.in-18.is c.after.ensures.is c.walk_block.ensures.walks; same = c.walk_block.ensures.same }
 
 pub walk_statement-walk_let-requires : goal.walk_statement-walk_let-requires
 walk_statement-walk_let-requires t c =
@@ -443,24 +449,31 @@ pub walk_statement-returns-in-19 : goal.walk_statement-returns-in-19
 walk_statement-returns-in-19 t c =
     record { walks = stmt_walks tag_let c.in-19.is c.walk_let.ensures.walks; same = c.walk_let.ensures.same }
 
+pub walk_statement-first-requires-in_default : goal.walk_statement-first-requires-in_default
+walk_statement-first-requires-in_default t c =
+    let no = c.in_default.in_default-own.rest in
+    let h = return-tag no.0.0.1 no.0.1 no.1 c.requires.some in
+    let here = stmt_here tag_return h c.requires.some in
+    (value_expr here).1.field.whole
+
 pub walk_statement-walk_expression-requires-in_default : goal.walk_statement-walk_expression-requires-in_default
 walk_statement-walk_expression-requires-in_default t c =
     let no = c.in_default.in_default-own.rest in
     let h = return-tag no.0.0.1 no.0.1 no.1 c.requires.some in
     let here = stmt_here tag_return h c.requires.some in
-    (omega (arith, value-inside here.1), (value_expr here, search rules))
+    rw (c.first-in_default.ensures.bytes, c.first-in_default.ensures.at) (omega (arith, value-inside here.1), (value_expr here, search rules))
 
 pub walk_statement-returns-in_err-walk_expression-in_default : goal.walk_statement-returns-in_err-walk_expression-in_default
 walk_statement-returns-in_err-walk_expression-in_default t c =
     let no = c.in_default.in_default-own.rest in
     let h = return-tag no.0.0.1 no.0.1 no.1 c.requires.some in
-    let d = c.in_err-walk_expression-in_default.ensures in
+    let d = rw (c.first-in_default.ensures.bytes, c.first-in_default.ensures.at) at c.in_err-walk_expression-in_default.ensures in
     rw (passed_on c.from_residual-in_err-walk_expression-in_default.ensures.1) (record { walks = return_walks h d.walks (done_stays d.walks.ready); same = d.same })
 
 pub walk_statement-returns-in_ok-walk_expression-in_default : goal.walk_statement-returns-in_ok-walk_expression-in_default
 walk_statement-returns-in_ok-walk_expression-in_default t c =
     let no = c.in_default.in_default-own.rest in
     let h = return-tag no.0.0.1 no.0.1 no.1 c.requires.some in
-    let d = c.in_ok-walk_expression-in_default.ensures in
+    let d = rw (c.first-in_default.ensures.bytes, c.first-in_default.ensures.at) at c.in_ok-walk_expression-in_default.ensures in
     let e = c.emit-in_default.ensures in
     record { walks = return_walks h d.walks e.done; same = rw e.same d.same }

@@ -4,22 +4,19 @@ use mathlib.Core.Path.{ap, refl}
 use Rattle.definition.specs.Text.{decimal}
 use Rattle.definition.specs.Listing.{also}
 use Rattle.listing.proofs.Puts.{both, reworded}
-use Rattle.listing.proofs.Images.{parts, has_head, code_in, pool_in, listing_is}
+use Rattle.listing.proofs.Images.{parts, has_image, code_in, pool_in, listing_is}
 use Rattle.listing.proofs.text.Writer.put_listing.Goals as goal
 
-pub of-requires : goal.of-requires
-of-requires c = has_head c.args.image.now c.requires.is
-
 pub put_code-requires : goal.put_code-requires
-put_code-requires c = record { code = c.requires.image.code; is = code_in c.args.image.now c.requires.is c.of.ensures }
+put_code-requires c = let h = has_image c.args.image.bytes.now c.args.image.sound in record { code = h.image.code; is = code_in c.args.image.bytes.now h.is c.parts.ensures }
 
 pub put_pool-requires : goal.put_pool-requires
-put_pool-requires c = record { pool = c.requires.image.pool; is = pool_in c.args.image.now c.requires.is c.of.ensures }
+put_pool-requires c = let h = has_image c.args.image.bytes.now c.args.image.sound in record { pool = h.image.pool; is = pool_in c.args.image.bytes.now h.is c.parts.ensures }
 
 pub returns : goal.returns
 returns c = λ m i n.
-    let d = c.of.ensures in
-    let k = parts c.args.image.now i refl in
+    let d = c.parts.ensures in
+    let k = parts c.args.image.bytes.now i refl in
     let sized = reworded c.put_field.ensures (ap (λ n. also (decimal n)) (omega (arith, k.size, d.first, d.behind))) in
-    let main = both (both (both c.put_bytes.ensures sized) c.put_newline.ensures) (c.put_code.ensures m.code (code_in c.args.image.now i d)) in
-    reworded (both main (c.put_pool.ensures m.pool (pool_in c.args.image.now i d) n)) (listing_is m)
+    let main = both (both (both c.put_bytes.ensures sized) c.put_newline.ensures) (c.put_code.ensures m.code (code_in c.args.image.bytes.now i d)) in
+    reworded (both main (c.put_pool.ensures m.pool (pool_in c.args.image.bytes.now i d) n)) (listing_is m)

@@ -75,8 +75,7 @@ pub name_function-enter-requires : goal.name_function-enter-requires
 name_function-enter-requires t c = record {
   part_size_in_bounds = room_inside c.requires.standing c.if-level-ge-NESTING_LIMIT.false;
   tree_len_bound = rw c.new.ensures.tree c.requires.standing.short;
-  row = rw c.new.ensures.tree (params_row c.after_at-params.ensures.is c.after_at-body.ensures.is c.count_fields-k.ensures c.requires.some);
-  n_le_arguments_limit = c.if-k-gt-ARGUMENTS_LIMIT.false;
+  params = rw c.new.ensures.tree (params_row c.after_at-params.ensures.is c.after_at-body.ensures.is c.count_fields-k.ensures c.requires.some c.if-k-gt-ARGUMENTS_LIMIT.false);
 }
 
 pub name_function-name_field-requires : goal.name_function-name_field-requires
