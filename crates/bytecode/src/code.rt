@@ -8,9 +8,9 @@ use crate::{Malformed, Section, Span};
 use field::wide;
 use opcode::width;
 
-// Whether code decodes from its start up to its end, read from the end: bit k of `good` says whether it does from k bytes behind `at`. Every
-// byte is taken as the first of an instruction, so no step waits for the length of another, and the bytes decide no branch. A byte that
-// begins no instruction asks for bit 63, which is never set.
+// Whether code decodes from its start up to its end, read from the end: bit k of `good` says whether it does from k bytes behind `at`.
+// Every byte is taken as the first of an instruction, so no step waits for the length of another, and the bytes decide no branch. A byte
+// that begins no instruction asks for bit 63, which is never set.
 fn decodes(code: Section<'_>) -> bool
     ensures { result ≡ is_code (byte_at code.entry.span.bytes.now) code.entry.span.end code.entry.span.start }
 {

@@ -1,11 +1,8 @@
 // The heads of fields: their tag and content length, and which field they begin.
-ghost use Rattle.std.specs.Prelude.{◌≡◌, Bool};
-ghost use Rattle.definition.specs.Basic.{byte_at};
-ghost use Rattle.definition.specs.Field.{Head as FieldHead};
-ghost use Rattle.definition.specs.Decode.{read_head};
-ghost use Rattle.bytecode.specs.Checked.{Part, head_of, is_constant, is_pool, is_main, is_name, found};
+ghost use Rattle.std.specs.Prelude.{◌≡◌};
+ghost use Rattle.bytecode.specs.Checked.{head_of, is_constant, is_pool, is_main, is_name};
 
-use crate::{Form, Malformed, Section, Span};
+use crate::Form;
 use definition::{limit, tag};
 
 // A field's tag and content length.
@@ -47,23 +44,4 @@ impl Head {
     {
         self.tag == tag::NAME && 1 <= self.len && self.len <= limit::NAME_LIMIT
     }
-}
-
-// The head of the field at `at`, if the field stands whole before `end` and its head passes a test.
-pub fn head_where<F: Fn(Head) -> bool>(
-    bytes: &[u8],
-    at: usize,
-    end: usize,
-    test: F,
-) -> Result<Head, Malformed>
-    requires part { Part bytes.now at end }
-    requires calls { F.IsAlwaysCallable test }
-    ensures { (good : FieldHead → Bool) → ((h : Head) (r : Bool) → F.post test h r → r ≡ good (head_of h)) → result ≡ found (read_head (byte_at bytes.now) good at end) }
-{
-    let span = Span {
-        bytes,
-        start: at,
-        end,
-    };
-    Section { span }.head_where(test)
 }

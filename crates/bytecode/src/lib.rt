@@ -20,9 +20,9 @@ use code::check_code;
 use definition::{Reason, Refusal, limit, tag};
 use field::fields::Fields;
 use field::names::distinct_names;
-pub use field_head::{Head, head_where};
+pub use field_head::Head;
 use item_check::Items;
-use section::Section;
+pub use section::Section;
 pub use span::{Parts, Span};
 use zero::all_zero;
 

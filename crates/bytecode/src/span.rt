@@ -2,7 +2,7 @@
 ghost use Rattle.std.specs.Prelude.{◌≡◌, ◌≤◌, length};
 ghost use Rattle.bytecode.specs.Parts.{Divides, function_code};
 
-use crate::constants::Constants;
+use crate::constants::{Constants, PoolConstants};
 use definition::tag;
 use field::length_at;
 use opcode::instructions::Instructions;
@@ -26,12 +26,13 @@ impl<'a> Span<'a> {
     }
 
     // The constants of a pool, one after the other.
-    pub fn constants(self) -> Constants<'a>
-        ensures image { result.image.now ≡ self.entry.bytes.now }
-        ensures at { result.at ≡ self.entry.start }
-        ensures end { result.end ≡ self.entry.end }
+    pub fn constants(self) -> PoolConstants<'a>
+        ensures image { result.constants.image.now ≡ self.entry.bytes.now }
+        ensures at { result.constants.at ≡ self.entry.start }
+        ensures end { result.constants.end ≡ self.entry.end }
     {
-        Constants::new(self.bytes, self.start, self.end)
+        let constants = Constants::new(self.bytes, self.start, self.end);
+        PoolConstants { constants }
     }
 
     // Of a constant, if it is a function: its code, behind the head and three bytes of numbers.

@@ -1,7 +1,7 @@
 -- Counts, places and refusals of frames fit an answer's halves, and the low half is the pair.
 use Prim.Native.Nat.{ℕ, ◌%◌, ◌<◌}
 use native.Mathlib.Omega.{arith}
-use mathlib.Core.Path.{◌≡◌, subst, ap, ◌∙◌}
+use mathlib.Core.Path.{◌≡◌, subst, ap, refl}
 use Rattle.std.specs.Prelude.{Result, Err}
 use Rattle.std.specs.Result.{result_err}
 use Rattle.definition.specs.Basic.{Bytes}
@@ -12,23 +12,21 @@ use Rattle.frames.specs.declared.FrameCount.{FrameCount}
 use Rattle.frames.specs.declared.FramePlace.{FramePlace}
 use Rattle.frames.proofs.Small.{SmallRefusal, SmallCount, SmallPlace, count_small, place_small}
 use Rattle.capi.specs.Packed.{half_bound, Fits, Packs}
-use Rattle.definition.specs.Answer.{Answer}
-use Rattle.capi.specs.Framed.{paired, Pairs, pair_answer, count_answer, place_answer, refusal_answer, CountsPacked, PlacesPacked}
-use Rattle.capi.proofs.Fits.{fits_as, packs_as}
-use Rattle.capi.proofs.Mapped.{IsMapped, counted, count_mapped, found, place_mapped}
+use Rattle.capi.specs.Framed.{paired, Pairs, count_answer, place_answer, refusal_answer, CountsPacked, PlacesPacked}
+use Rattle.capi.proofs.Mapped.{IsMapped, Says, says}
 
 -- a refusal of these calls fits
 small_fits : {r : Refusal} → SmallRefusal r → Fits (Err r)
 small_fits s = record { number = omega (arith, s.number); value = omega (arith, s.place) }
 
-pub count_fits : (b : Bytes) → AreBytes b → (size : ℕ) → Fits (count_answer (count_frames b size))
+count_fits : (b : Bytes) → AreBytes b → (size : ℕ) → Fits (count_answer (count_frames b size))
 count_fits b a size = go (count_frames b size) (count_small b a size)
   where
     go : (c : Result FrameCount Refusal) → SmallCount size c → Fits (count_answer c)
     go _ (SmallCount.divided w r d l) = record { number = omega arith; value = omega arith }
     go _ (SmallCount.refused s) = small_fits s
 
-pub place-fits : (b : Bytes) → AreBytes b → (size k : ℕ) → Fits (place_answer (find_frame b size k))
+place-fits : (b : Bytes) → AreBytes b → (size k : ℕ) → Fits (place_answer (find_frame b size k))
 place-fits b a size k = go (find_frame b size k) (place_small b a size k)
   where
     go : (p : Result FramePlace Refusal) → SmallPlace p → Fits (place_answer p)
@@ -46,7 +44,7 @@ refusal-fits b a size k = go (find_frame b size k) (place_small b a size k)
 pub pairs : {a b v : ℕ} → b < 65536 → v ≡ paired a b → Pairs a b v
 pairs h e = record { first = omega arith; second = omega arith }
 
-pub count-pairs : (b : Bytes) → AreBytes b → (size : ℕ) {v : ℕ} → Packs (count_answer (count_frames b size)) v → (whole rest : ℕ) → count_frames b size ≡ count_is whole rest → Pairs whole rest (v % half_bound)
+count-pairs : (b : Bytes) → AreBytes b → (size : ℕ) {v : ℕ} → Packs (count_answer (count_frames b size)) v → (whole rest : ℕ) → count_frames b size ≡ count_is whole rest → Pairs whole rest (v % half_bound)
 count-pairs b a size {v} p whole rest e =
     let small = subst (SmallCount size) e (count_small b a size) in
     let packed = subst (λ c. Packs (count_answer c) v) e p in
@@ -55,7 +53,7 @@ count-pairs b a size {v} p whole rest e =
     below : SmallCount size (count_is whole rest) → rest < 65536
     below (SmallCount.divided w r d l) = r
 
-pub place-pairs : (b : Bytes) → AreBytes b → (size k : ℕ) {v : ℕ} → Packs (place_answer (find_frame b size k)) v → (start n : ℕ) → find_frame b size k ≡ place_is start n → Pairs start n (v % half_bound)
+place-pairs : (b : Bytes) → AreBytes b → (size k : ℕ) {v : ℕ} → Packs (place_answer (find_frame b size k)) v → (start n : ℕ) → find_frame b size k ≡ place_is start n → Pairs start n (v % half_bound)
 place-pairs b a size k {v} p start n e =
     let small = subst SmallPlace e (place_small b a size k) in
     let packed = subst (λ q. Packs (place_answer q) v) e p in
@@ -64,24 +62,24 @@ place-pairs b a size k {v} p start n e =
     below : SmallPlace (place_is start n) → n < 65536
     below (SmallPlace.inside s l) = l
 
--- counting frames: what `map` takes out of the count fits, and its number is the count's
-module _ {b : Bytes} (size : ℕ) {P : FrameCount → ℕ × ℕ → Type 0} (a : Result FrameCount Refusal) (m : Result (ℕ × ℕ) Refusal) (s : AreBytes b) (e : a ≡ count_frames b size) (g : (x : FrameCount) (y : ℕ × ℕ) → P x y → y ≡ counted x) (c : IsMapped P a m) where
-  counts : pair_answer m ≡ count_answer (count_frames b size)
-  counts = count_mapped g a m c ∙ ap count_answer e
+-- whole frames and rest, and what is said of their number
+abbrev counted : FrameCount → ℕ × ℕ
+counted c = (c.whole, c.rest)
 
-  pub counts_fit : Fits (pair_answer m)
-  counts_fit = fits_as counts (count_fits b s size)
+module _ {b : Bytes} (s : AreBytes b) (size : ℕ) where
+  pub counts : {P : FrameCount → ℕ × ℕ → Type 0} {a : Result FrameCount Refusal} {m : Result (ℕ × ℕ) Refusal} → ((x : FrameCount) (y : ℕ × ℕ) → P x y → y ≡ counted x) → a ≡ count_frames b size → IsMapped P a m → Says (count_answer (count_frames b size)) m
+  counts h e c = says counted count_answer (λ _. refl) (λ _. refl) h c (ap count_answer e) (count_fits b s size)
 
-  pub packs_counts : {x : Answer} {v : ℕ} → x ≡ pair_answer m → Packs x v → CountsPacked b size v
-  packs_counts q p = let r = packs_as (q ∙ counts) p in record { answer = r; parts = count-pairs b s size r }
+  pub packs_counts : {v : ℕ} → Packs (count_answer (count_frames b size)) v → CountsPacked b size v
+  packs_counts p = record { answer = p; parts = count-pairs b s size p }
 
--- finding a frame, likewise
-module _ {b : Bytes} (size k : ℕ) {P : FramePlace → ℕ × ℕ → Type 0} (a : Result FramePlace Refusal) (m : Result (ℕ × ℕ) Refusal) (s : AreBytes b) (e : a ≡ find_frame b size k) (g : (x : FramePlace) (y : ℕ × ℕ) → P x y → y ≡ found x) (c : IsMapped P a m) where
-  places : pair_answer m ≡ place_answer (find_frame b size k)
-  places = place_mapped g a m c ∙ ap place_answer e
+-- a frame's offset and length, likewise
+abbrev found : FramePlace → ℕ × ℕ
+found p = (p.start, p.len)
 
-  pub places_fit : Fits (pair_answer m)
-  places_fit = fits_as places (place-fits b s size k)
+module _ {b : Bytes} (s : AreBytes b) (size k : ℕ) where
+  pub places : {P : FramePlace → ℕ × ℕ → Type 0} {a : Result FramePlace Refusal} {m : Result (ℕ × ℕ) Refusal} → ((x : FramePlace) (y : ℕ × ℕ) → P x y → y ≡ found x) → a ≡ find_frame b size k → IsMapped P a m → Says (place_answer (find_frame b size k)) m
+  places h e c = says found place_answer (λ _. refl) (λ _. refl) h c (ap place_answer e) (place-fits b s size k)
 
-  pub packs_places : {x : Answer} {v : ℕ} → x ≡ pair_answer m → Packs x v → PlacesPacked b size k v
-  packs_places q p = let r = packs_as (q ∙ places) p in record { answer = r; parts = place-pairs b s size k r }
+  pub packs_places : {v : ℕ} → Packs (place_answer (find_frame b size k)) v → PlacesPacked b size k v
+  packs_places p = record { answer = p; parts = place-pairs b s size k p }

@@ -1,7 +1,7 @@
 -- The answer of a compile call with records fits an answer's halves, and the low half is count and length.
 use Prim.Native.Nat.{ℕ, ◌*◌, ◌/◌, ◌%◌, ◌≤◌, ◌<◌}
 use native.Mathlib.Omega.{arith}
-use mathlib.Core.Path.{◌≡◌, subst, ◌∙◌}
+use mathlib.Core.Path.{◌≡◌, subst, refl}
 use mathlib.Core.List.{List}
 use lib.ListN.{length, take}
 use Rattle.definition.specs.Basic.{Bytes}
@@ -19,11 +19,10 @@ use Rattle.trace.specs.declared.CallTrace.{CallTrace}
 use Rattle.trace.specs.Promise.{answer_of, count_of}
 use Rattle.names.specs.Promise.{call_names, blanks, Names}
 use Rattle.capi.specs.Packed.{half_bound, Fits, Packs}
-use Rattle.capi.specs.Framed.{Pairs, pair_answer}
+use Rattle.capi.specs.Framed.{Pairs}
 use Rattle.capi.specs.Named.{names_answer, NamesPacked}
-use Rattle.capi.proofs.Fits.{fits_as, packs_as}
 use Rattle.capi.proofs.Framed.{pairs}
-use Rattle.capi.proofs.Mapped.{IsMapped, named, names_mapped}
+use Rattle.capi.proofs.Mapped.{IsMapped, Says, says}
 use Rattle.definition.specs.Number.{number_of}
 
 -- the call's answer is within the plain call's bounds
@@ -36,11 +35,11 @@ answer_fits : {a : Answer} (n : ℕ) → Within image_limit records_numbers tree
 answer_fits n (Within.wrote h) f = record { number = omega arith; value = omega arith }
 answer_fits n (Within.refused {r = r} b) f = record { number = below records_numbers half_bound tt (number_of r.reason) b.number; value = omega (arith, b.place) }
 
-pub names-fits : (tree : Bytes) (l : Lent) (xs : List ℕ) → AreBytes (take session_size l.session) → 4 * (call_names tree l xs).count ≤ code_size → Fits (names_answer (call_names tree l xs).called.answer (call_names tree l xs).count)
+names-fits : (tree : Bytes) (l : Lent) (xs : List ℕ) → AreBytes (take session_size l.session) → 4 * (call_names tree l xs).count ≤ code_size → Fits (names_answer (call_names tree l xs).called.answer (call_names tree l xs).count)
 names-fits tree l xs a f = answer_fits (call_names tree l xs).count (within tree l xs a) f
 
 -- the two numbers of an accepted call
-pub names-pairs : (tree : Bytes) (l : Lent) (xs : List ℕ) → AreBytes (take session_size l.session) → {v : ℕ} → Packs (names_answer (call_names tree l xs).called.answer (call_names tree l xs).count) v → (n : ℕ) → (call_names tree l xs).called.answer ≡ Ok n
+names-pairs : (tree : Bytes) (l : Lent) (xs : List ℕ) → AreBytes (take session_size l.session) → {v : ℕ} → Packs (names_answer (call_names tree l xs).called.answer (call_names tree l xs).count) v → (n : ℕ) → (call_names tree l xs).called.answer ≡ Ok n
     → Pairs (call_names tree l xs).count n (v % half_bound)
 names-pairs tree l xs a {v} p n e =
     let packed = subst (λ x. Packs (names_answer x (call_names tree l xs).count) v) e p in
@@ -49,17 +48,13 @@ names-pairs tree l xs a {v} p n e =
     short : Within image_limit records_numbers tree_limit (Ok n) → n < 65536
     short (Within.wrote h) = omega arith
 
--- what the call promises, as one number
+-- records and length, and what is said of their number
+abbrev named : CallTrace → ℕ × ℕ
+named t = (t.count, t.length)
+
 module _ {tree : Bytes} {l l' : Lent} {xs xs' : List ℕ} {r : Result CallTrace Refusal} (a : AreBytes (take session_size l.session)) (h : Names tree l xs r l' xs') where
-  same : names_answer (answer_of r) (count_of r) ≡ names_answer (call_names tree l xs).called.answer (call_names tree l xs).count
-  same = λ i. names_answer (h.answer i) (h.count i)
+  pub names_said : {P : CallTrace → ℕ × ℕ → Type 0} {m : Result (ℕ × ℕ) Refusal} → ((x : CallTrace) (y : ℕ × ℕ) → P x y → y ≡ named x) → IsMapped P r m → Says (names_answer (call_names tree l xs).called.answer (call_names tree l xs).count) m
+  names_said g c = says named (λ r. names_answer (answer_of r) (count_of r)) (λ _. refl) (λ _. refl) g c (λ i. names_answer (h.answer i) (h.count i)) (names-fits tree l xs a (subst (λ n. 4 * n ≤ code_size) h.count h.few))
 
-  module _ {P : CallTrace → ℕ × ℕ → Type 0} (m : Result (ℕ × ℕ) Refusal) (g : (x : CallTrace) (y : ℕ × ℕ) → P x y → y ≡ named x) (c : IsMapped P r m) where
-    mapped : pair_answer m ≡ names_answer (call_names tree l xs).called.answer (call_names tree l xs).count
-    mapped = names_mapped g r m c ∙ same
-
-    pub pair_fits : Fits (pair_answer m)
-    pair_fits = fits_as mapped (names-fits tree l xs a (subst (λ n. 4 * n ≤ code_size) h.count h.few))
-
-    pub packs_names : {x : Answer} {v : ℕ} → x ≡ pair_answer m → Packs x v → NamesPacked tree l xs v l' xs'
-    packs_names e p = let q = packs_as (e ∙ mapped) p in record { answer = q; parts = names-pairs tree l xs a q; lent = h.lent; rows = h.rows }
+  pub packs_names : {v : ℕ} → Packs (names_answer (call_names tree l xs).called.answer (call_names tree l xs).count) v → NamesPacked tree l xs v l' xs'
+  packs_names p = record { answer = p; parts = names-pairs tree l xs a p; lent = h.lent; rows = h.rows }

@@ -73,8 +73,9 @@ pub extern "C" fn monkey_compile(
     pack(answer)
 }
 
-// Compiles a tree as `monkey_compile` does, and writes how each of its names was resolved, four numbers for each Identifier in walk order: count × 65,536
-// + the image's length; or a refusal, 18 among them, and the numbers stay.
+// Compiles a tree as `monkey_compile` does, and writes how each of its names was resolved, four numbers for each Identifier in walk
+// order: count × 65,536 + the image's length; or a refusal, 18 among them, and the numbers stay.
+// Kept: the slices one by one, here and at `monkey_compile`, as C lends them (include/monkey.h).
 #[unsafe(no_mangle)]
 pub extern "C" fn monkey_compile_names(
     session: &mut [u8],
@@ -91,8 +92,8 @@ pub extern "C" fn monkey_compile_names(
     pack(answer)
 }
 
-// Checks an image and lists it as text: the listing's length; or 17 and the place, or 15 where the output is too short, and the output stays. An
-// empty output is always too short, so that 15 says there that the image is sound.
+// Checks an image and lists it as text: the listing's length; or 17 and the place, or 15 where the output is too short, and the output
+// stays. An empty output is always too short, so that 15 says there that the image is sound.
 #[unsafe(no_mangle)]
 pub extern "C" fn monkey_list_image(image: &[u8], output: &mut [u8]) -> u64
     ensures { ListsPacked image.now output.old result output.new }
@@ -164,8 +165,8 @@ pub extern "C" fn monkey_load_tree(seed: u32, output: &mut [u8]) -> u64
     pack(answer)
 }
 
-// Checks the heights offered for an image: how many greatest heights stand at the front of the output; or 17 and the place, 25 and the first chunk that
-// fails, or 15, and the output stays.
+// Checks the heights offered for an image: how many greatest heights stand at the front of the output; or 17 and the place, 25 and the
+// first chunk that fails, or 15, and the output stays.
 #[unsafe(no_mangle)]
 pub extern "C" fn monkey_check_heights(image: &[u8], heights: &[u32], output: &mut [u32]) -> u64
     ensures { ChecksPacked image.now heights.now output.old result output.new }
@@ -183,9 +184,9 @@ pub extern "C" fn monkey_propose_heights(image: &[u8], heights: &mut [u32]) -> u
     pack(answer)
 }
 
-// Runs main of an image with the heights offered for it: globals × 65,536 + steps, and nine bytes for each global at the front of the output; or 1, 17 and
-// the place, 25 and the chunk, 27 and the offset, 15, 28 or 29 and the offset, and the output stays. The work area's first 4,096 numbers are 0 then, except
-// after 1.
+// Runs main of an image with the heights offered for it: globals × 65,536 + steps, and nine bytes for each global at the front of the
+// output; or 1, 17 and the place, 25 and the chunk, 27 and the offset, 15, 28 or 29 and the offset, and the output stays. The work area's
+// first 4,096 numbers are 0 then, except after 1.
 #[unsafe(no_mangle)]
 pub extern "C" fn monkey_run(
     image: &[u8],
@@ -200,7 +201,8 @@ pub extern "C" fn monkey_run(
     pack(answer)
 }
 
-// Reads a script in text form and writes its tree to the output: its length; or 20 or 21 and the place in the text, 4 or 15, and the output stays.
+// Reads a script in text form and writes its tree to the output: its length; or 20 or 21 and the place in the text, 4 or 15, and the
+// output stays.
 #[unsafe(no_mangle)]
 pub extern "C" fn monkey_read_text(text: &[u8], output: &mut [u8]) -> u64
     ensures { ReadsPacked text.now output.old result output.new }

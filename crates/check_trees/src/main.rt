@@ -14,8 +14,8 @@ fn check_next<R: Read>(reader: &mut R, tree: &mut [u8]) -> io::Result<Result<(),
     Ok(tree::check(tree))
 }
 
-// Reads the next case, if there is one, and says whether its tree's check came out as recorded: a number in one byte, a place and the tree's length in
-// two each, the tree. The number 0 stands for a good tree, whatever the place.
+// Reads the next case, if there is one, and says whether its tree's check came out as recorded: a number in one byte, a place and the
+// tree's length in two each, the tree. The number 0 stands for a good tree, whatever the place.
 fn run_case<R: Read>(reader: &mut R) -> io::Result<Option<bool>> {
     let mut head = [0u8; 5];
     if read_full(reader, &mut head)? < 5 {

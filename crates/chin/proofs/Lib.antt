@@ -16,6 +16,7 @@ pub mod Functions
 pub mod Pools
 pub mod Whole
 pub mod Calls
+pub mod Lent
 pub mod Places
 pub mod Fits
 pub mod Compiled

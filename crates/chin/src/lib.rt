@@ -10,11 +10,10 @@ ghost use Rattle.definition.specs.Number.{refusal, bad_jump};
 ghost use Rattle.chin.specs.Chin.{translate as translated, to_chin, from_chin, answer_of, output_of};
 ghost use Rattle.chin.specs.Rows.{jump_of, other_form, ImageAt, HasImage, TurnsImage, Copied};
 
-use bytecode::{Form, Parts, check_form};
-use definition::output::store;
+use bytecode::{Form, check_form};
 use definition::{Reason, Refusal, refused};
 use operand::other_form;
-use row::{turn_code, turn_constants};
+use row::Turning;
 
 // The offset of the first jump that has no operand in the other form.
 #[derive(Clone, Copy)]
@@ -34,17 +33,19 @@ impl From<BadJump> for Refusal {
     }
 }
 
-// Puts the other form of a sound image over its copy at the front of the output, up to a jump that has no operand there. Where the output is empty
-// it only looks for one.
+// Turns the copy of a sound image at the front of the output into the other form, up to a jump that has no operand there. Where the output
+// is empty it only looks for one.
+// Kept: output, image and form one by one, here and at the two below, as C lends them: a `Turning` is made of the part that is turned.
 fn put_form(output: &mut [u8], image: &[u8], from: Form) -> Result<(), BadJump>
     requires { HasImage from image.now }
     ensures { (m : Image) → ImageAt from image.now m → TurnsImage from m image.now output.old output.new result }
 {
-    let Parts { code, pool } = Parts::of(image);
-    let tag = other_form(from).tags().main;
-    store(output, 0, tag);
-    turn_code(output, image, code.start, code.end, from)?;
-    turn_constants(output, image, pool.start, pool.end, from)
+    let mut turning = Turning {
+        output,
+        image,
+        from,
+    };
+    turning.turn_image()
 }
 
 // Writes the other form of a sound image whose jumps have operands there; or 15.

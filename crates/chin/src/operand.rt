@@ -31,18 +31,10 @@ fn jump_operand(from: Form, end: usize, a: usize) -> Option<usize>
     ensures { result ≡ jump_of from end a }
 {
     match from {
-        Form::Plain => {
-            if a < end {
-                return None;
-            }
-            Some(exchanged(a - end))
-        }
+        Form::Plain => Some(exchanged(a.checked_sub(end)?)),
         Form::Chin => {
             let target = end + exchanged(a);
-            if 65535 < target {
-                return None;
-            }
-            Some(target)
+            (target <= 65535).then_some(target)
         }
     }
 }

@@ -1,5 +1,5 @@
-// Reads a script in text form from standard input, compiles it in a fresh session, and writes the image to standard output. A refusal is a sentence
-// on standard error, with line and column where the text is at fault, and standard output stays empty.
+// Reads a script in text form from standard input, compiles it in a fresh session, and writes the image to standard output. A refusal is
+// a sentence on standard error, with line and column where the text is at fault, and standard output stays empty.
 #![tactic(auto)]
 
 use report::{with_input, with_tree, write_compiled};

@@ -4,13 +4,12 @@
 mod names;
 mod translate;
 
-ghost use Rattle.std.specs.Prelude.{◌≡◌, ◌≤◌, length, take, leb};
-ghost use Rattle.definition.specs.Basic.{both};
+ghost use Rattle.std.specs.Prelude.{◌≡◌, ◌≤◌, length, replicate};
 ghost use Rattle.definition.specs.Limit.{session_size, code_size, table_size};
 ghost use Rattle.definition.specs.Call.{cleared};
-ghost use Rattle.compiler.specs.Result.{call_result, whole_of};
+ghost use Rattle.compiler.specs.Result.{call_result};
 ghost use Rattle.compiler.specs.Promise.{Compiles, Makes, MakesWords};
-ghost use Rattle.compiler.specs.Stage.{lent_of, Long, Lengths};
+ghost use Rattle.compiler.specs.Stage.{lent_of};
 
 use bytecode::{read_layout, words_stand};
 use definition::limit::{CODE_SIZE, SESSION_SIZE, TABLE_SIZE};
@@ -39,13 +38,6 @@ pub fn make_session_words(session: &mut [u8], names: &[u8]) -> Result<usize, Ref
     refused(Reason::BadWords, 0)
 }
 
-// Whether all that is lent is as long as number 1 asks.
-pub fn long_enough(session: &[u8], code: &[u8], table: &[u32]) -> bool
-    ensures { result ≡ both (leb code_size (length code.now)) (both (leb table_size (length table.now)) (leb session_size (length session.now))) }
-{
-    CODE_SIZE <= code.len() && TABLE_SIZE <= table.len() && SESSION_SIZE <= session.len()
-}
-
 // Zeroes the code area.
 pub fn clear_code(code: &mut [u8])
     requires { code_size ≤ length code.old }
@@ -54,23 +46,14 @@ pub fn clear_code(code: &mut [u8])
     code[..CODE_SIZE].fill(0);
 }
 
-// Zeroes the table area.
-pub fn clear_table(table: &mut [u32])
-    requires { table_size ≤ length table.old }
-    ensures { table.new ≡ cleared table_size table.old }
-{
-    table[..TABLE_SIZE].fill(0);
-}
-
 // Compiles a tree in buffers of just these sizes: the session's layout, the tree, then the walk.
 fn compile_in(
-    session: &mut [u8],
+    session: &mut [u8; SESSION_SIZE],
     tree: &[u8],
     output: &mut [u8],
-    code: &mut [u8],
-    table: &mut [u32],
+    code: &mut [u8; CODE_SIZE],
+    table: &mut [u32; TABLE_SIZE],
 ) -> Result<usize, Refusal>
-    requires { Lengths session.old code.old table.old }
     ensures { record { answer = result; session = session.new; output = output.new } ≡ call_result tree.now session.old output.old }
 {
     let Some(layout) = read_layout(session) else {
@@ -80,31 +63,26 @@ fn compile_in(
     translate(session, tree, output, code, table, layout)
 }
 
-// Compiles a tree in buffers that are large enough, and zeroes the work areas.
+// The same, and zeroes the work areas.
 fn compile_lent(
-    session: &mut [u8],
+    session: &mut [u8; SESSION_SIZE],
     tree: &[u8],
     output: &mut [u8],
-    code: &mut [u8],
-    table: &mut [u32],
+    code: &mut [u8; CODE_SIZE],
+    table: &mut [u32; TABLE_SIZE],
 ) -> Result<usize, Refusal>
-    requires { Long session.old code.old table.old }
-    ensures { record { answer = result; lent = lent_of session.new output.new code.new table.new } ≡ whole_of (lent_of session.old output.old code.old table.old) (call_result tree.now (take session_size session.old) output.old) }
+    ensures result { record { answer = result; session = session.new; output = output.new } ≡ call_result tree.now session.old output.old }
+    ensures code { code.new ≡ replicate code_size 0 }
+    ensures table { table.new ≡ replicate table_size 0 }
 {
-    let answer = compile_in(
-        &mut session[..SESSION_SIZE],
-        tree,
-        output,
-        &mut code[..CODE_SIZE],
-        &mut table[..TABLE_SIZE],
-    );
-    clear_code(code);
-    clear_table(table);
+    let answer = compile_in(session, tree, output, code, table);
+    code.fill(0);
+    table.fill(0);
     answer
 }
 
 // Compiles a tree in a session, and leaves image, session and zeroed work areas; or refuses it.
-// Kept: the slices one by one, here and in the functions that it calls, as C lends them; the walk has them as one struct.
+// Kept: the slices one by one, here and in the functions that it calls: a struct would be made here once, and taken apart at each call.
 pub fn compile(
     session: &mut [u8],
     tree: &[u8],
@@ -114,8 +92,14 @@ pub fn compile(
 ) -> Result<usize, Refusal>
     ensures { Compiles tree.now (lent_of session.old output.old code.old table.old) result (lent_of session.new output.new code.new table.new) }
 {
-    if long_enough(session, code, table) {
-        return compile_lent(session, tree, output, code, table);
-    }
-    refused(Reason::ShortBuffer, 0)
+    let Some(session) = session.first_chunk_mut() else {
+        return refused(Reason::ShortBuffer, 0);
+    };
+    let Some(code) = code.first_chunk_mut() else {
+        return refused(Reason::ShortBuffer, 0);
+    };
+    let Some(table) = table.first_chunk_mut() else {
+        return refused(Reason::ShortBuffer, 0);
+    };
+    compile_lent(session, tree, output, code, table)
 }

@@ -11,7 +11,7 @@ use definition::{Reason, Refusal, refused};
 use scope::{Chunk, Scope, State};
 use session::image::write_image;
 use session::write_back;
-use session::zero::restore;
+use session::zero::clear;
 use walk::compile_tree;
 
 // The state as the walk starts: an empty chunk.
@@ -35,7 +35,7 @@ fn start_state(layout: SessionLayout) -> State
 
 // The end of a walk that went through: the output has room, and the image is written, then the session of three fields with the new names
 // and the new pool; or the output is short, and the session is restored.
-// Kept: the slices one by one, here and below, as at `compile`.
+// Kept: the slices one by one, here and below: a struct of them would be taken apart at each call, as at `compile`.
 fn finish(
     session: &mut [u8],
     tree: &[u8],
@@ -52,7 +52,7 @@ fn finish(
     let to = scope.state.pool_end as usize;
     let total = 6 + len + (to - from);
     if output.len() < total {
-        restore(session, layout.pool_end, to);
+        clear(session, layout.pool_end, to);
         return refused(Reason::OutputShort, 0);
     }
     write_image(output, &scope.code[..len], &session[from..to]);
@@ -96,7 +96,7 @@ pub fn translate(
     };
     match walk_tree(tree, session, &mut scope, table, layout) {
         Err(refusal) => {
-            restore(session, layout.pool_end, scope.state.pool_end as usize);
+            clear(session, layout.pool_end, scope.state.pool_end as usize);
             Err(refusal)
         }
         Ok(()) => finish(session, tree, output, &scope, table, layout),

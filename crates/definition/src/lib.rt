@@ -1,5 +1,5 @@
-// The definition that the whole compiler is held to: specs/ and its theorems in proofs/. Here: the types, numbers, limits and tags that all crates
-// share.
+// The definition that the whole compiler is held to: specs/ and its theorems in proofs/. Here: the types, numbers, limits and tags
+// that all crates share.
 #![tactic(auto)]
 
 pub mod builtins;

@@ -2,7 +2,7 @@
 ghost use Rattle.std.specs.Prelude.{◌≡◌, set};
 
 // Stores a value where there is room.
-// Kept: a test and an index: tried with `get_mut`, and the check finds no proof, since none knows an element of the slice behind it.
+// Kept: tried with `get_mut`: the proof does not close, since nothing is known of the slice behind the element that is lent.
 pub fn store<T: Copy>(output: &mut [T], at: usize, value: T)
     ensures { output.new ≡ set output.old at value }
 {

@@ -1,9 +1,11 @@
 -- Going over fields that stand one after the other.
-use Rattle.std.proofs.Common.{◌≡◌, ℕ, ◌<◌, ◌≤◌, List, length, refl, sym, ap, ◌∙◌, subst, arith}
+use Rattle.std.proofs.Common.{◌≡◌, ℕ, ◌<◌, ◌≤◌, List, [], ◌∷◌, length, refl, sym, ap, ◌∙◌, subst, arith}
+use Rattle.std.specs.Iterator.{Yields, CallableAtEachTurn}
+use Rattle.std.specs.List.{FoldsTo}
 use Rattle.definition.specs.Basic.{Bytes}
 use Rattle.field.specs.Layout.{after, Whole}
 use Rattle.field.specs.Row.{RowTo, HasRow}
-use Rattle.field.specs.Fields.{FieldsTo, Begins, NextIs, Ended}
+use Rattle.field.specs.Fields.{FieldsTo, Begins, NextIs, Ended, Gives}
 use Rattle.field.specs.declared.fields.Fields.{Fields}
 
 -- the fields of a row
@@ -62,3 +64,20 @@ module _ {b : Bytes} {to : ℕ} {s : Fields} (o : Over b to s) where
 
     pub is_over : to ≤ s.at
     is_over = omega (arith, ends_at)
+
+-- after any turns it goes over the same bytes
+pub over_yields : {b : Bytes} {to : ℕ} (xs : List ℕ) {s t : Fields} → Yields Gives s xs t → Over b to s → Over b to t
+over_yields {b} {to} [] y o = subst (λ s. Over b to s) y o
+over_yields (x ∷ xs) y o = over_yields xs y.2 (over_again o y.1)
+
+module _ {P : Type 0} {R : P → ℕ → P → Type 0} (keeps : (p : P) (x : ℕ) (q : P) → R p x q → q ≡ p) where
+  -- turns that keep a value, together
+  pub folds_keep : (xs : List ℕ) {p q : P} → FoldsTo R p xs q → q ≡ p
+  folds_keep [] e = sym e
+  folds_keep (x ∷ xs) {p} e = folds_keep xs e.2 ∙ keeps p x e.0 e.1
+
+  -- what may be called at a whole field may be called at each
+  pub callable_whole : {s : Fields} {p : P} {Q : P → ℕ → Type 0} → ((x : ℕ) → Whole s.bytes.now x → Q p x) → CallableAtEachTurn Gives R Q s p
+  callable_whole {s} {p} {Q} c = record {
+    at = λ xs t q x u y f n. subst (λ q. Q q x) (sym (folds_keep xs f)) (c x (whole_here (over_yields xs y (record { bytes = refl; stops = refl })) n));
+  }

@@ -13,7 +13,7 @@ pub struct Fields<'a> {
 
 impl<'a> Fields<'a> {
     // From an offset up to an end.
-    // Kept: the bytes with both offsets, since the items are offsets in them.
+    // Kept: offsets, no slice: callers keep the items, as places of refusals, of names and in records, and these count from the start.
     pub fn new(bytes: &'a [u8], at: usize, end: usize) -> Self
         ensures { Begins bytes.now at end result }
     {

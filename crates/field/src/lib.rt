@@ -8,6 +8,9 @@ ghost use Rattle.std.specs.Prelude.{◌≡◌, ◌+◌, ◌*◌, ◌≤◌, ◌<
 ghost use Rattle.definition.specs.Basic.{byte_at};
 ghost use Rattle.definition.specs.Field.{head};
 ghost use Rattle.field.specs.Layout.{Whole, after, content, len_before};
+ghost use Rattle.field.specs.Fields.{Begins};
+
+use fields::Fields;
 
 // A byte as a length or an offset; its bound stands here, so that no caller proves it.
 pub fn wide(x: u8) -> usize
@@ -35,6 +38,7 @@ pub fn length_at(bytes: &[u8], at: usize) -> usize
 }
 
 // The content length of the field at `at`, if the field stands whole before `end`.
+// Kept: offsets, no slice: what its callers prove reads heads at offsets of the whole bytes; from a slice each would move its promise back.
 #[inline(always)]
 pub fn length_before(bytes: &[u8], at: usize, end: usize) -> Option<usize>
     requires { (at ≤ end) × (end ≤ length bytes.now) }
@@ -93,6 +97,14 @@ impl<'a> Field<'a> {
         ensures { result.now ≡ content self.entry.bytes.now self.entry.at }
     {
         content_at(self.bytes, self.at)
+    }
+
+    // The fields of its content.
+    #[inline(always)]
+    pub fn children(self) -> Fields<'a>
+        ensures { Begins self.entry.bytes.now (self.entry.at + 3) (after self.entry.bytes.now self.entry.at) result }
+    {
+        Fields::new(self.bytes, self.at + 3, self.after())
     }
 
     // The first field of its content.

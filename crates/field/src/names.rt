@@ -23,16 +23,12 @@ pub fn same_name(x: &[u8], y: &[u8]) -> bool
 }
 
 // The first of the fields that has a name.
-pub fn find_name(fields: Fields<'_>, name: &[u8]) -> Option<usize>
+pub fn find_name(mut fields: Fields<'_>, name: &[u8]) -> Option<usize>
     requires { RowOf fields }
     ensures { (h : RowOf fields.entry) → found_of result ≡ find_builtin name.now h.names 0 }
 {
-    for (k, at) in fields.enumerate() {
-        if same_name(name, content_at(fields.bytes, at)) {
-            return Some(k);
-        }
-    }
-    None
+    let bytes = fields.bytes;
+    fields.position(|at| same_name(name, content_at(bytes, at)))
 }
 
 // Whether no name stands twice among the fields.

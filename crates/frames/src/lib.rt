@@ -69,6 +69,7 @@ fn place_in(count: FrameCount, size: usize, index: usize) -> Result<FramePlace, 
 }
 
 // Finds the frame of a number from 0 in an image: its offset and length; or 17, 23 or 24, in that order.
+// Kept: image, size and index one by one, here and at the two below, as C hands them over (include/monkey.h).
 pub fn find_frame(image: &[u8], size: usize, index: usize) -> Result<FramePlace, Refusal>
     ensures { result ≡ find_frame image.now size index }
 {

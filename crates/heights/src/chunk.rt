@@ -1,5 +1,6 @@
-// One forward pass over a chunk. A mark says what arrives at an offset of the image: nothing, no way from the chunk's start, or GROUND + h: the height h.
-// Kept: numbers: tried an enum with `Height(u16)`: up to `arrive`, `leap` and `fall` it proved; `free`, `step` and the loops stood open.
+// One forward pass over a chunk. A mark says what arrives at an offset of the image: nothing, no way from the chunk's start, or
+// GROUND + h: the height h.
+// Kept: numbers: an enum with `Height(u16)`, proved, takes up to 9 % more (the bar is 3 %), and code may end at 65,536.
 ghost use Rattle.std.specs.Prelude.{true, ◌≡◌, ℕ, ◌+◌, ◌-◌, ◌<◌, ◌≤◌, leb, ltb, length, get_or};
 ghost use Rattle.definition.specs.Basic.{pick, both};
 ghost use Rattle.definition.specs.Effect.{takes as taken, flow_of, falls as follows, leaps as targets};
@@ -190,19 +191,19 @@ pub fn pass<'h>(marks: &mut [u32], code: Span<'_>, heights: &'h [u32]) -> Option
     marks.go(heights)
 }
 
-// A chunk, at whose end no more than `last` may arrive.
+// A chunk of a kind, at whose end no more may arrive than at that of its kind.
 pub fn check_chunk<'h>(
     marks: &mut [u32],
     code: Span<'_>,
     heights: &'h [u32],
-    last: u32,
+    kind: Kind,
 ) -> Option<ChunkTop<'h>>
     requires { ChunkReady marks.old code.bytes.now code.start code.end }
-    ensures { (c : Code) → CodeIn code.entry c → (kind : Kind) → last ≡ lastly kind → ChunkEnds heights.now kind code.entry.end c result marks.new }
+    ensures { (c : Code) → CodeIn code.entry c → ChunkEnds heights.now kind code.entry.end c result marks.new }
 {
     marks[code.start] = GROUND;
     let chunk = pass(marks, code, heights)?;
-    if last < marks[code.end] {
+    if kind.last() < marks[code.end] {
         return None;
     }
     Some(chunk)

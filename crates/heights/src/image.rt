@@ -58,7 +58,7 @@ impl<'a> Judging<'a> {
         ensures judges { (c : Code) → CodeIn code.entry c → Judges code.entry.end (top_answer (top_of before.entry.heights.now kind 0 c) before.entry.chunks (drop (length c) before.entry.heights.now)) (top_into (top_of before.entry.heights.now kind 0 c) before.entry.chunks self.old.output.now) result self.new.output.now self.new.marks.now }
         ensures lent { Lent self.old self.new }
     {
-        let chunk = check_chunk(self.marks, code, before.heights, kind.last())?;
+        let chunk = check_chunk(self.marks, code, before.heights, kind)?;
         store(self.output, before.chunks, chunk.top);
         Some(Progress {
             chunks: before.chunks + 1,
@@ -89,8 +89,7 @@ impl<'a> Judging<'a> {
         ensures lent { Lent self.old self.new }
     {
         let mut progress = before;
-        for (index, (start, end)) in pool.constants().enumerate() {
-            let constant = Span { start, end, ..pool };
+        for (index, constant) in pool.constants().enumerate() {
             let Some(p) = self.judge_constant(constant, progress) else {
                 return Err(BadChunk { place: index + 1 });
             };
@@ -114,8 +113,8 @@ impl<'a> Judging<'a> {
     }
 }
 
-// Judges main and the pool of a sound image, and stores the greatest heights as far as there is room: how many chunks there are, or the first
-// that fails.
+// Judges main and the pool of a sound image, and stores the greatest heights as far as there is room: how many chunks there are, or the
+// first that fails.
 pub fn judge(output: &mut [u32], image: SoundImage<'_>, heights: &[u32]) -> Result<usize, BadChunk>
     ensures { (m : Image) → ImageAt image.entry.bytes.now m → PoolJudges heights.now m m.pool output.old result output.new }
 {

@@ -17,8 +17,8 @@ use image::judge;
 use listing::sound::SoundImage;
 use propose::propose;
 
-// Checks the heights offered for an image: how many greatest heights stand at the start of the output then; or 17 where the image is wrong; or 25 at
-// the first chunk that fails; or 15 where there are more chunks than the output has room for.
+// Checks the heights offered for an image: how many greatest heights stand at the start of the output then; or 17 where the image is
+// wrong; or 25 at the first chunk that fails; or 15 where there are more chunks than the output has room for.
 pub fn check_heights(image: &[u8], heights: &[u32], output: &mut [u32]) -> Result<usize, Refusal>
     ensures answers { result ≡ heights_answer (read_image image.now) heights.now (length output.old) }
     ensures writes { output.new ≡ heights_into (read_image image.now) heights.now output.old }
@@ -33,8 +33,9 @@ pub fn check_heights(image: &[u8], heights: &[u32], output: &mut [u32]) -> Resul
     Ok(count)
 }
 
-// Proposes heights for an image by forward flow along the code, 0 where there is no way from the chunk's start: how many stand at the start of the list
-// then, one for each instruction; or 17 where the image is wrong; or 15 where there are more than the list has room for.
+// Proposes heights for an image by forward flow along the code, 0 where there is no way from the chunk's start: how many stand at the
+// start of the list then, one for each instruction; or 17 where the image is wrong; or 15 where there are more than the list has room
+// for.
 pub fn propose_heights(image: &[u8], heights: &mut [u32]) -> Result<usize, Refusal>
     ensures answers { result ≡ proposal_answer (read_image image.now) (length heights.old) }
     ensures stays { drop (proposal_size (read_image image.now) (length heights.old)) heights.new ≡ drop (proposal_size (read_image image.now) (length heights.old)) heights.old }

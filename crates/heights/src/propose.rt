@@ -83,8 +83,8 @@ impl<'a> Proposer<'a> {
         ensures proposes { (cs : List Const) → PoolIn pool.entry cs → (m : Image) → counted m [] ≡ self.old.count → Proposed (counted m cs) pool.entry.end self.old.heights.now self.new.count self.new.heights.now }
         ensures lent { Lends self.old self.new }
     {
-        for (start, end) in pool.constants() {
-            self.propose_constant(Span { start, end, ..pool });
+        for constant in pool.constants() {
+            self.propose_constant(constant);
         }
     }
 

@@ -1,5 +1,6 @@
-// Reads an image from standard input and writes the greatest height of the stack in each chunk, a line each: `main 3`, and `function 4 2` for the function
-// at index 4 of the pool. The heights are proposed here and then checked. A refusal is a sentence on standard error, and standard output stays empty.
+// Reads an image from standard input and writes the greatest height of the stack in each chunk, a line each: `main 3`, and `function 4 2`
+// for the function at index 4 of the pool. The heights are proposed here and then checked. A refusal is a sentence on standard error, and
+// standard output stays empty.
 #![tactic(auto)]
 
 use bytecode::{Parts, Span};
@@ -8,15 +9,10 @@ use std::io;
 
 // Writes the line of each function among the constants of a pool, with the greatest heights in their order.
 fn print_functions(rt: &impl Print, pool: Span<'_>, tops: &[u32]) -> io::Result<()> {
-    let mut tops = tops.iter();
-    for (index, (start, end)) in pool.constants().enumerate() {
-        let constant = Span { start, end, ..pool };
-        if constant.function().is_some() {
-            let Some(top) = tops.next() else {
-                return Ok(());
-            };
-            println!(rt; "function {index} {top}")?;
-        }
+    let constants = pool.constants().enumerate();
+    let functions = constants.filter(|(_, constant)| constant.function().is_some());
+    for ((index, _), top) in functions.zip(tops) {
+        println!(rt; "function {index} {top}")?;
     }
     Ok(())
 }

@@ -6,7 +6,7 @@ use native.Mathlib.Omega.{arith}
 use lib.Dec.{eqb}
 use lib.ListN.{length, take, drop, length-drop}
 use lib.Seq.{take-length}
-use borrow.Author.Tests.{eq-eqb, ne_eqb, eqb-true, leb-true}
+use borrow.Author.Tests.{eq-eqb, ne_eqb, eqb-true, leb-true, le-leb}
 use Rattle.definition.specs.Basic.{Bytes, byte_at}
 use Rattle.definition.proofs.Bytes.{bytes_slice}
 use Rattle.definition.specs.Tag.{tag_integer_const, tag_string_const, tag_function_const}
@@ -37,6 +37,13 @@ module _ (b : Bytes) (at end : ℕ) {x : Const} (h : ConstantAt b at end x) wher
 
   pub constant_within : at + 3 + (head (byte_at b) at).len ≤ end
   constant_within = good.within
+
+  -- it stands before its own end too
+  pub constant_own : {next : ℕ} → next ≡ at + 3 + (head (byte_at b) at).len → ConstantAt b at next x
+  constant_own {next} e =
+      let k = le-leb (at + 3) next (omega (arith, e)) in
+      let l = le-leb (at + 3 + (head (byte_at b) at).len) next (omega (arith, e)) in
+      record { within = omega (arith, e, good.within, h.within); reads = rw (k, l, good.is) content }
 
   -- as a part of the bytes
   slice : {k : ℕ} → k ≡ (head (byte_at b) at).len → end ≤ length b → take (at + 3 + k - (at + 3)) (drop (at + 3) b) ≡ bytes (byte_at b) (at + 3) len

@@ -35,8 +35,9 @@ impl<'a> Writer<'a> {
     }
 }
 
-// Checks an image and lists it: the length of its listing, which stands at the start of the output then; or 17 where the image is wrong; or 15
-// where the listing is longer than the output. One reading checks and counts, before the first byte is written; a second one writes.
+// Checks an image and lists it: the length of its listing, which stands at the start of the output then; or 17 where the image is wrong;
+// or 15 where the listing is longer than the output. One reading checks and counts, before the first byte is written; a second one
+// writes.
 pub fn list_image(image: &[u8], output: &mut [u8]) -> Result<usize, Refusal>
     ensures answers { result ≡ list_answer (read_image image.now) (length output.old) }
     ensures writes { output.new ≡ list_into (read_image image.now) output.old }

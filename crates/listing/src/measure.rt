@@ -3,12 +3,12 @@ ghost use Rattle.std.specs.Prelude.{◌≡◌, true, ℕ, ◌+◌, ◌-◌, ◌*
 ghost use Rattle.definition.specs.Basic.{byte_at};
 ghost use Rattle.definition.specs.Field.{head};
 ghost use Rattle.definition.specs.Decode.{read_code, read_function, read_content, read_const, read_pool, read_image};
-ghost use Rattle.bytecode.specs.Checked.{Part, head_of, is_constant, constants, main_code};
+ghost use Rattle.bytecode.specs.Checked.{head_of, is_constant, constants, main_code};
 ghost use Rattle.listing.specs.Put.{per_byte};
 ghost use Rattle.listing.specs.Measured.{code_measured, constant_measured, pool_measured, image_measured, text_of, pool_text_of};
 
 use crate::lengths::{decimal_length, function_length, integer_length, line_length, string_length};
-use bytecode::{Form, Head, Malformed, head_where};
+use bytecode::{Form, Head, Malformed, Section, Span};
 use definition::{Refusal, limit, tag};
 use field::{wide, word};
 use opcode::size_at;
@@ -35,35 +35,27 @@ pub struct MeasuredImage {
     pub size: usize,
 }
 
-// A part of an image, from an offset up to another, short enough for its text to be counted.
-// Kept: offsets and no slice, since a refusal names the offset in the image.
+// A part of an image, short enough for its text to be counted.
 #[derive(Clone, Copy)]
 struct Piece<'a> {
-    image: &'a [u8],
-    at: usize,
-    end: usize,
-    ghost part: { Part image.now at end },
-    ghost few: { end ≤ at + 65536 },
+    part: Section<'a>,
+    ghost few: { part.span.end ≤ part.span.start + 65536 },
 }
 
 impl<'a> Piece<'a> {
     // Reads code.
     fn measure_code(self) -> Result<Measured, Malformed>
-        ensures is { (len : ℕ) → self.entry.end ≤ self.entry.at + len → result ≡ code_measured (read_code (byte_at self.entry.image.now) len self.entry.at self.entry.end) }
-        ensures small { text_of result ≤ per_byte * (self.entry.end - self.entry.at) }
+        ensures is { (len : ℕ) → self.entry.part.span.end ≤ self.entry.part.span.start + len → result ≡ code_measured (read_code (byte_at self.entry.part.span.bytes.now) len self.entry.part.span.start self.entry.part.span.end) }
+        ensures small { text_of result ≤ per_byte * (self.entry.part.span.end - self.entry.part.span.start) }
     {
-        let Piece {
-            image,
-            at: start,
-            end,
-        } = self;
+        let Span { bytes, start, end } = self.part.span;
         // Kept: a `while`, since over `Instructions` the check of an image takes 4 to 6 % more instructions, and the bar is 3 %.
         let mut at = start;
         let mut text = 0;
         while at < end {
-            match size_at(image, at, end) {
+            match size_at(bytes, at, end) {
                 Some(size) => {
-                    text += line_length(image, at - start, at, size);
+                    text += line_length(bytes, at - start, at, size);
                     at += size;
                 }
                 None => return Err(Malformed { place: at }),
@@ -77,77 +69,66 @@ impl<'a> Piece<'a> {
 
     // Reads a function constant's content, of at least three bytes.
     fn measure_function(self) -> Result<Measured, Malformed>
-        requires { self.at + 3 ≤ self.end }
-        ensures is { result ≡ constant_measured (read_function (byte_at self.entry.image.now) self.entry.at (self.entry.end - self.entry.at)) }
-        ensures small { text_of result + 20 ≤ per_byte * (1 + (self.entry.end - self.entry.at)) }
+        requires { self.part.span.start + 3 ≤ self.part.span.end }
+        ensures is { result ≡ constant_measured (read_function (byte_at self.entry.part.span.bytes.now) self.entry.part.span.start (self.entry.part.span.end - self.entry.part.span.start)) }
+        ensures small { text_of result + 20 ≤ per_byte * (1 + (self.entry.part.span.end - self.entry.part.span.start)) }
     {
-        let Piece { image, at, end } = self;
-        let locals = word(image[at], image[at + 1]);
-        let parameters = wide(image[at + 2]);
+        let Span { bytes, start, end } = self.part.span;
+        let locals = word(bytes[start], bytes[start + 1]);
+        let parameters = wide(bytes[start + 2]);
         let code = Piece {
-            image,
-            at: at + 3,
-            end,
+            part: self.part.from(start + 3),
         };
         let measured = code.measure_code()?;
         Ok(Measured {
-            text: function_length(locals, parameters, end - at - 3) + measured.text,
+            text: function_length(locals, parameters, end - start - 3) + measured.text,
             end: measured.end,
         })
     }
 
     // Reads a constant's content, whose head is good.
     fn measure_content(self, head: Head) -> Result<Measured, Malformed>
-        requires { (self.end ≡ self.at + head.len) × (is_constant Form.Plain (head_of head) ≡ true) }
-        ensures is { result ≡ constant_measured (read_content (byte_at self.entry.image.now) (head_of head) self.entry.at) }
+        requires { (self.part.span.end ≡ self.part.span.start + head.len) × (is_constant Form.Plain (head_of head) ≡ true) }
+        ensures is { result ≡ constant_measured (read_content (byte_at self.entry.part.span.bytes.now) (head_of head) self.entry.part.span.start) }
         ensures small { text_of result + 20 ≤ per_byte * (1 + head.len) }
     {
+        let Span { bytes, start, end } = self.part.span;
         let text = match head.tag {
-            tag::INTEGER_CONST => integer_length(self.image[self.at..].first_chunk().unwrap()),
+            tag::INTEGER_CONST => integer_length(bytes[start..].first_chunk().unwrap()),
             tag::STRING_CONST => string_length(head.len),
             _ => return self.measure_function(),
         };
-        Ok(Measured {
-            text,
-            end: self.end,
-        })
+        Ok(Measured { text, end })
     }
 
     // Reads the constant that it begins with.
     fn measure_constant(self) -> Result<Measured, Malformed>
-        ensures is { result ≡ constant_measured (read_const (byte_at self.entry.image.now) self.entry.at self.entry.end) }
-        ensures small { text_of result + 20 ≤ per_byte * (1 + (head (byte_at self.entry.image.now) self.entry.at).len) }
+        ensures is { result ≡ constant_measured (read_const (byte_at self.entry.part.span.bytes.now) self.entry.part.span.start self.entry.part.span.end) }
+        ensures small { text_of result + 20 ≤ per_byte * (1 + (head (byte_at self.entry.part.span.bytes.now) self.entry.part.span.start).len) }
     {
-        let Piece { image, at, end } = self;
-        let head = head_where(image, at, end, |head| head.is_constant(Form::Plain))?;
+        let head = self.part.head_where(|head| head.is_constant(Form::Plain))?;
         let content = Piece {
-            image,
-            at: at + 3,
-            end: at + 3 + head.len,
+            part: self.part.behind(head),
         };
         content.measure_content(head)
     }
 
     // Reads constants, at most 4,096.
-    // Kept: a loop beside `bytecode`'s `check_items`, which counts and does not sum. To sum in a pass behind it would read an image three times,
-    // which took up to 75 % more instructions than twice (docs/PERFORMANCE.md, "Check and list"), and the bar is 3 %.
+    // Kept: a loop beside `check_items`, which does not sum: a third reading takes up to 75 % more (docs/PERFORMANCE.md); the bar is 3 %.
     fn measure_constants(self) -> Result<MeasuredPool, Malformed>
-        ensures is { result ≡ pool_measured (constants (byte_at self.entry.image.now) self.entry.at self.entry.end) }
-        ensures small { pool_text_of result ≤ per_byte * (self.entry.end - self.entry.at) }
+        ensures is { result ≡ pool_measured (constants (byte_at self.entry.part.span.bytes.now) self.entry.part.span.start self.entry.part.span.end) }
+        ensures small { pool_text_of result ≤ per_byte * (self.entry.part.span.end - self.entry.part.span.start) }
     {
-        let Piece {
-            image,
-            at: start,
-            end,
-        } = self;
-        let mut at = start;
+        let mut at = self.part.span.start;
         let mut count = 0;
         let mut text = 0;
-        while at < end {
+        while at < self.part.span.end {
             if count == limit::CONSTANTS_LIMIT {
                 return Err(Malformed { place: at });
             }
-            let rest = Piece { image, at, end };
+            let rest = Piece {
+                part: self.part.from(at),
+            };
             let constant = rest.measure_constant()?;
             text = text + decimal_length(count) + constant.text;
             at = constant.end;
@@ -167,11 +148,10 @@ fn measure_pool(image: &[u8], at: usize) -> Result<MeasuredPool, Malformed>
     ensures is { result ≡ pool_measured (read_pool (byte_at image.now) at (length image.now)) }
     ensures small { pool_text_of result ≤ per_byte * 65536 }
 {
-    let head = head_where(image, at, image.len(), |head| head.is_pool())?;
+    let rest = Section::whole(image).from(at);
+    let head = rest.head_where(|head| head.is_pool())?;
     let constants = Piece {
-        image,
-        at: at + 3,
-        end: at + 3 + head.len,
+        part: rest.behind(head),
     };
     constants.measure_constants()
 }
@@ -181,11 +161,10 @@ fn measure_main(image: &[u8]) -> Result<Measured, Malformed>
     ensures is { result ≡ code_measured (main_code (byte_at image.now) Form.Plain (length image.now)) }
     ensures small { text_of result ≤ per_byte * 65536 }
 {
-    let head = head_where(image, 0, image.len(), |head| head.is_main(Form::Plain))?;
+    let whole = Section::whole(image);
+    let head = whole.head_where(|head| head.is_main(Form::Plain))?;
     let code = Piece {
-        image,
-        at: 3,
-        end: 3 + head.len,
+        part: whole.behind(head),
     };
     code.measure_code()
 }

@@ -78,9 +78,9 @@ impl<'a> Writer<'a> {
         requires { HasPoolIn pool }
         ensures { (cs : List Const) → PoolIn pool.entry cs → Puts self.old self.new (constant_lines cs) }
     {
-        for (index, (start, _)) in pool.constants().enumerate() {
+        for (index, constant) in pool.constants().enumerate() {
             self.put_decimal(index);
-            self.put_constant(Span { start, ..pool });
+            self.put_constant(constant);
         }
     }
 

@@ -15,7 +15,7 @@ pub struct Writer<'a> {
 }
 
 // A decimal digit.
-// Kept: arithmetic, since the text is bytes, and `char::from_digit` gives a character to convert.
+// Kept: arithmetic, here and below, since the text is bytes, and `char::from_digit` gives a character to convert.
 fn digit(d: usize) -> u8
     requires { d < 10 }
     ensures { result ≡ digitOf d }
@@ -24,23 +24,21 @@ fn digit(d: usize) -> u8
 }
 
 // A lower-case hexadecimal digit.
-// Kept: arithmetic, since the text is bytes, and `char::from_digit` gives a character to convert.
 fn hex_digit(d: u8) -> u8
     requires { d < 16 }
     ensures { result ≡ hex_digit d }
 {
     if d < 10 {
-        return 48 + d;
+        return b'0' + d;
     }
-    87 + d
+    b'a' + (d - 10)
 }
 
 // The number of eight bytes in two's complement, high byte first.
-pub fn integer(bytes: &[u8]) -> i64
-    requires { length bytes.now ≡ 8 }
+pub fn integer(bytes: &[u8; 8]) -> i64
     ensures { result ≡ cast_signed w64 (number 0 bytes.now) }
 {
-    i64::from_be_bytes(*bytes.first_chunk::<8>().unwrap())
+    i64::from_be_bytes(*bytes)
 }
 
 impl<'a> Writer<'a> {
@@ -73,7 +71,7 @@ impl<'a> Writer<'a> {
     }
 
     // Puts a number's last digits, at most so many.
-    // Kept: by hand: tried with `fmt::Write` and `write!`, whose promise speaks of `Ok` alone: what an `Err` would have put stays open.
+    // Kept: by hand, here and below: `fmt::Write` and `write!`, tried, promise of `Ok` alone: what an `Err` would have put stays open.
     fn put_digits(&mut self, n: usize, most: usize)
         ensures { Puts self.old self.new (digits most n) }
     {

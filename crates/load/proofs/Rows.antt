@@ -1,5 +1,6 @@
 -- What was drawn and written is what the list of choices says.
 use Rattle.std.proofs.Common.{◌≡◌, ℕ, suc, ◌+◌, ◌-◌, ◌≤◌, [], ◌∷◌, ◌++◌, List, length, get_or, sym, ap, ◌∙◌, subst, arith}
+use mathlib.Core.Logic.{◌⊎◌, inl, inr}
 use lib.Seq.{sets}
 use borrow.Rule.Slice.PartMut.{put_mid, mid_of}
 use Rattle.definition.specs.Basic.{Bytes}
@@ -9,6 +10,9 @@ use Rattle.definition.specs.Node.{node}
 use Rattle.load.specs.Draw.{drawn, bind, draw, Part, times, row, field_of}
 use Rattle.load.specs.Load.{StatementRow, leaves, leaf_of, identifier, row_below, statement_of, block_of, choices, statement_choices, expression, statement, yielding, block, branch, an_expression, a_statement, a_yielding}
 use Rattle.load.specs.Writing.{Wrote, WroteAll}
+use Rattle.load.specs.Items.{part_of}
+use Rattle.load.specs.declared.row.Item.{Item}
+use Rattle.load.specs.declared.row.Item.TheVariants.{Statement, Yielding, Block, Branch}
 use Rattle.load.proofs.Laws.{wrote_as, draw-wrote, length_left, node_wrote}
 use Rattle.load.proofs.Trees.{row_at, statement_row_at}
 
@@ -50,6 +54,14 @@ statement-high below m state {s = s} {n = n} {t = t} {b = b} {after = a} h p q e
 pub yielding-high : (below m s : ℕ) {n t : ℕ} {b after : Bytes} → 1 ≤ below → Wrote (field_of tag_expr_stmt (an_expression (below - 1) ∷ []) m s) n t b after → Wrote (yielding below m s) n t b after
 unfolding expression
 yielding-high below m s {n = n} {t = t} {b = b} {after = a} h w = subst (λ d. Wrote (yielding d m s) n t b a) (above below h) w
+
+-- the parts that are a Block of no statements where no level is below them
+pub empty_block : {i : Item} → (i ≡ Statement) ⊎ ((i ≡ Yielding) ⊎ ((i ≡ Block) ⊎ (i ≡ Branch))) → (m s : ℕ) → field_of tag_block [] m s ≡ (part_of 0 i).make m s
+unfolding expression
+empty_block (inl e) m s = ap (λ i. (part_of 0 i).make m s) (sym e)
+empty_block (inr (inl e)) m s = ap (λ i. (part_of 0 i).make m s) (sym e)
+empty_block (inr (inr (inl e))) m s = ap (λ i. (part_of 0 i).make m s) (sym e)
+empty_block (inr (inr (inr e))) m s = ap (λ i. (part_of 0 i).make m s) (sym e)
 
 -- a Block with a level below
 pub block_is : (below m s : ℕ) → 1 ≤ below → block_of (a_statement (below - 1)) m s ≡ block below m s

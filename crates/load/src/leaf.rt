@@ -10,8 +10,8 @@ use super::row::Leaf;
 use definition::{operator, tag};
 use session::write::{put_field, put_head};
 
-// a
-pub const LETTER: u8 = 0x61;
+// The first of the three letters that names are made of.
+pub const LETTER: u8 = b'a';
 
 // The operators from Plus to Gt, without Bang.
 pub const INFIXES: [u8; 8] = [
@@ -35,23 +35,21 @@ pub fn put(out: &mut [u8], field_tag: u8, content: &[u8]) -> usize
     3 + content.len()
 }
 
+// The names that an Identifier has.
+static WORDS: [&[u8]; 9] = [
+    b"len", b"puts", b"first", b"last", b"rest", b"push", b"a", b"b", b"c",
+];
+
+// The names that a function has: none, or a, b, c.
+static FUNCTION_WORDS: [&[u8]; 4] = [b"", b"a", b"b", b"c"];
+
 // The name that an Identifier has: one of six words, or a, b, c.
 fn word(k: usize) -> &'static [u8]
     requires { k < 9 }
     ensures is { result.now ≡ slice_index_or words k (name_of 0) }
     ensures small { length result.now ≤ 5 }
 {
-    match k {
-        0 => b"len",
-        1 => b"puts",
-        2 => b"first",
-        3 => b"last",
-        4 => b"rest",
-        5 => b"push",
-        6 => b"a",
-        7 => b"b",
-        _ => b"c",
-    }
+    WORDS[k]
 }
 
 // The name that a function has: none, or a, b, c.
@@ -60,12 +58,7 @@ pub fn function_word(k: usize) -> &'static [u8]
     ensures is { result.now ≡ slice_index_or function_names k [] }
     ensures small { length result.now ≤ 1 }
 {
-    match k {
-        0 => b"",
-        1 => b"a",
-        2 => b"b",
-        _ => b"c",
-    }
+    FUNCTION_WORDS[k]
 }
 
 // As many letters as there is room for.

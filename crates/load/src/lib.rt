@@ -13,7 +13,7 @@ ghost use Rattle.load.specs.Load.{row_need, row_below, tree_of};
 ghost use Rattle.load.specs.Items.{need_of, part_of, parts};
 ghost use Rattle.load.specs.Writing.{Wrote, WroteAll};
 
-use definition::{Reason, Refusal, refused, tag};
+use definition::{Reason, Refusal, operator, refused, tag};
 use draw::Draws;
 use leaf::{INFIXES, LETTER, function_word, put, put_leaf};
 use row::Item::{
@@ -110,14 +110,17 @@ fn put_node(out: &mut [u8], field_tag: u8, items: &[Item], below: usize, draws: 
     3 + n
 }
 
-// An item.
+// An item. A statement, a Block, a branch or what that ends with is a Block of no statements where no level is below it.
 #[cycle(items)]
 fn put_item(out: &mut [u8], item: Item, below: usize, draws: &mut Draws) -> usize
     requires { need_of item ≤ length out.old }
     ensures { Wrote ((part_of below item).make (length out.old) draws.old.state) result draws.new.state out.old out.new }
 {
+    if below == 0 && matches!(item, Statement | Yielding | Block | Branch) {
+        return put_node(out, tag::BLOCK, &[], below, draws);
+    }
     match item {
-        PrefixOperator => put(out, tag::OPERATOR, &[2 + draws.draw(2) as u8]),
+        PrefixOperator => put(out, tag::OPERATOR, &[operator::MINUS + draws.draw(2) as u8]),
         InfixOperator => put(out, tag::OPERATOR, &[INFIXES[draws.draw(8)]]),
         Name(letter) => put(out, tag::NAME, &[letter]),
         LetName => put(out, tag::NAME, &[LETTER + draws.draw(3) as u8]),
@@ -199,12 +202,9 @@ fn put_row(out: &mut [u8], row: Row, below: usize, draws: &mut Draws) -> usize
 // A statement.
 #[cycle(items)]
 fn put_statement(out: &mut [u8], below: usize, draws: &mut Draws) -> usize
-    requires { 18 ≤ length out.old }
+    requires { (0 < below) × (18 ≤ length out.old) }
     ensures { Wrote (list.statement below (length out.old) draws.old.state) result draws.new.state out.old out.new }
 {
-    if below == 0 {
-        return put_node(out, tag::BLOCK, &[], below, draws);
-    }
     let k = draws.draw(statement_choices(below, out.len()));
     match STATEMENT_ROWS[k] {
         StatementRow::Expression => put_node(out, tag::EXPR_STMT, &[Expression], below - 1, draws),
@@ -217,12 +217,9 @@ fn put_statement(out: &mut [u8], below: usize, draws: &mut Draws) -> usize
 // A Block of none to two statements.
 #[cycle(items)]
 fn put_block(out: &mut [u8], below: usize, draws: &mut Draws) -> usize
-    requires { 39 ≤ length out.old }
+    requires { (0 < below) × (39 ≤ length out.old) }
     ensures { Wrote (list.block below (length out.old) draws.old.state) result draws.new.state out.old out.new }
 {
-    if below == 0 {
-        return put_node(out, tag::BLOCK, &[], below, draws);
-    }
     let n = draws.draw(3);
     put_node(out, tag::BLOCK, &STATEMENTS[..n], below - 1, draws)
 }
@@ -230,12 +227,9 @@ fn put_block(out: &mut [u8], below: usize, draws: &mut Draws) -> usize
 // A branch: a statement or none, then one that yields a value.
 #[cycle(items)]
 fn put_branch(out: &mut [u8], below: usize, draws: &mut Draws) -> usize
-    requires { 39 ≤ length out.old }
+    requires { (0 < below) × (39 ≤ length out.old) }
     ensures { Wrote (list.branch below (length out.old) draws.old.state) result draws.new.state out.old out.new }
 {
-    if below == 0 {
-        return put_node(out, tag::BLOCK, &[], below, draws);
-    }
     if draws.draw(2) == 0 {
         return put_node(out, tag::BLOCK, &[Yielding], below - 1, draws);
     }
@@ -245,12 +239,9 @@ fn put_branch(out: &mut [u8], below: usize, draws: &mut Draws) -> usize
 // The ExprStmt that a branch ends with.
 #[cycle(items)]
 fn put_yielding(out: &mut [u8], below: usize, draws: &mut Draws) -> usize
-    requires { 18 ≤ length out.old }
+    requires { (0 < below) × (18 ≤ length out.old) }
     ensures { Wrote (list.yielding below (length out.old) draws.old.state) result draws.new.state out.old out.new }
 {
-    if below == 0 {
-        return put_node(out, tag::BLOCK, &[], below, draws);
-    }
     put_node(out, tag::EXPR_STMT, &[Expression], below - 1, draws)
 }
 

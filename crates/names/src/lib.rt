@@ -1,4 +1,4 @@
-// Compiling in a session with a record for each Identifier, for a caller that lends numbers: four for each record.
+// Compiling in a session with a record for each Identifier, for a caller that lends numbers, four for each record, or records.
 #![tactic(auto)]
 
 ghost use Rattle.std.specs.Prelude.{ℕ, List, ◌≡◌, ◌+◌, ◌*◌, ◌≤◌, ◌<◌, length};
@@ -11,7 +11,7 @@ ghost use Rattle.names.specs.Promise.{Written, Names, Records};
 
 use compiler::clear_code;
 use definition::Refusal;
-use records::Record;
+use records::{Record, put_record};
 use trace::log::record_at;
 use trace::{CallTrace, compile_log};
 
@@ -57,7 +57,7 @@ impl Slot for Record {
     const WIDTH: usize = 1;
 
     fn put(slots: &mut [Record], i: usize, r: Record) {
-        slots[i] = r;
+        put_record(slots, i, r);
     }
 
     ghost some = { Prim.search rules };
@@ -102,8 +102,9 @@ fn compile_over<S: Slot>(
     Ok(t)
 }
 
-// Compiles a tree in a session as `compile` does, and writes the records of its Identifiers in walk order, four numbers for each: tree offset, kind,
-// index, functions crossed. There is room for a fourth as many records as numbers; 18 where that is too few.
+// Compiles a tree in a session as `compile` does, and writes the records of its Identifiers in walk order,
+// four numbers for each: tree offset, kind, index, functions crossed.
+// There is room for a fourth as many records as numbers; 18 where that is too few.
 pub fn compile_names(
     session: &mut [u8],
     tree: &[u8],
@@ -117,7 +118,8 @@ pub fn compile_names(
     compile_over(session, tree, output, code, table, rows)
 }
 
-// Compiles a tree in a session as `compile` does, and writes the records of its Identifiers in walk order over the caller's; 18 where those are too few.
+// Compiles a tree in a session as `compile` does, and writes the records of its Identifiers in walk order over the caller's;
+// 18 where those are too few.
 pub fn compile_with_records(
     session: &mut [u8],
     tree: &[u8],

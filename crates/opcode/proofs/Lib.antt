@@ -1,6 +1,7 @@
 pub mod Tables
 pub mod Widths
 pub mod Decoding
+pub mod Cut
 pub mod Encoding
 pub mod Valid
 pub mod Words

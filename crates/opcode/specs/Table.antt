@@ -1,5 +1,5 @@
 -- The table of operand lengths: what it says of every first byte.
-use Rattle.std.specs.Prelude.{ℕ, leb, Option, Some, None}
+use Rattle.std.specs.Prelude.{ℕ, leb}
 use Rattle.definition.specs.Basic.{pick}
 use Rattle.definition.specs.Opcode.{op_last, width}
 
@@ -10,7 +10,3 @@ no_instruction = 255
 -- the entry of a first byte
 abbrev pub entry : ℕ → ℕ
 entry o = pick (leb o op_last) (width o) no_instruction
-
--- the operand length of an instruction with this first byte, if it begins one
-abbrev pub width_of : ℕ → Option ℕ
-width_of o = pick (leb o op_last) (Some (width o)) None

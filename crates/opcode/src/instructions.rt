@@ -3,7 +3,8 @@ ghost use Rattle.std.specs.Prelude.{◌≡◌};
 
 use crate::{Instruction, decode_at};
 
-// The instructions from an offset up to another: each with its own offset and the one behind it. They end before bytes that are no instruction.
+// The instructions from an offset up to another: each with its own offset and the one behind it. They end before bytes that are
+// no instruction.
 #[derive(Clone, Copy)]
 pub struct Instructions<'a> {
     pub code: &'a [u8],
@@ -13,7 +14,7 @@ pub struct Instructions<'a> {
 
 impl<'a> Instructions<'a> {
     // From an offset up to another.
-    // Kept: the code with both offsets, since the items are offsets in it.
+    // Kept: the code with both offsets: a loop goes on at the items, which count from the start of the whole code.
     pub fn new(code: &'a [u8], at: usize, end: usize) -> Self
         ensures code { result.code.now ≡ code.now }
         ensures at { result.at ≡ at }

@@ -12,14 +12,14 @@ ghost use Rattle.definition.specs.Decode.{read_instr};
 ghost use Rattle.definition.specs.Output.{over};
 ghost use Rattle.definition.specs.Listing.{word};
 ghost use Rattle.definition.specs.Valid.{operand_bound, captures_bound};
-ghost use Rattle.opcode.specs.Table.{entry, width_of};
+ghost use Rattle.opcode.specs.Table.{entry};
 ghost use Rattle.opcode.specs.Decoding.{size_at, instruction, instr_of, read_before, decode_answer};
 ghost use Rattle.opcode.specs.Words.{word_answer, word_into};
 ghost use Rattle.opcode.specs.Encoding.{valid, encode_answer, encode_into, Ready};
 
 use definition::{Reason, Refusal, refused};
 use field::wide;
-use table::{INSTRUCTIONS, PACKED_WIDTHS, UNKNOWN_WIDTH, WIDTHS, WORDS};
+use table::{INSTRUCTIONS, WIDTHS, WORDS};
 
 // An instruction: its byte, its operand, and the captures of a Closure.
 #[derive(Clone, Copy)]
@@ -36,23 +36,13 @@ pub struct Decoded {
     pub after: usize,
 }
 
-// The operand length of an instruction with this first byte, if it begins one. A constant array is copied to the stack where it is read, so
-// `width` stands in where speed matters.
-fn table_entry(op: u8) -> Option<u8>
-    ensures { result ≡ width_of op }
-{
-    WIDTHS.get(usize::from(op)).copied()
-}
-
-// The operand length of an instruction with this first byte, or `NO_INSTRUCTION`: the table's entry, computed without memory or a branch.
-// Kept: a number for "none", a count of bits in `bytecode::decodes`: a `match` there took up to three times as long (docs/PERFORMANCE.md).
-// `past` is 1 for a byte that begins no instruction, else 0.
+// The operand length of an instruction with this first byte, or 255 where it begins none: the table's entry.
+// Kept: 255 for "none", a count of bits in `bytecode::decodes`: in the loop before it a `match` took up to 2.7 times as long as the table
+// (docs/PERFORMANCE.md).
 pub fn width(op: u8) -> u8
     ensures { result ≡ entry op }
 {
-    let o = wide(op);
-    let past = (o + (256 - INSTRUCTIONS)) / 256;
-    ((PACKED_WIDTHS >> (2 * o % 64)) % 4 | past * UNKNOWN_WIDTH) as u8
+    WIDTHS[wide(op)]
 }
 
 // How many operand bytes follow a first byte; none after a byte that is no instruction's.
@@ -65,9 +55,9 @@ pub fn operand_length(op: u8) -> usize
     wide(width(op))
 }
 
-// The length of the instruction at `at`, if it stands whole before `end`. A byte that begins no instruction is tested for by itself, so that the
-// next offset of a loop waits for the two bits alone.
-// Kept: offsets in the whole code, here and in the three below: refusals and the offsets after count from its start, which a slice lacks.
+// The length of the instruction at `at`, if it stands whole before `end`. A byte that begins no instruction is tested for by itself,
+// so that the next offset of a loop waits for the table's entry alone.
+// Kept: offsets in the whole code, at which loops go on and the definitions read: from a slice each caller would move the promise back.
 pub fn size_at(code: &[u8], at: usize, end: usize) -> Option<usize>
     requires { end ≤ length code.now }
     ensures { result ≡ size_at (byte_at code.now) at end }
@@ -91,14 +81,11 @@ fn instruction_at(code: &[u8], at: usize, size: usize) -> Instruction
     requires { (at + size ≤ length code.now) × (size ≡ 1 + operandLength (byte_at code.now at)) }
     ensures { result ≡ instruction (instr_at (byte_at code.now) at) }
 {
-    let (operand, captures) = match size {
-        1 => (0, 0),
-        2 => (u16::from(code[at + 1]), 0),
-        3 => (u16::from_be_bytes([code[at + 1], code[at + 2]]), 0),
-        _ => (
-            u16::from_be_bytes([code[at + 1], code[at + 2]]),
-            code[at + 3],
-        ),
+    let (operand, captures) = match &code[at..at + size] {
+        &[_, low] => (u16::from(low), 0),
+        &[_, high, low] => (u16::from_be_bytes([high, low]), 0),
+        &[_, high, low, captures] => (u16::from_be_bytes([high, low]), captures),
+        _ => (0, 0),
     };
     Instruction {
         op: code[at],
@@ -108,7 +95,7 @@ fn instruction_at(code: &[u8], at: usize, size: usize) -> Instruction
 }
 
 // The instruction at `at`, if it stands whole before `end`, which is within the slice; else number 16 there.
-// Kept: offsets and no slice, here and at `decode_at`, since the refusal names the offset in the code.
+// Kept: offsets and no slice, here and at `decode_at`: the refusal and the offset after count from the start of the code.
 fn decode_before(code: &[u8], at: usize, end: usize) -> Result<Decoded, Refusal>
     requires { end ≤ length code.now }
     ensures { result ≡ decode_answer (read_instr (byte_at code.now) at end) }
@@ -161,9 +148,10 @@ fn captures_bound(w: u8) -> usize
 pub fn is_valid(i: Instruction) -> bool
     ensures { result ≡ valid (instr_of i) }
 {
-    let Some(w) = table_entry(i.op) else {
+    if INSTRUCTIONS <= wide(i.op) {
         return false;
-    };
+    }
+    let w = width(i.op);
     if operand_bound(w) <= i.operand as usize {
         return false;
     }

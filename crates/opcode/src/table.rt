@@ -1,10 +1,7 @@
 // The constant tables.
 
-// What `width` says of a byte that begins no instruction.
-pub const NO_INSTRUCTION: u8 = 255;
-
-// The operand length of each byte that begins an instruction.
-pub const WIDTHS: [u8; 30] = [
+// The operand length of each first byte: of the 30 that begin an instruction, and 255 for the others, which begin none.
+pub static WIDTHS: [u8; 256] = [
     2, // 00 Constant
     0, // 01 Add
     0, // 02 Pop
@@ -35,16 +32,25 @@ pub const WIDTHS: [u8; 30] = [
     3, // 1B Closure
     1, // 1C GetFree
     0, // 1D CurrentClosure
+    255, 255, // 1E, 1F
+    255, 255, 255, 255, 255, 255, 255, 255, 255, 255, 255, 255, 255, 255, 255, 255, // from 20
+    255, 255, 255, 255, 255, 255, 255, 255, 255, 255, 255, 255, 255, 255, 255, 255, // from 30
+    255, 255, 255, 255, 255, 255, 255, 255, 255, 255, 255, 255, 255, 255, 255, 255, // from 40
+    255, 255, 255, 255, 255, 255, 255, 255, 255, 255, 255, 255, 255, 255, 255, 255, // from 50
+    255, 255, 255, 255, 255, 255, 255, 255, 255, 255, 255, 255, 255, 255, 255, 255, // from 60
+    255, 255, 255, 255, 255, 255, 255, 255, 255, 255, 255, 255, 255, 255, 255, 255, // from 70
+    255, 255, 255, 255, 255, 255, 255, 255, 255, 255, 255, 255, 255, 255, 255, 255, // from 80
+    255, 255, 255, 255, 255, 255, 255, 255, 255, 255, 255, 255, 255, 255, 255, 255, // from 90
+    255, 255, 255, 255, 255, 255, 255, 255, 255, 255, 255, 255, 255, 255, 255, 255, // from A0
+    255, 255, 255, 255, 255, 255, 255, 255, 255, 255, 255, 255, 255, 255, 255, 255, // from B0
+    255, 255, 255, 255, 255, 255, 255, 255, 255, 255, 255, 255, 255, 255, 255, 255, // from C0
+    255, 255, 255, 255, 255, 255, 255, 255, 255, 255, 255, 255, 255, 255, 255, 255, // from D0
+    255, 255, 255, 255, 255, 255, 255, 255, 255, 255, 255, 255, 255, 255, 255, 255, // from E0
+    255, 255, 255, 255, 255, 255, 255, 255, 255, 255, 255, 255, 255, 255, 255, 255, // from F0
 ];
 
 // How many bytes begin an instruction: those below this one.
 pub const INSTRUCTIONS: usize = 0x1E;
-
-// The mark of any other byte, as wide as the numbers of `PACKED_WIDTHS`.
-pub const UNKNOWN_WIDTH: usize = NO_INSTRUCTION as usize;
-
-// The table's entries for the bytes that begin an instruction, two bits for each, the first byte's lowest.
-pub const PACKED_WIDTHS: usize = 0x01D504AA28000002;
 
 // The word of the listing of each byte that begins an instruction.
 pub static WORDS: [&[u8]; 30] = [

@@ -1,5 +1,5 @@
-// Reads a script in text form from standard input and writes its tree to standard output. A refusal is a sentence on standard error, with line
-// and column, and standard output stays empty.
+// Reads a script in text form from standard input and writes its tree to standard output. A refusal is a sentence on standard error, with
+// line and column, and standard output stays empty.
 #![tactic(auto)]
 
 use report::{with_input, with_tree};

@@ -109,17 +109,11 @@ fn compile_in(
     code: &mut [u8],
     table: &mut [u32],
     sizes: Sizes,
-) -> Result<usize, Refusal> {
-    if session.len() < sizes.session || code.len() < sizes.code || table.len() < sizes.table {
-        return Ok(0);
-    }
-    compiler::compile(
-        &mut session[..sizes.session],
-        tree,
-        output,
-        &mut code[..sizes.code],
-        &mut table[..sizes.table],
-    )
+) -> Option<Result<usize, Refusal>> {
+    let session = session.get_mut(..sizes.session)?;
+    let code = code.get_mut(..sizes.code)?;
+    let table = table.get_mut(..sizes.table)?;
+    Some(compiler::compile(session, tree, output, code, table))
 }
 
 // A call: the output's length in three bytes, the tree, the outcome, the image of an accepted tree. Number 1 leaves the work areas as
@@ -146,14 +140,16 @@ fn run_call<R: Read>(
     let mut output = [0xA5u8; SESSION_SIZE];
     let mut code = [0x5Au8; CODE_SIZE];
     let mut table = [7u32; TABLE_SIZE];
-    let answer = compile_in(
+    let Some(answer) = compile_in(
         session,
         &tree[..length],
         &mut output[..lend],
         &mut code,
         &mut table,
         sizes,
-    );
+    ) else {
+        return Ok(false);
+    };
     let kept = answer.is_ok() | (before == *session);
     let areas = match answer {
         Err(
@@ -193,13 +189,10 @@ fn make_in<F: Fn(&mut [u8]) -> Result<usize, Refusal>>(
     session: &mut [u8],
     size: usize,
     make: F,
-) -> Result<usize, Refusal>
+) -> Option<Result<usize, Refusal>>
     requires { F.IsAlwaysCallable make }
 {
-    match session.get_mut(..size) {
-        Some(part) => make(part),
-        None => Ok(0),
-    }
+    Some(make(session.get_mut(..size)?))
 }
 
 // Making a session: the length of its buffer, the outcome.
@@ -208,7 +201,7 @@ fn run_make<R: Read>(reader: &mut R, session: &mut [u8; SESSION_SIZE]) -> io::Re
     let number = read_byte(reader)?;
     let value = read_long(reader)?;
     let answer = make_in(session, size, compiler::make_session);
-    Ok(as_recorded(answer, number, value))
+    Ok(answer.is_some_and(|answer| as_recorded(answer, number, value)))
 }
 
 // Making a session with words: the length of its buffer, the name fields, the outcome.
@@ -223,7 +216,7 @@ fn run_make_words<R: Read>(reader: &mut R, session: &mut [u8; SESSION_SIZE]) -> 
     let answer = make_in(session, size, |part| {
         compiler::make_session_words(part, words)
     });
-    Ok(as_recorded(answer, number, value))
+    Ok(answer.is_some_and(|answer| as_recorded(answer, number, value)))
 }
 
 // A session: its first bytes, and zeros after them.

@@ -1,9 +1,9 @@
-// Runs recorded cases of instructions, images, listings and sessions, and writes the answer to each on a line.
-// The file `cases` has a question on each line: a word (image, list, decode or start), a space, and bytes in hexadecimal, where `{6100}3.`
-// stands for the bytes between the braces three times over. A session's bytes (start) are followed by zeros up to 65,536. A listing's image
-// (list) stands behind the length of its output in three bytes; the listing follows its answer. Frames are counted (count) in an image behind
-// a size in four bytes, and found (part) in one behind size and number. An image (turn) or a chin form (unturn) behind the length of its output in three
-// bytes is translated, and the answer has the bytes.
+// Runs recorded cases of instructions, images, listings and sessions, and writes the answer to each on a line. The file `cases` has a
+// question on each line: a word (image, list, decode or start), a space, and bytes in hexadecimal, where `{6100}3.` stands for the bytes
+// between the braces three times over. A session's bytes (start) are followed by zeros up to 65,536. A listing's image (list) stands
+// behind the length of its output in three bytes; the listing follows its answer. Frames are counted (count) in an image behind a size in
+// four bytes, and found (part) in one behind size and number. An image (turn) or a chin form (unturn) behind the length of its output in
+// three bytes is translated, and the answer has the bytes.
 #![tactic(auto)]
 
 use definition::{Reason, Refusal};
@@ -53,7 +53,8 @@ fn number_of(bytes: [u8; 4]) -> usize {
     u32::from_be_bytes(bytes) as usize
 }
 
-// Answer a question that wants an output: the output's length in three bytes, then what a function turns into it, whose bytes another writes.
+// Answer a question that wants an output: the output's length in three bytes, then what a function turns into it, whose bytes another
+// writes.
 fn answer_turned<
     R: Print,
     T: Fn(&[u8], &mut [u8]) -> Result<usize, Refusal>,

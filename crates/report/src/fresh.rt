@@ -22,9 +22,9 @@ pub fn compile_fresh(tree: &[u8], output: &mut [u8]) -> Result<usize, Refusal>
 
 // Compiles a tree in a fresh session, and writes its image; or its refusal, behind a program's name.
 pub fn write_compiled(rt: &(impl Print + Eprint), program: &str, tree: &[u8]) -> io::Result<()> {
-    let mut output = [0u8; SESSION_SIZE];
-    match compile_fresh(tree, &mut output) {
-        Ok(n) => crate::write_first(rt, &output, n),
-        Err(r) => crate::print_at_offset(rt, program, r, "tree"),
-    }
+    crate::write_output(
+        rt,
+        |output| compile_fresh(tree, output),
+        |r| crate::print_at_offset(rt, program, r, "tree"),
+    )
 }

@@ -46,8 +46,8 @@ pub fn with_tree<R: Eprint, F: FnOnce(&[u8]) -> io::Result<()>>(
     }
 }
 
-// Hands on the heights that are proposed for an image; a refusal is a sentence behind the program's name. An image has fewer instructions than bytes;
-// heights behind the last are not read.
+// Hands on the heights that are proposed for an image; a refusal is a sentence behind the program's name. An image has fewer instructions
+// than bytes; heights behind the last are not read.
 pub fn with_heights<R: Eprint, F: FnOnce(&[u32]) -> io::Result<()>>(
     rt: &R,
     program: &str,

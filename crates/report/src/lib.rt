@@ -1,11 +1,14 @@
-// What the programs share: reading input into a buffer, compiling in a fresh session, the sentences of refusals, and cases as they were recorded.
+// What the programs share: reading input into a buffer, compiling in a fresh session, the sentences of refusals, and cases as they were
+// recorded.
 #![tactic(auto)]
 
 mod fresh;
 mod input;
 mod recorded;
 
-ghost use Rattle.std.specs.Prelude.{◌≡◌, ◌+◌, ◌<◌, ◌≤◌, length, take, IfOk};
+ghost use Rattle.std.specs.Prelude.{◌≡◌, ◌+◌, ◌<◌, ◌≤◌, ℕ, List, length, take, replicate, IfOk, IfErr};
+ghost use Rattle.std.specs.Fn.{FnOnceReturns, FnOnceReturnsAtMut};
+ghost use Rattle.definition.specs.Answer.{Answer};
 ghost use Rattle.std.specs.Io.KnownBytes.{Consumes, IsAtEnd};
 
 use definition::{Reason, Refusal};
@@ -105,7 +108,8 @@ fn position_of(text: &[u8], place: usize) -> Position {
     }
 }
 
-// Writes a refusal and its line and column in a text, behind a program's name. Where the output has room for the longest tree, 15 is a longer one.
+// Writes a refusal and its line and column in a text, behind a program's name. Where the output has room for the longest tree, 15 is a
+// longer one.
 pub fn print_in_text(
     rt: &impl Eprint,
     program: &str,
@@ -124,11 +128,21 @@ pub fn print_in_text(
     eprintln!(rt; ", at line {line}, column {column}.")
 }
 
-// Writes the first bytes of an output to standard output; nothing where it has fewer.
-// Kept: the length is what a call answered for this output; with slices each program would cut, where the cut stands once here.
-pub fn write_first(rt: &impl Print, output: &[u8], length: usize) -> io::Result<()> {
-    match output.get(..length) {
-        Some(first) => rt.write_all(first),
-        None => Ok(()),
+// Writes to standard output what a call puts into an output of 65,536 bytes; or has its refusal printed.
+pub fn write_output<
+    R: Print,
+    F: FnOnce(&mut [u8]) -> Result<usize, Refusal>,
+    G: FnOnce(Refusal) -> io::Result<()>,
+>(rt: &R, call: F, print: G) -> io::Result<()>
+    requires { F.IsAlwaysCallable call × G.IsAlwaysCallable print }
+    ensures { (answer : Answer) × (output : List ℕ) × FnOnceReturnsAtMut F.FnOnce call (replicate 65536 0) answer output × IfErr answer (λ r. FnOnceReturns G.FnOnce print (r, tt) result) }
+{
+    let mut output = [0u8; 65536];
+    match call(&mut output) {
+        Ok(n) => match output.get(..n) {
+            Some(first) => rt.write_all(first),
+            None => Ok(()),
+        },
+        Err(r) => print(r),
     }
 }

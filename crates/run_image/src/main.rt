@@ -1,6 +1,6 @@
-// Reads an image from standard input, runs its main code with all globals unset, and writes a line for each global up to the highest index that main names:
-// its index, its kind and its value, as `0 integer -3`, `1 boolean true`, `2 null`, `3 unset`. The heights are proposed here. A refusal or a stop is a
-// sentence on standard error, and standard output stays empty.
+// Reads an image from standard input, runs its main code with all globals unset, and writes a line for each global up to the highest
+// index that main names: its index, its kind and its value, as `0 integer -3`, `1 boolean true`, `2 null`, `3 unset`. The heights are
+// proposed here. A refusal or a stop is a sentence on standard error, and standard output stays empty.
 #![tactic(auto)]
 
 use report::{IMAGE_MOST, print_in_heights, with_heights, with_input};

@@ -22,7 +22,7 @@ fn longer(c: Chunk, n: usize) -> Chunk
 }
 
 // Adds an instruction to the chunk that is lent, and says whether there was room.
-// Kept: a flag alone, with no value beside it: a `Result` would need the place that a refusal names, which only the caller knows.
+// The place that a refusal names is known to the caller alone.
 pub fn add_instruction(code: &mut [u8], chunk: &mut Chunk, i: Instruction) -> bool
     requires { Within code.old chunk.old }
     ensures { Adds code.old chunk.old i chunk.new result code.new }

@@ -25,6 +25,7 @@ use opcode::opcodes;
 const UNPATCHED: usize = 9999;
 
 // The chunk in work: where it starts in the code area, its length, and in it the positions of its last and its previous instruction.
+// Kept: `u32`, here and in State, with casts at the slices: each number is at most 65,536, and a state that is kept or restored is small.
 #[derive(Clone, Copy)]
 pub struct Chunk {
     pub start: u32,

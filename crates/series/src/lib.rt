@@ -9,7 +9,7 @@ use compiler::{compile, make_session};
 use definition::Refusal;
 
 // Makes a session, and compiles a row of trees in it, one after the other: the last call's answer and image.
-// Kept: the lent slices one by one, as `compile` takes them.
+// Kept: the lent slices one by one, as `compile` takes them: a struct would be taken apart at each call of it.
 pub fn compile_row(
     session: &mut [u8],
     trees: &[&[u8]],

@@ -1,4 +1,4 @@
-// Writing the session and the image, and zeroing lent memory. Each contract is one equation on the lent lists.
+// Writing the session and the image, and zeroing lent memory. Each contract gives the lent lists by equations.
 #![tactic(auto)]
 
 pub mod image;
@@ -15,20 +15,21 @@ use definition::limit::SESSION_SIZE;
 use definition::{Reason, Refusal, refused, tag};
 use words::raise;
 
-// Writes a fresh session of two fields to the first 65,536 bytes, and leaves the others; a shorter buffer is refused, and nothing in it touched.
+// Writes a fresh session of two fields to the first 65,536 bytes, and leaves the others; a shorter buffer is refused, and nothing in it
+// touched.
 pub fn write_fresh(session: &mut [u8]) -> Result<usize, Refusal>
     ensures { made session.old ≡ record { answer = result; session = session.new } }
 {
     if session.len() < SESSION_SIZE {
         return refused(Reason::ShortBuffer, 0);
     }
-    zero::restore(session, 0, SESSION_SIZE);
+    zero::clear(session, 0, SESSION_SIZE);
     finish_session(session, 0, 3, &[]);
     Ok(SESSION_SIZE)
 }
 
 // Writes the head of the names, which begin at an offset and end at another, and the pool behind them.
-// Kept: offsets and no slice, since bytes before, between and behind them belong to the one session that is written.
+// Kept: offsets and no slice, here and at `write_back`, since bytes before, between and behind belong to the one session that is written.
 pub fn finish_session(session: &mut [u8], start: usize, end: usize, pool: &[u8])
     requires { (start + 3 ≤ end) × (end + (3 + length pool.now) ≤ length session.old) }
     ensures { session.new ≡ finished start end pool.now session.old }

@@ -6,7 +6,7 @@ ghost use Rattle.definition.specs.Output.{over};
 ghost use Rattle.definition.specs.Session.{listed, begun, names_bytes, session_bytes};
 ghost use Rattle.session.specs.Write.{raised};
 
-use crate::zero::restore;
+use crate::zero::clear;
 use crate::{finish_session, write};
 use definition::builtins::SIX_WORDS;
 use definition::limit::SESSION_SIZE;
@@ -27,7 +27,7 @@ pub fn begin_session(session: &mut [u8], words: &[u8])
     ensures { (ws : List Bytes) → names_bytes (reverse ws) ≡ words.now → session.new ≡ over (session_bytes (begun (listed ws))) session.old }
 {
     let end = 3 + words.len();
-    restore(session, 0, SESSION_SIZE);
+    clear(session, 0, SESSION_SIZE);
     write::put_field(session, 0, tag::WORDS, words);
     finish_session(session, end, end + 3, &[]);
 }

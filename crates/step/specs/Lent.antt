@@ -1,7 +1,7 @@
 -- What the steps promise of the code area and the state that are lent as one.
 use Rattle.std.specs.Prelude.{ℕ, ◌≡◌, List, Ok, Result}
 use Rattle.definition.specs.Basic.{Bytes}
-use Rattle.definition.specs.Walk.{Go}
+use Rattle.definition.specs.Walk.{Res, Go}
 use Rattle.definition.specs.declared.reason.Refusal.{Refusal}
 use Rattle.field.specs.Layout.{content}
 use Rattle.scope.specs.View.{View}
@@ -10,11 +10,17 @@ use Rattle.scope.specs.Walked.{walked}
 use Rattle.scope.specs.declared.State.{State}
 use Rattle.scope.specs.declared.lent.Scope.{Scope}
 use Rattle.step.specs.Memory.{Rest, rest, FineState}
-use Rattle.step.specs.Contract.{Steps, StepsBeside, Enters, Leaves, Closed}
+use Rattle.step.specs.Contract.{Steps, StepsBeside, Adds, Enters, Leaves, Closed}
 
 -- a step on code and session, whatever table area stands well beside them
 pub record StepsOn (tree : Bytes) (k : Go View) (s t : Scope) (e e' : Bytes) (r : Result (Unit {0}) Refusal) : Type 0 where
   pub beside : StepsBeside tree k s.code.now t.code.now e e' (Ok s.state) (walked r t.state)
+  pub same : t.code.ghost_name ≡ s.code.ghost_name
+
+-- a constant more in the session, and its index, where the code stays
+pub record AddsOn (k : View → Res View ℕ) (s t : Scope) (e e' : Bytes) (r : Result ℕ Refusal) : Type 0 where
+  pub adds : Adds k e e' s.state t.state r
+  pub code : t.code.now ≡ s.code.now
   pub same : t.code.ghost_name ≡ s.code.ghost_name
 
 -- a lookup, and a load

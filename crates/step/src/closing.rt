@@ -63,6 +63,7 @@ fn outside(o: State, s: State) -> State
 
 // Closes the function whose chunk is in work: the loads have to fit beside its chunk; its chunk becomes its constant; what loads and makes
 // it is written over its chunk, behind the chunk outside.
+// Kept: six parameters, here and at `leave`, as the steps have them (lib.rt): a struct of them would be made once and taken apart here.
 pub fn close(
     session: &mut [u8],
     scope: &mut Scope<'_>,
@@ -81,8 +82,7 @@ pub fn close(
         return refused(Reason::Code, place);
     }
     let locals = part.definitions();
-    let code = &mut *scope.code;
-    let index = add_function(session, code, &mut scope.state, place, locals, params)?;
+    let index = add_function(session, scope, place, locals, params)?;
     scope.state = outside(outer, scope.state);
     emit_function(scope, originals, index, place)
 }

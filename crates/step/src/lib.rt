@@ -17,13 +17,13 @@ ghost use Rattle.step.specs.Frame.{LeavesAlone};
 use closing::close;
 use definition::limit::ARGUMENTS_LIMIT;
 use definition::{Reason, Refusal, limit, refused};
-use field::{Field, after_at};
+use field::Field;
 use opcode::opcodes;
 use pool::add_constant;
 use scope::{Chunk, Scope, State};
 use symbol_table::{Access, DefineError, Key, Slot, load_of, resolve_name};
 
-// The open functions, as a level.
+// The most open functions, as a level.
 const NESTING_LIMIT: u32 = limit::NESTING_LIMIT as u32;
 
 // Compiles an integer or a string: a constant of its own, and Constant.
@@ -85,16 +85,19 @@ fn placed(place: usize, answer: Result<Slot, DefineError>) -> Result<Access, Ref
     }
 }
 
-// Defines the name of the let at `at`, in a walk that goes on in a state.
-pub fn define(tree: &[u8], table: &mut [u32], state: State, at: usize) -> Result<Access, Refusal>
-    requires whole { Whole tree.now (at + 3) }
-    requires at_bound { at + 3 < tree_limit }
-    requires fine_beside { FineBeside tree.now table.old state }
-    ensures { DefinesBeside tree.now at table.old table.new state result }
+// Defines the name of a let, in a walk that goes on in a state.
+// Kept: the whole state, of which the level is read: the contract is on the walk that goes on in it, and names the session's names, too.
+pub fn define(field: Field<'_>, table: &mut [u32], state: State) -> Result<Access, Refusal>
+    requires whole { Whole field.bytes.now (field.at + 3) }
+    requires at_bound { field.at + 3 < tree_limit }
+    requires fine_beside { FineBeside field.bytes.now table.old state }
+    ensures { DefinesBeside field.entry.bytes.now field.entry.at table.old table.new state result }
 {
+    let name = field.first();
+    let key = Key::new(name.bytes, name.at);
     placed(
-        at,
-        symbol_table::define(Key::new(tree, at + 3), table, state.level as usize),
+        field.at,
+        symbol_table::define(key, table, state.level as usize),
     )
 }
 
@@ -117,41 +120,35 @@ fn inside(s: State) -> State
     }
 }
 
-// Enters the function at `at`, which has `n` parameters.
+// Enters a function, which has `n` parameters.
 pub fn enter(
-    tree: &[u8],
+    field: Field<'_>,
     table: &mut [u32],
     scope: &mut Scope<'_>,
-    at: usize,
     n: usize,
 ) -> Result<(), Refusal>
-    requires tree_len_bound { length tree.now ≤ tree_limit }
-    requires head_at { HeadAt tree.now at n }
-    requires fine_beside { FineBeside tree.now table.old scope.old.state }
-    ensures { EntersOn tree.now at table.old table.new scope.old scope.new result }
+    requires tree_len_bound { length field.bytes.now ≤ tree_limit }
+    requires head_at { HeadAt field.bytes.now field.at n }
+    requires fine_beside { FineBeside field.bytes.now table.old scope.old.state }
+    ensures { EntersOn field.entry.bytes.now field.entry.at table.old table.new scope.old scope.new result }
 {
     let level = scope.state.level;
     if NESTING_LIMIT <= level {
-        return refused(Reason::Nesting, at);
+        return refused(Reason::Nesting, field.at);
     }
     if ARGUMENTS_LIMIT < n {
-        return refused(Reason::TooMany, at);
+        return refused(Reason::TooMany, field.at);
     }
-    let params = after_at(tree, at + 3);
-    let end = after_at(tree, params);
-    symbol_table::enter(
-        Key::new(tree, at + 3),
-        table,
-        level as usize,
-        params + 3,
-        end,
-    );
+    let name = field.first();
+    let params = name.next();
+    let key = Key::new(name.bytes, name.at);
+    symbol_table::enter(key, table, level as usize, params.at + 3, params.after());
     scope.state = inside(scope.state);
     Ok(())
 }
 
-// Leaves the function whose chunk is in work: its constant, and outside it, in the state before it was entered, the loads of what it captures
-// and Closure. Its code is copied once, from the code area into the constant.
+// Leaves the function whose chunk is in work: its constant, and outside it, in the state before it was entered, the loads of what it
+// captures and Closure. Its code is copied once, from the code area into the constant.
 pub fn leave(
     session: &mut [u8],
     scope: &mut Scope<'_>,

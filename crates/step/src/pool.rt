@@ -1,20 +1,20 @@
 // Constants behind the pool of the session.
 ghost use Rattle.std.specs.Prelude.{◌≡◌, [], ◌∷◌, ◌+◌, ◌/◌, ◌%◌, ◌≤◌, ◌<◌, length, take, drop};
 ghost use Rattle.std.proofs.lemmas.List.Edits.{sets};
-ghost use Rattle.definition.specs.Limit.{constants_limit, session_size, code_size};
+ghost use Rattle.definition.specs.Limit.{constants_limit, session_size};
 ghost use Rattle.definition.specs.Tag.{tag_function_const};
 ghost use Rattle.definition.specs.Field.{field};
 ghost use Rattle.scope.specs.Machine.{with_constant, add_constant, function_content};
-ghost use Rattle.scope.specs.View.{Fits};
 ghost use Rattle.step.specs.Memory.{RoomyState};
 ghost use Rattle.step.specs.Contract.{has_room, Adds};
+ghost use Rattle.step.specs.Lent.{AddsOn};
 
 use definition::limit::POOL_LIMIT;
 use definition::{Reason, Refusal, limit, refused, tag};
-use scope::State;
+use scope::{Scope, State};
 use session::write::{copy, put_field, put_head};
 
-// The constants of a pool, as the state counts them.
+// The most constants of a pool, as the state counts them.
 const CONSTANTS_LIMIT: u32 = limit::CONSTANTS_LIMIT as u32;
 
 // Whether the pool has room for a constant of `n` bytes more, and its head.
@@ -79,29 +79,35 @@ fn put_function(out: &mut [u8], at: usize, locals: usize, params: usize, code: &
     copy(out, at + 6, code);
 }
 
+// The code of the chunk in work.
+// Kept: a function of its own: as a part of `scope.code` cut in `add_function` the proof lost that the code stays.
+fn chunk_of<'a>(scope: &'a Scope<'_>) -> &'a [u8]
+    ensures { result.now ≡ take scope.now.state.chunk.len (drop scope.now.state.chunk.start scope.now.code.now) }
+{
+    let c = scope.state.chunk;
+    let start = c.start as usize;
+    &scope.code[start..start + c.len as usize]
+}
+
 // Adds the function whose chunk is in work behind the pool, and answers its index; its code is copied from the code area.
+// Kept: the two counts one by one: it is called once, where they come from the table: a struct of them would be taken apart at once.
 pub fn add_function(
     session: &mut [u8],
-    code: &[u8],
-    state: &mut State,
+    scope: &mut Scope<'_>,
     place: usize,
     locals: usize,
     params: usize,
 ) -> Result<usize, Refusal>
-    requires roomy { RoomyState session.old state.old }
-    requires fits { Fits state.old }
-    requires code_size_in_bounds { code_size ≤ length code.now }
-    ensures { Adds (add_constant place tag_function_const (function_content locals params (take state.old.chunk.len (drop state.old.chunk.start code.now)))) session.old session.new state.old state.new result }
+    requires { RoomyState session.old scope.old.state }
+    ensures { AddsOn (add_constant place tag_function_const (function_content locals params (take scope.old.state.chunk.len (drop scope.old.state.chunk.start scope.old.code.now)))) scope.old scope.new session.old session.new result }
 {
-    let s = *state;
-    let start = s.chunk.start as usize;
-    let len = s.chunk.len as usize;
-    let n = 3 + len;
+    let s = scope.state;
+    let n = 3 + s.chunk.len as usize;
     if !has_room(s, n) {
         return refused(Reason::Pool, place);
     }
-    let chunk = &code[start..start + len];
+    let chunk = chunk_of(scope);
     put_function(session, s.pool_end as usize, locals, params, chunk);
-    *state = advance(s, n);
+    scope.state = advance(s, n);
     Ok(s.constants as usize)
 }

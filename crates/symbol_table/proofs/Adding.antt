@@ -14,7 +14,7 @@ use Rattle.definition.specs.SymbolTable.{same, find_global}
 use Rattle.definition.proofs.Undefined.{same_equal, same_self}
 use Rattle.field.specs.Layout.{content}
 use Rattle.symbol_table.specs.Name.{Stands, buckets, hash_of}
-use Rattle.symbol_table.specs.Search.{child_of, with_child, Way, Goes, hangs}
+use Rattle.symbol_table.specs.Search.{child_of, Way, Goes}
 use Rattle.symbol_table.specs.Layout.{globals_size, heads_at, head_of, first_found, global_name, globals_of, GlobalStands, Finds, GoodGlobals}
 use Rattle.symbol_table.specs.Store.{global_in}
 use Rattle.symbol_table.specs.Contract.{IsName, Addable, Adds}
@@ -111,10 +111,6 @@ module _ {bytes : Bytes} {side : ℕ} {g : List ℕ} {name hash : ℕ} (a : Adda
 
     pub added : {g' : List ℕ} → g' ≡ global_in g (65536 * side + name) at number → Adds bytes side name g g'
     added h = record { place = at; number = number; goes = sought; is = h }
-
-  pub added_first : {v : ℕ} {g' : List ℕ} → child_of (get_or g (heads_at + hash % buckets) 0) side ≡ 0 → v ≡ 65536 * side + name
-      → g' ≡ global_in g v (heads_at + hash % buckets) (with_child (get_or g (heads_at + hash % buckets) 0) side (get_or g 0 0 + 1)) → Adds bytes side name g g'
-  added_first {v} z e h = added refl (hangs z refl refl) (rw e at h)
 
 -- the names of the globals after it
 module _ (tree names : Bytes) (g g' : List ℕ) (name : ℕ) (size : length g ≡ globals_size) (room : get_or g 0 0 < globals_limit) (small : name < 65536) where

@@ -1,10 +1,11 @@
 -- All entries of the function at a level are marked, one after the other.
 use Prim.Native.Nat.{ℕ, ◌+◌, ◌≤◌, ◌<◌}
 use mathlib.Core.Path.{◌≡◌, ◌∙◌}
-use mathlib.Core.Bool.{true}
+use mathlib.Core.Bool.{Bool, true, false, not}
 use mathlib.Core.List.{List}
 use native.Mathlib.Omega.{arith}
 use lib.ListN.{length, get_or, take}
+use Rattle.std.proofs.lemmas.Bool.{not-true}
 use Rattle.definition.specs.Basic.{Bytes}
 use Rattle.field.specs.Layout.{content}
 use Rattle.symbol_table.specs.Layout.{globals_size, part_size, entries_at, marked_at, base, part, name_in, entries, table_of, GoodTable, IsMarked, GoodPart}
@@ -62,11 +63,11 @@ module _ (ws gs : List Bytes) (tree : Bytes) (l : ℕ) (a₀ : List ℕ) (g : Go
           }
 
   module _ (code : ℕ) (a : List ℕ) (x : MarksAll ws gs tree l a₀ a) where
-    pub absent_clear : 768 ≤ code → (IsMarked (part l a) code → ⊥) → Absent ws gs tree l code true a₀ a
-    absent_clear far clear =
+    pub absent_clear : 768 ≤ code → (b : Bool) → (b ≡ false → IsMarked (part l a) code → ⊥) → Absent ws gs tree l code (not b) a₀ a
+    absent_clear far b clear =
         record {
           absent = λ e n known.
               rw (← table_then a x.remarked)
-              (none_marked ws gs tree (part l a) n code x.remarked.here.marks x.all far known clear);
+              (none_marked ws gs tree (part l a) n code x.remarked.here.marks x.all far known (clear (not-true b e)));
           remarked = x.remarked;
         }

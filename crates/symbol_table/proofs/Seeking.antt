@@ -6,18 +6,18 @@ use mathlib.Core.List.{List}
 use mathlib.Core.Option.{Option, none, some}
 use native.Mathlib.Omega.{arith}
 use lib.ListN.{get_or}
-use lib.Dec.{eqb}
-use borrow.Author.Tests.{lt-ltb, le-ltb}
-use Rattle.definition.specs.Basic.{Bytes, pick}
+use Rattle.definition.specs.Basic.{Bytes}
 use Rattle.definition.specs.Limit.{globals_limit}
 use Rattle.definition.specs.SymbolTable.{Symbol, same}
 use Rattle.field.specs.Layout.{content}
 use Rattle.symbol_table.specs.Name.{buckets, hash_of}
-use Rattle.symbol_table.specs.Search.{side_number, nodes_at, side_of, child_of, latest_of, with_child, with_latest, Node, name_of, next_of, Way, ends, hits, goes, Goes, hangs, follows, further}
+use Rattle.symbol_table.specs.Search.{side_number, turn_number, nodes_at, side_of, child_of, latest_of, with_child, with_latest, Node, name_of, next_of, Way, ends, hits, goes, Goes, hangs, follows, further}
 use Rattle.symbol_table.specs.declared.globals.Side.{Side}
 use Rattle.symbol_table.specs.declared.globals.Side.TheVariants.{Session, Tree}
-use Rattle.symbol_table.specs.Layout.{globals_size, heads_at, global_name, offset_of, StandsAt, first_found, GlobalStands, Finds, found_on, GoodGlobals}
-use Rattle.symbol_table.specs.Contract.{as_symbol}
+use Rattle.symbol_table.specs.Layout.{globals_size, heads_at, head_of, offset_of, StandsAt, first_found}
+use Rattle.symbol_table.specs.Contract.{as_symbol, Searchable, Ends}
+use Rattle.symbol_table.specs.declared.globals.Turn.{Turn}
+use Rattle.symbol_table.specs.declared.globals.End.TheVariants.{Hit, Open}
 use Rattle.symbol_table.specs.declared.globals.NamePlace.{NamePlace}
 use Rattle.symbol_table.specs.declared.globals.NamePlace.TheVariants as place
 use Rattle.symbol_table.proofs.Growing.{way_none}
@@ -54,126 +54,78 @@ pub two_sides : (s : Side) → side_number s < 2
 two_sides Session = omega arith
 two_sides Tree = omega arith
 
--- the bytes that have the names of a side
-abbrev pub bytes_on : Bytes → Bytes → ℕ → Bytes
-bytes_on tree names side = pick (eqb side 0) names tree
-
-module _ (tree names : Bytes) (g : List ℕ) (n : Bytes) where
-  -- a search on a side
-  pub record Sought (side k depth : ℕ) : Type 0 where
-    pub deep : 0 < k → depth < k
-    pub way : (x : Finds tree names g n) → Way (bytes_on tree names side) side g n depth k (found_on x side)
-
-  -- the name of a global on a side
-  module _ (side : ℕ) (two : side < 2) (good : GoodGlobals tree names g) where
-    pub name_on : (k : ℕ) → Node (bytes_on tree names side) side g k → name_of (bytes_on tree names side) side g k ≡ global_name tree names (get_or g k 0)
-    name_on k x = go side two x.part
-      where
-        go : (s : ℕ) → s < 2 → get_or g k 0 / 65536 ≡ s → content (bytes_on tree names s) (get_or g k 0 % 65536) ≡ global_name tree names (get_or g k 0)
-        go zero l p =
-            let e : get_or g k 0 % 65536 ≡ get_or g k 0 = omega arith in
-            rw (lt-ltb (get_or g k 0) 65536 (omega arith), e)
-        go (suc zero) l p =
-            let e : get_or g k 0 % 65536 ≡ get_or g k 0 - 65536 = omega arith in
-            rw (le-ltb (get_or g k 0) 65536 (omega arith), e)
-        go (suc (suc s)) l p = absurd (omega arith)
-
-    module _ {k depth : ℕ} (s : Sought side k depth) (there : 0 < k) where
-      pub sought_node : Node (bytes_on tree names side) side g k
-      sought_node = way_node (s.way (good.finds n)) there
-
-      pub sought_small : k ≤ globals_limit
-      sought_small = omega (arith, sought_node.below, good.count)
-
-      pub sought_stands : GlobalStands tree names (get_or g k 0)
-      sought_stands =
-          let e : 1 + (k - 1) ≡ k = omega arith in
-          rw e at (good.stands (k - 1) (omega (arith, sought_node.below)))
-
-      module _ {i : ℕ} {t : Bool} (e : i ≡ k) (told : t ≡ same n (global_name tree names (get_or g i 0))) where
-        pub sought_hit : t ≡ true → (x : Finds tree names g n) → found_on x side ≡ some (latest_of (get_or g (nodes_at + i) 0))
-        sought_hit h x =
-            let q : same n (global_name tree names (get_or g i 0)) ≡ true = sym told ∙ h in
-            rw e (way_hit (s.way x) there (rw (name_on k sought_node) (rw e at q)))
-
-        module _ {hash on j : ℕ} (h : t ≡ false) (is : hash ≡ hash_of n) (turn : on ≡ side_of n hash depth) (next : j ≡ child_of (get_or g (nodes_at + i) 0) on) where
-          other : same n (name_of (bytes_on tree names side) side g k) ≡ false
-          other =
-              let q : same n (global_name tree names (get_or g i 0)) ≡ false = sym told ∙ h in
-              rw (name_on k sought_node) (rw e at q)
-
-          is_next : j ≡ next_of (bytes_on tree names side) side g n depth k
-          is_next = rw (next, turn, is, e)
-
-          pub sought_rises : 0 < j → k < j
-          sought_rises = rw is_next (way_rises (s.way (good.finds n)) there other)
-
-          pub sought_less : (2048 - j) % 2048 < (2048 - k) % 2048
-          sought_less = falls j k there sought_small sought_rises
-
-          pub sought_next : Sought side j (depth + 1)
-          sought_next = record { deep = λ l. omega (arith, sought_rises l, s.deep there); way = λ x. rw is_next (way_next (s.way x) there other) }
-
-    pub sought_none : {k depth : ℕ} → Sought side k depth → k ≡ 0 → (x : Finds tree names g n) → found_on x side ≡ none
-    sought_none s e x = way_none (s.way x) e
-
 -- the offset of a name's place
 pub offset_in : (v : ℕ) (p : NamePlace) → StandsAt v p → v / 65536 < 2 → offset_of p ≡ v % 65536
 offset_in v (place.Session k) e l = omega (arith, e.0, e.1)
 offset_in v (place.Tree k) e l = omega (arith, e)
 
--- a search for the place of a global more
+-- a search for a name on a side
 module _ (bytes : Bytes) (side : ℕ) (g : List ℕ) (n : Bytes) where
-  pub record Placing (at on k depth : ℕ) : Type 0 where
+  pub record Sought (at on k depth : ℕ) : Type 0 where
     pub deep : 0 < k → depth < k
     pub from : 0 < at
     pub to : at < globals_size
     pub is : k ≡ child_of (get_or g at 0) on
-    pub found : Option ℕ
-    pub way : Way bytes side g n depth k found
+    pub ways : (r : Option ℕ) → Way bytes side g n 0 (head_of g n side) r → Way bytes side g n depth k r
     pub rest : (p x : ℕ) → Goes bytes side g n depth at on p x → Goes bytes side g n 0 (heads_at + hash_of n % buckets) side p x
 
-  module _ {at on k depth : ℕ} (s : Placing at on k depth) (there : 0 < k) where
-    pub placing_node : Node bytes side g k
-    placing_node = way_node s.way there
+  pub sought_first : {hash on k : ℕ} → hash ≡ hash_of n → on ≡ side → k ≡ child_of (get_or g (heads_at + hash % buckets) 0) on → Sought (heads_at + hash % buckets) on k 0
+  sought_first is turn e = rw (e, turn, is) (record { deep = λ l. l; from = omega arith; to = omega arith; is = refl; ways = λ r w. w; rest = λ p x y. y })
 
-    -- the offset of its name
-    pub placing_offset : side < 2 → (p : NamePlace) {x : ℕ} → StandsAt (get_or g k 0) p → x ≡ offset_of p → x ≡ get_or g k 0 % 65536
-    placing_offset two p e q = q ∙ offset_in (get_or g k 0) p e (omega (arith, placing_node.part))
+  pub sought_none : {at k depth : ℕ} {on : Turn} → Sought at (turn_number on) k depth → k ≡ 0 → Ends bytes side g n (Open at on)
+  sought_none {at} {k} {depth} {on} s e =
+      let vacant : child_of (get_or g at 0) (turn_number on) ≡ 0 = sym s.is ∙ e in
+      record {
+        found = λ r w. way_none (s.ways r w) e;
+        goes = s.rest at (with_child (get_or g at 0) (turn_number on) (get_or g 0 0 + 1)) (hangs vacant refl refl);
+        within = s.to;
+        vacant = vacant;
+      }
 
-    module _ {i : ℕ} {t : Bool} (e : i ≡ k) (told : t ≡ same n (content bytes (get_or g i 0 % 65536))) where
-      pub placing_late : t ≡ true → Goes bytes side g n 0 (heads_at + hash_of n % buckets) side (nodes_at + i) (with_latest (get_or g (nodes_at + i) 0) (get_or g 0 0))
-      placing_late h =
-          let q : same n (content bytes (get_or g i 0 % 65536)) ≡ true = sym told ∙ h in
-          rw e (s.rest (nodes_at + k) (with_latest (get_or g (nodes_at + k) 0) (get_or g 0 0)) (follows s.is placing_node (rw e at q) refl refl))
+  module _ (x : Searchable bytes side g n) {at on k depth : ℕ} (s : Sought at on k depth) (there : 0 < k) where
+    -- the search is at a global, which is one of few
+    pub sought_node : Node bytes side g k
+    sought_node = way_node (s.ways x.found x.way) there
 
-      module _ {hash turn j : ℕ} (room : get_or g 0 0 < globals_limit) (h : t ≡ false) (is : hash ≡ hash_of n) (turns : turn ≡ side_of n hash depth) (next : j ≡ child_of (get_or g (nodes_at + i) 0) turn) where
-        unlike : same n (name_of bytes side g k) ≡ false
-        unlike = let q : same n (content bytes (get_or g i 0 % 65536)) ≡ false = sym told ∙ h in rw e at q
+    pub sought_small : k ≤ globals_limit
+    sought_small = omega (arith, sought_node.below, x.count)
 
-        follower : j ≡ next_of bytes side g n depth k
-        follower = rw (next, turns, is, e)
+    -- its name stands at the offset of its place, and is compared with the one that is sought
+    module _ (two : side < 2) (p : NamePlace) {o : ℕ} (stands : StandsAt (get_or g k 0) p) (offset : o ≡ offset_of p) where
+      pub sought_offset : o ≡ get_or g k 0 % 65536
+      sought_offset = offset ∙ offset_in (get_or g k 0) p stands (omega (arith, sought_node.part))
 
-        placing_rises : 0 < j → k < j
-        placing_rises = rw follower (way_rises s.way there unlike)
+      module _ {t : Bool} (told : t ≡ same n (content bytes o)) where
+        alike : {b : Bool} → t ≡ b → same n (name_of bytes side g k) ≡ b
+        alike h = sym (rw sought_offset at told) ∙ h
 
-        pub placing_less : (2048 - j) % 2048 < (2048 - k) % 2048
-        placing_less = falls j k there (omega (arith, placing_node.below)) placing_rises
+        pub sought_hit : t ≡ true → Ends bytes side g n (Hit k)
+        sought_hit h = record {
+          found = λ r w. way_hit (s.ways r w) there (alike h);
+          goes = s.rest (nodes_at + k) (with_latest (get_or g (nodes_at + k) 0) (get_or g 0 0)) (follows s.is sought_node (alike h) refl refl);
+          within = omega (arith, sought_small);
+          vacant = tt;
+        }
 
-        pub placing_next : Placing (nodes_at + i) turn j (depth + 1)
-        placing_next =
-            record {
-              deep = λ l. omega (arith, placing_rises l, s.deep there);
-              from = omega arith;
-              to = omega (arith, placing_node.below);
-              is = next;
-              found = s.found;
-              way = rw follower (way_next s.way there unlike);
-              rest = λ p x y. s.rest p x (further s.is placing_node unlike (rw follower at placing_rises) (rw (turns, is, e) at y));
-            }
+        module _ {hash turn j : ℕ} (h : t ≡ false) (is : hash ≡ hash_of n) (turns : turn ≡ side_of n hash depth) (next : j ≡ child_of (get_or g (nodes_at + k) 0) turn) where
+          follower : j ≡ next_of bytes side g n depth k
+          follower = rw (next, turns, is)
 
-  pub placing_first : {at on k depth : ℕ} → Placing at on k depth → k ≡ 0 → Goes bytes side g n 0 (heads_at + hash_of n % buckets) side at (with_child (get_or g at 0) on (get_or g 0 0 + 1))
-  placing_first {at} {on} s e = s.rest at (with_child (get_or g at 0) on (get_or g 0 0 + 1)) (hangs (sym s.is ∙ e) refl refl)
+          sought_rises : 0 < j → k < j
+          sought_rises = rw follower (way_rises (s.ways x.found x.way) there (alike h))
+
+          pub sought_less : (2048 - j) % 2048 < (2048 - k) % 2048
+          sought_less = falls j k there sought_small sought_rises
+
+          pub sought_next : Sought (nodes_at + k) turn j (depth + 1)
+          sought_next = record {
+            deep = λ l. omega (arith, sought_rises l, s.deep there);
+            from = omega arith;
+            to = omega (arith, sought_small);
+            is = next;
+            ways = λ r w. rw follower (way_next (s.ways r w) there (alike h));
+            rest = λ q v y. s.rest q v (further s.is sought_node (alike h) (rw follower at sought_rises) (rw (turns, is) at y));
+          }
 
 -- what is found on the tree's side, or else on the session's
 module _ {h : Option Symbol} (old : Option ℕ) where

@@ -14,9 +14,11 @@ use Rattle.field.specs.Layout.{content}
 use Rattle.field.specs.Row.{HasRow, RowOf}
 use Rattle.field.specs.declared.fields.Fields.{Fields}
 use Rattle.symbol_table.specs.Name.{Stands, buckets, hash_of}
-use Rattle.symbol_table.specs.Search.{Way, Goes}
+use Rattle.symbol_table.specs.Search.{turn_number, nodes_at, child_of, latest_of, with_child, with_latest, Way, Goes}
 use Rattle.symbol_table.specs.Layout.{globals_size, heads_at, head_of, part_size, entries_at, tag_in, base, part, symbol_of, table_of, tables_of, globals_of, globals_in, GoodTable, GoodGlobals, Good, entries, marked_at, marks_at, code_of, IsMarked, Marked, GoodPart}
 use Rattle.symbol_table.specs.Store.{global_in}
+use Rattle.symbol_table.specs.declared.globals.End.{End}
+use Rattle.symbol_table.specs.declared.globals.End.TheVariants.{Hit, Open}
 use Rattle.symbol_table.specs.declared.Found.{Found}
 use Rattle.symbol_table.specs.declared.LookupError.{LookupError}
 use Rattle.symbol_table.specs.declared.LookupError.TheVariants.{Undefined, Full}
@@ -183,6 +185,39 @@ pub record Resolves (builtins : List Bytes) (tree names : Bytes) (level name : �
   pub good : Good tree names level a'
   pub globals : take globals_size a' ≡ take globals_size a
   pub above : drop (base level) a' ≡ drop (base level) a
+
+-- the globals of a side, whose names are in some bytes, can be searched for a name
+pub record Searchable (bytes : Bytes) (side : ℕ) (g : List ℕ) (n : Bytes) : Type 0 where
+  pub size : length g ≡ globals_size
+  pub count : get_or g 0 0 ≤ globals_limit
+  pub found : maybe.Option ℕ
+  pub way : Way bytes side g n 0 (head_of g n side) found
+
+-- what is found where a search ends
+abbrev pub found_at : List ℕ → End → maybe.Option ℕ
+found_at g (Hit k) = some (latest_of (get_or g (nodes_at + k) 0))
+found_at g (Open at on) = none
+
+-- where a global more of the name goes then, and the number that is to stand there
+abbrev pub place_of : End → ℕ
+place_of (Hit k) = nodes_at + k
+place_of (Open at on) = at
+
+abbrev pub number_at : List ℕ → End → ℕ
+number_at g (Hit k) = with_latest (get_or g (nodes_at + k) 0) (get_or g 0 0)
+number_at g (Open at on) = with_child (get_or g at 0) (turn_number on) (get_or g 0 0 + 1)
+
+-- no global hangs where a search ends without one
+abbrev pub Vacant : List ℕ → End → Type 0
+Vacant g (Hit k) = Unit {0}
+Vacant g (Open at on) = child_of (get_or g at 0) (turn_number on) ≡ 0
+
+-- the search for a name ends there: that is what it finds, and where a global more of the name goes
+pub record Ends (bytes : Bytes) (side : ℕ) (g : List ℕ) (n : Bytes) (e : End) : Type 0 where
+  pub found : (r : maybe.Option ℕ) → Way bytes side g n 0 (head_of g n side) r → r ≡ found_at g e
+  pub goes : Goes bytes side g n 0 (heads_at + hash_of n % buckets) side (place_of e) (number_at g e)
+  pub within : place_of e < globals_size
+  pub vacant : Vacant g e
 
 -- a global more can be added, of the session's on side 0 or of the tree's on side 1: its name is at an offset
 pub record Addable (bytes : Bytes) (side : ℕ) (g : List ℕ) (name hash : ℕ) : Type 0 where

@@ -2,7 +2,7 @@
 -- First the globals: their count; 1,024 names; 1,024 nodes of search trees; for each bucket the heads of two search trees, of the session's globals and of the tree's.
 -- Then a part for each open function, the outermost first: 1 where it has a name, its definitions, its free symbols; 512 entries; 255 originals;
 -- how many of its entries are marked; 1,280 marks in 40 numbers, one for each code of a builtin or a global: the mark is set where a marked entry has its name.
-use Rattle.std.specs.Prelude.{ℕ, zero, suc, ◌+◌, ◌-◌, ◌*◌, ◌/◌, ◌%◌, ◌≤◌, ◌<◌, ◌^◌, ◌≡◌, List, [], ◌∷◌, length, get_or, take, drop, ltb, eqb}
+use Rattle.std.specs.Prelude.{ℕ, zero, suc, ◌+◌, ◌-◌, ◌*◌, ◌/◌, ◌%◌, ◌≤◌, ◌<◌, ◌^◌, ◌≡◌, List, [], ◌∷◌, length, get_or, take, drop, ltb}
 use Rattle.std.proofs.Math.Option.{Option, none, some}
 use Rattle.definition.specs.Basic.{Bytes, pick}
 use Rattle.definition.specs.Limit.{globals_limit, locals_limit, free_limit}
@@ -178,10 +178,6 @@ pub record Finds (tree names : Bytes) (g : List ℕ) (n : Bytes) : Type 0 where
   pub below_new : Way tree 1 g n 0 (head_of g n 1) new
   pub below_old : Way names 0 g n 0 (head_of g n 0) old
   pub latest : find_global n (globals_of tree names g) ≡ first_found new old
-
--- what it finds among the session's, on side 0, or the tree's
-abbrev pub found_on : {tree names : Bytes} {g : List ℕ} {n : Bytes} → Finds tree names g n → ℕ → Option ℕ
-found_on x side = pick (eqb side 0) x.old x.new
 
 pub record GoodGlobals (tree names : Bytes) (g : List ℕ) : Type 0 where
   pub size : length g ≡ globals_size

@@ -4,7 +4,7 @@ use Rattle.definition.specs.Basic.{Bytes}
 use Rattle.definition.specs.SymbolTable.{find}
 use Rattle.definition.specs.Decode.{words_in}
 use Rattle.field.specs.Layout.{content}
-use Rattle.symbol_table.specs.Layout.{globals_size, part_size, base, part, table_of, globals_in, GoodGlobals, GoodPart, Good, entries}
+use Rattle.symbol_table.specs.Layout.{globals_size, part_size, base, part, table_of, globals_in, GoodGlobals, GoodPart, Good}
 use Rattle.symbol_table.specs.Contract.{Lookup, hit_of, resolved_of, outermost_of, code_or, Crossed, HasWords, Inside, Remarked, Known, Outermost, Resolves, MarksAll}
 use Rattle.symbol_table.specs.Contract as contract
 use Rattle.symbol_table.specs.declared.query.Query.{Query}
@@ -45,12 +45,11 @@ module _ (q : Query) where
     pub size : globals_size ≤ length a
     pub globals : GoodGlobals q.key.tree.now q.names.now (take globals_size a)
 
-  -- the part of the function at a level does too, and has n entries
-  pub record Opened (l n : ℕ) (a : List ℕ) : Type 0 where
+  -- the part of the function at a level does too
+  pub record Opened (l : ℕ) (a : List ℕ) : Type 0 where
     pub outside : Outside a
     pub size : base l + part_size ≤ length a
     pub good : GoodPart words_of (globals_of_area a) q.key.tree.now (part l a)
-    pub count : n ≡ entries (part l a)
 
   -- the parts of so many open functions do
   pub record Standing (level : ℕ) (a : List ℕ) : Type 0 where

@@ -1,5 +1,5 @@
 -- Names as fields: a name is known by the offset of its field in some bytes.
-use Rattle.std.specs.Prelude.{ℕ, ◌+◌, ◌*◌, ◌%◌, ◌≤◌, List, [], ◌∷◌, length}
+use Rattle.std.specs.Prelude.{ℕ, ◌+◌, ◌*◌, ◌%◌, ◌≤◌, [], ◌∷◌, length}
 use Rattle.definition.specs.Basic.{Bytes}
 use Rattle.field.specs.Layout.{after}
 

@@ -80,7 +80,8 @@ impl<'a> Part<'a> {
 }
 
 // How many of the first so many entries are left once those behind the latest with a tag are passed over: 0 where none has it.
-// Kept: as a `for` over `(0..from).rev()` chosen names take up to 7 % more instructions, as an `Option` index nested functions 3.4 %.
+// Kept: as `for` over `(0..from).rev()` chosen names take up to 7 % more instructions, as an `Option` index nested functions 3.4 %: over
+// the bar of 3 %.
 fn tagged_below(part: &[u32], from: usize, tag: usize) -> usize
     requires { entries_at + from ≤ length part.now }
     ensures { PassedOver part.now from tag result }
@@ -96,24 +97,23 @@ fn tagged_below(part: &[u32], from: usize, tag: usize) -> usize
     k
 }
 
-// The latest entry of a name, in a table of n entries. Those whose tag is another are passed over in a loop of their own, which looks at no name.
+// The latest entry of a name in a table. Those whose tag is another are passed over in a loop of their own, which looks at no name.
 // Kept: each turn goes on where a search ended; as an iterator the same search would stand in a struct with its invariant.
 // Never inlined: its loop has the registers to itself.
 #[inline(never)]
-pub fn find_in(name: &Name, tree: &[u8], part: &[u32], n: usize) -> Option<u32>
-    requires good_table { GoodTable tree.now part.now }
-    requires n_value { n ≡ entries part.now }
-    ensures { hit_of result ≡ find name.now.bytes.now (table_of tree.now part.now).entries }
+pub fn find_in(name: &Name, tree: &[u8], part: Part<'_>) -> Option<u32>
+    requires { GoodTable tree.now part.numbers.now }
+    ensures { hit_of result ≡ find name.now.bytes.now (table_of tree.now part.entry.numbers.now).entries }
 {
     let tag = name.hash % 128;
-    let mut k = tagged_below(part, n, tag);
+    let mut k = tagged_below(part.numbers, part.entries(), tag);
     while k > 0 {
         k -= 1;
-        let v = part[ENTRIES_AT + k];
+        let v = part.numbers[ENTRIES_AT + k];
         if same_name(name.bytes, content_at(tree, (v % CODE_UNIT) as usize)) {
             return Some(v / CODE_UNIT % CODES);
         }
-        k = tagged_below(part, k, tag);
+        k = tagged_below(part.numbers, k, tag);
     }
     None
 }
@@ -133,7 +133,8 @@ fn enter_in(part: &mut [u32], key: &Key)
 }
 
 // An entry more, with its symbol's code.
-// Kept: `Sized` in clauses. Tried: a struct that holds it: each method needs a clause `same` instead, or what comes back stays open.
+// Kept: `Sized` in clauses, here and below. Tried: a struct that holds it: each method needs a clause `same` instead, or what comes back
+// stays open.
 fn push_entry(part: &mut [u32], label: Label, code: u32)
     requires sized { Sized part.old }
     requires code { code < 1024 }

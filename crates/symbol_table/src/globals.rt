@@ -3,13 +3,14 @@
 ghost use Rattle.std.specs.Prelude.{◌≡◌, ℕ, ◌+◌, ◌*◌, ◌%◌, ◌<◌, ◌≤◌, length, get_or};
 ghost use Rattle.std.proofs.Math.Option.{Option};
 ghost use Rattle.definition.specs.Basic.{Bytes};
+ghost use Rattle.field.specs.Layout.{content};
 ghost use Rattle.definition.specs.Limit.{session_size, globals_limit};
-ghost use Rattle.definition.specs.SymbolTable.{Symbol, same, find_global};
+ghost use Rattle.definition.specs.SymbolTable.{Symbol, find_global};
 ghost use Rattle.symbol_table.specs.Name.{buckets, hash_of};
 ghost use Rattle.symbol_table.specs.Search.{side_number, turn_number, side_of, child_of, with_child, Way, Goes};
-ghost use Rattle.symbol_table.specs.Layout.{globals_size, heads_at, global_name, globals_of, offset_of, StandsAt, GlobalStands, Finds, found_on, GoodGlobals};
+ghost use Rattle.symbol_table.specs.Layout.{globals_size, heads_at, head_of, globals_of, offset_of, StandsAt, GoodGlobals};
 ghost use Rattle.symbol_table.specs.Store.{global_in};
-ghost use Rattle.symbol_table.specs.Contract.{hit_of, standing_as, as_symbol, Addable, Adds, DefinesGlobal, HasItems, StartsGlobals};
+ghost use Rattle.symbol_table.specs.Contract.{hit_of, standing_as, as_symbol, Searchable, Ends, Addable, Adds, DefinesGlobal, HasItems, StartsGlobals};
 
 use super::layout::{
     BUCKET_BITS, BUCKETS, GLOBAL, GLOBALS, GLOBALS_SIZE, HEADS_AT, IN_TREE, LATEST_UNIT, NODES_AT,
@@ -171,36 +172,48 @@ fn with_child(node: u32, turn: Turn, k: u32) -> u32
     }
 }
 
-// Whether a name is that of a global.
-fn same_global(tree: &[u8], names: &[u8], v: u32, name: &[u8]) -> bool
-    requires { GlobalStands tree.now names.now v }
-    ensures { result ≡ same name.now (global_name tree.now names.now v) }
-{
-    match NamePlace::from(v) {
-        NamePlace::Session(at) => same_name(name, content_at(names, at)),
-        NamePlace::Tree(at) => same_name(name, content_at(tree, at)),
-    }
+// Where the search for a name ends: at a global of that name, or on a side of a node or of a bucket's heads where none hangs.
+#[derive(Clone, Copy)]
+enum End {
+    Hit(usize),
+    Open(usize, Turn),
 }
 
-// The latest global of a name among the session's or the tree's.
-// Kept: a way down a tree, whose node decides where it goes on: an iterator of the nodes would stand for this loop alone.
+// The search for a name among the globals of a side, whose names are in these bytes.
+// Kept: a way down a tree, where each node decides the next by the name: an iterator would hold the name and its way as `Way` says it.
 #[inline(always)]
-fn find_side(name: &Name, tree: &[u8], names: &[u8], side: Side, globals: &[u32]) -> Option<u32>
-    requires good_globals { GoodGlobals tree.now names.now globals.now }
-    ensures { (x : Finds tree.now names.now globals.now name.now.bytes.now) → hit_of result ≡ as_symbol Symbol.global (found_on x (side_number side)) }
+fn search(name: &Name, bytes: &[u8], side: Side, globals: &[u32]) -> End
+    requires { Searchable bytes.now (side_number side) globals.now name.now.bytes.now }
+    ensures { Ends bytes.now (side_number side) globals.now name.now.bytes.now result }
 {
-    let mut next = side.head(globals[HEADS_AT + name.hash % BUCKETS]);
+    let mut at = HEADS_AT + name.hash % BUCKETS;
+    let mut on = side.turn();
+    let mut next = child(globals[at], on);
     let mut depth = 0;
     while let Some(k) = next {
         let i = k + 1;
-        let node = globals[NODES_AT + i];
-        if same_global(tree, names, globals[i], name.bytes) {
-            return Some(GLOBAL + node / LATEST_UNIT);
+        let offset = NamePlace::from(globals[i]).offset();
+        if same_name(name.bytes, content_at(bytes, offset)) {
+            return End::Hit(i);
         }
-        next = child(node, side_of(name.bytes, name.hash, depth));
+        at = NODES_AT + i;
+        on = side_of(name.bytes, name.hash, depth);
+        next = child(globals[at], on);
         depth += 1;
     }
-    None
+    End::Open(at, on)
+}
+
+// The latest global of a name among those of a side, whose names are in these bytes.
+#[inline(always)]
+fn find_side(name: &Name, bytes: &[u8], side: Side, globals: &[u32]) -> Option<u32>
+    requires { Searchable bytes.now (side_number side) globals.now name.now.bytes.now }
+    ensures { (r : Option ℕ) → Way bytes.now (side_number side) globals.now name.now.bytes.now 0 (head_of globals.now name.now.bytes.now (side_number side)) r → hit_of result ≡ as_symbol Symbol.global r }
+{
+    match search(name, bytes, side, globals) {
+        End::Hit(i) => Some(GLOBAL + globals[NODES_AT + i] / LATEST_UNIT),
+        End::Open(_, _) => None,
+    }
 }
 
 // The latest global of a name: those of the tree come after those of the session.
@@ -209,97 +222,90 @@ pub fn find_global(name: &Name, tree: &[u8], names: &[u8], globals: &[u32]) -> O
     requires { GoodGlobals tree.now names.now globals.now }
     ensures { hit_of result ≡ as_symbol Symbol.global (find_global name.now.bytes.now (globals_of tree.now names.now globals.now)) }
 {
-    if let Some(code) = find_side(name, tree, names, Side::Tree, globals) {
+    if let Some(code) = find_side(name, tree, Side::Tree, globals) {
         return Some(code);
     }
-    find_side(name, tree, names, Side::Session, globals)
-}
-
-// Where a global more of a name goes: it becomes the latest of its name, or hangs where the search for its name ends.
-// Kept: a way down a tree, as in `find_side`, which also keeps the side on which it left the last node.
-fn find_place(
-    bytes: &[u8],
-    side: Side,
-    globals: &[u32; GLOBALS_SIZE],
-    name: &[u8],
-    hash: usize,
-) -> Place
-    requires globals_bound { get_or globals.now 0 0 < globals_limit }
-    requires hash_value { hash ≡ hash_of name.now }
-    requires by_index { (r : Option ℕ) × Way bytes.now (side_number side) globals.now name.now 0 (child_of (get_or globals.now (heads_at + hash % buckets) 0) (side_number side)) r }
-    ensures { Goes bytes.now (side_number side) globals.now name.now 0 (heads_at + hash % buckets) (side_number side) result.at result.number }
-{
-    let new = globals[0];
-    let mut at = HEADS_AT + hash % BUCKETS;
-    let mut on = side.turn();
-    let mut next = child(globals[at], on);
-    let mut depth = 0;
-    while let Some(k) = next {
-        let i = k + 1;
-        at = NODES_AT + i;
-        if same_name(
-            name,
-            content_at(bytes, NamePlace::from(globals[i]).offset()),
-        ) {
-            return Place {
-                at: at,
-                number: globals[at] % LATEST_UNIT + LATEST_UNIT * new,
-            };
-        }
-        on = side_of(name, hash, depth);
-        next = child(globals[at], on);
-        depth += 1;
-    }
-    Place {
-        at: at,
-        number: with_child(globals[at], on, new + 1),
-    }
+    find_side(name, names, Side::Session, globals)
 }
 
 // A global more, which has a node of its own, and the number at a place.
-fn push_global(globals: &mut [u32; GLOBALS_SIZE], v: u32, at: usize, number: u32)
+fn push_global(globals: &mut [u32; GLOBALS_SIZE], v: u32, place: Place)
     requires globals_bound { get_or globals.old 0 0 < globals_limit }
-    requires at_lt_globals_size { at < globals_size }
-    ensures { globals.new ≡ global_in globals.old v at number }
+    requires at_lt_globals_size { place.at < globals_size }
+    ensures { globals.new ≡ global_in globals.old v place.at place.number }
 {
     let k = globals[0];
     let i = 1 + k as usize;
     globals[i] = v;
     globals[NODES_AT + i] = LATEST_UNIT * k;
-    globals[at] = number;
+    globals[place.at] = place.number;
     globals[0] = k + 1;
 }
 
-// A global more, the first of its side in its bucket.
-#[inline(always)]
-fn add_first(globals: &mut [u32; GLOBALS_SIZE], side: Side, v: u32, hash: usize)
-    requires globals_bound { get_or globals.old 0 0 < globals_limit }
-    requires side_value { child_of (get_or globals.old (heads_at + hash % buckets) 0) (side_number side) ≡ 0 }
-    ensures { globals.new ≡ global_in globals.old v (heads_at + hash % buckets) (with_child (get_or globals.old (heads_at + hash % buckets) 0) (side_number side) (get_or globals.old 0 0 + 1)) }
-{
-    let at = HEADS_AT + hash % BUCKETS;
-    let number = with_child(globals[at], side.turn(), globals[0] + 1);
-    push_global(globals, v, at, number);
+// A global that is to be added: whose it is, in which bytes its name stands at an offset, and the name's hash.
+#[derive(Clone, Copy)]
+struct NewGlobal<'a> {
+    side: Side,
+    bytes: &'a [u8],
+    at: usize,
+    hash: usize,
 }
 
-// A global more, where the search for its name ends.
-fn add_below(bytes: &[u8], side: Side, globals: &mut [u32; GLOBALS_SIZE], name: usize, hash: usize)
-    requires addable { Addable bytes.now (side_number side) globals.old name hash }
-    ensures { Adds bytes.now (side_number side) name globals.old globals.new }
-{
-    let place = find_place(bytes, side, globals, content_at(bytes, name), hash);
-    push_global(globals, side.global(name), place.at, place.number);
-}
+// Kept: `Addable` in four clauses: a ghost field is to be a proposition, and it is none, since it holds a search's way (as in query.rt).
+impl NewGlobal<'_> {
+    // Where it goes: it becomes the latest of its name, or hangs where the search for its name ends.
+    fn find_place(self, globals: &[u32; GLOBALS_SIZE]) -> Place
+        requires { Addable self.bytes.now (side_number self.side) globals.now self.at self.hash }
+        ensures { Goes self.entry.bytes.now (side_number self.entry.side) globals.now (content self.entry.bytes.now self.entry.at) 0 (heads_at + self.entry.hash % buckets) (side_number self.entry.side) result.at result.number }
+    {
+        let name = Name {
+            bytes: content_at(self.bytes, self.at),
+            hash: self.hash,
+        };
+        let new = globals[0];
+        match search(&name, self.bytes, self.side, globals) {
+            End::Hit(i) => Place {
+                at: NODES_AT + i,
+                number: globals[NODES_AT + i] % LATEST_UNIT + LATEST_UNIT * new,
+            },
+            End::Open(at, on) => Place {
+                at,
+                number: with_child(globals[at], on, new + 1),
+            },
+        }
+    }
 
-// A global more, of the session's or of the tree's: its name is at an offset.
-#[inline(always)]
-fn add_global(bytes: &[u8], side: Side, globals: &mut [u32; GLOBALS_SIZE], name: usize, hash: usize)
-    requires addable { Addable bytes.now (side_number side) globals.old name hash }
-    ensures { Adds bytes.now (side_number side) name globals.old globals.new }
-{
-    match side.head(globals[HEADS_AT + hash % BUCKETS]) {
-        None => add_first(globals, side, side.global(name), hash),
-        Some(_) => add_below(bytes, side, globals, name, hash),
+    // It is added as the first of its side in its bucket.
+    #[inline(always)]
+    fn add_first(self, globals: &mut [u32; GLOBALS_SIZE])
+        requires addable { Addable self.bytes.now (side_number self.side) globals.old self.at self.hash }
+        requires side_value { child_of (get_or globals.old (heads_at + self.hash % buckets) 0) (side_number self.side) ≡ 0 }
+        ensures { Adds self.entry.bytes.now (side_number self.entry.side) self.entry.at globals.old globals.new }
+    {
+        let at = HEADS_AT + self.hash % BUCKETS;
+        let number = with_child(globals[at], self.side.turn(), globals[0] + 1);
+        push_global(globals, self.side.global(self.at), Place { at, number });
+    }
+
+    // It is added where the search for its name ends.
+    fn add_below(self, globals: &mut [u32; GLOBALS_SIZE])
+        requires { Addable self.bytes.now (side_number self.side) globals.old self.at self.hash }
+        ensures { Adds self.entry.bytes.now (side_number self.entry.side) self.entry.at globals.old globals.new }
+    {
+        let place = self.find_place(globals);
+        push_global(globals, self.side.global(self.at), place);
+    }
+
+    // It is added.
+    #[inline(always)]
+    fn add(self, globals: &mut [u32; GLOBALS_SIZE])
+        requires { Addable self.bytes.now (side_number self.side) globals.old self.at self.hash }
+        ensures { Adds self.entry.bytes.now (side_number self.entry.side) self.entry.at globals.old globals.new }
+    {
+        match self.side.head(globals[HEADS_AT + self.hash % BUCKETS]) {
+            None => self.add_first(globals),
+            Some(_) => self.add_below(globals),
+        }
     }
 }
 
@@ -312,7 +318,13 @@ pub fn place_global(key: &Key, globals: &mut [u32; GLOBALS_SIZE]) -> Result<Slot
     if GLOBALS <= k {
         return Err(DefineError::GlobalsFull);
     }
-    add_global(key.tree, Side::Tree, globals, key.at, key.name.hash);
+    let global = NewGlobal {
+        side: Side::Tree,
+        bytes: key.tree,
+        at: key.at,
+        hash: key.name.hash,
+    };
+    global.add(globals);
     Ok(Slot::Global(k))
 }
 
@@ -332,7 +344,12 @@ pub fn start_in(names: Fields<'_>, globals: &mut [u32; GLOBALS_SIZE])
     clear_heads(globals);
     globals[0] = 0;
     for at in names {
-        let hash = hash_at(names.bytes, at);
-        add_global(&names.bytes[..names.end], Side::Session, globals, at, hash);
+        let global = NewGlobal {
+            side: Side::Session,
+            bytes: &names.bytes[..names.end],
+            at,
+            hash: hash_at(names.bytes, at),
+        };
+        global.add(globals);
     }
 }

@@ -1,6 +1,7 @@
 // The table area. First the globals, 3,073 numbers: their count, 1,024 names, 1,024 nodes, the heads of 1,024 buckets.
 // Then a part for each open function, 811 numbers: 1 where it has a name, its definitions, its free symbols, 512 entries, 255 originals,
-// how many of its entries are marked, and 1,280 marks, 32 to a number: one for each builtin and each global, set where a marked entry has its name.
+// how many of its entries are marked, and 1,280 marks, 32 to a number: one for each builtin and each global, set where a marked entry has
+// its name.
 use definition::limit;
 use definition::limit::{FREE_LIMIT, GLOBALS_LIMIT, LOCALS_LIMIT, SESSION_SIZE, TREE_LIMIT};
 
@@ -68,8 +69,8 @@ pub const CODE_UNIT: u32 = TREE_LIMIT as u32;
 
 pub const TAG_UNIT: u32 = CODE_UNIT * CODES;
 
-// A node: the globals on its two sides, and the index of the latest global of its name. A bucket's heads: the first of the session's globals and of the tree's.
-// A global stands there as its index and 1, so that 0 is none.
+// A node: the globals on its two sides, and the index of the latest global of its name. A bucket's heads: the first of the session's
+// globals and of the tree's. A global stands there as its index and 1, so that 0 is none.
 pub const SIDE_UNIT: u32 = 2048;
 
 pub const LATEST_UNIT: u32 = SIDE_UNIT * SIDE_UNIT;

@@ -161,6 +161,7 @@ pub fn define(key: Key<'_>, table: &mut [u32], level: usize) -> Result<Slot, Def
 }
 
 // One function more is open, with its name and its parameters, the fields from an offset up to an end.
+// Kept: `from` and `end`, here and at `open_in`: `Fields` would bring the key's tree again, and a clause that both trees are one.
 pub fn enter(key: Key<'_>, table: &mut [u32], level: usize, from: usize, end: usize)
     requires part_size_in_bounds { base level + part_size ≤ length table.old }
     requires tree_len_bound { length key.tree.now ≤ tree_limit }
@@ -171,6 +172,8 @@ pub fn enter(key: Key<'_>, table: &mut [u32], level: usize, from: usize, end: us
 }
 
 // The table area as a walk starts: a session's names are the globals, and no function is open.
+// Kept: clauses, here, at `start_in` and in trace's pass: `HasItems` holds a list, so it is no proposition, as a ghost field is to be; nor
+// can `session_size` stand in `Fields`, which other bytes have, too.
 pub fn start_from(names: Fields<'_>, table: &mut [u32])
     requires session_len_bound { length names.bytes.now ≤ session_size }
     requires has_items { HasItems names.bytes.now names.at names.end }
@@ -199,10 +202,11 @@ pub fn start(session: &[u8], table: &mut [u32], at: usize) -> usize
 
 // The names of the globals, each as the number of its place.
 pub fn global_names(table: &[u32]) -> &[u32]
-    requires { get_or table.now 0 0 < length table.now }
+    requires { 0 < length table.now }
     ensures { result.now ≡ take (get_or table.now 0 0) (drop 1 table.now) }
 {
-    &table[1..1 + table[0] as usize]
+    let names = &table[1..];
+    &names[..names.len().min(table[0] as usize)]
 }
 
 // The instruction that loads a symbol.

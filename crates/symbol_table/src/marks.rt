@@ -75,12 +75,15 @@ fn next_at(table: &mut [u32], level: usize, code: Option<u32>)
     mark_next(&mut table[part_range(level)], code);
 }
 
-// The entries of the function at a level, n of them, are marked, those that are not yet.
-fn mark_entries(query: &Query, table: &mut [u32], level: usize, n: usize)
-    requires { Opened query.now level n table.old }
+// The entries of the function at a level are marked, those that are not yet.
+fn mark_entries(query: &Query, table: &mut [u32], level: usize)
+    requires { Opened query.now level table.old }
     ensures { MarksEntries query.now level table.old table.new }
 {
-    let from = Part::of(table, level).numbers[MARKED_AT] as usize;
+    let part = Part::of(table, level);
+    let from = part.numbers[MARKED_AT] as usize;
+    let n = part.entries();
+    // Kept: by index: each turn lends the whole table to look a name up and to mark it, so no part can be lent over the turns.
     for i in from..n {
         let name = (Part::of(table, level).numbers[ENTRIES_AT + i] % CODE_UNIT) as usize;
         let other = Query {
@@ -92,21 +95,18 @@ fn mark_entries(query: &Query, table: &mut [u32], level: usize, n: usize)
     }
 }
 
-// Whether the function at a level, with n entries, surely has none of the name of a builtin or a global.
-pub fn is_absent(query: &Query, table: &mut [u32], level: usize, n: usize, known: Known) -> bool
-    requires opened { Opened query.now level n table.old }
+// Whether the function at a level surely has no entry of the name of a builtin or a global.
+pub fn is_absent(query: &Query, table: &mut [u32], level: usize, known: Known) -> bool
+    requires opened { Opened query.now level table.old }
     requires known { IsKnown query.now table.old known }
     ensures { Lacks query.now level known result table.old table.new }
 {
     let Known::Code(code) = known else {
         return false;
     };
-    if n <= SHORT {
+    if Part::of(table, level).entries() <= SHORT {
         return false;
     }
-    mark_entries(query, table, level, n);
-    if is_marked(Part::of(table, level), code) {
-        return false;
-    }
-    true
+    mark_entries(query, table, level);
+    !is_marked(Part::of(table, level), code)
 }

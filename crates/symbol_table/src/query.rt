@@ -46,17 +46,12 @@ fn cross_at(
 // What its methods need of the area is said once, in `Outside`, `Opened` and `Standing`.
 // Kept: clauses: a ghost field is to be a proposition, and these are none, since they hold a search's way, of which there may be two.
 impl<'a> Query<'a> {
-    // The latest entry of the name in the table of the function at a level, which has n entries.
-    fn find_at(&self, table: &[u32], level: usize, n: usize) -> Option<u32>
-        requires { Opened self.now level n table.now }
+    // The latest entry of the name in the table of the function at a level.
+    fn find_at(&self, table: &[u32], level: usize) -> Option<u32>
+        requires { Opened self.now level table.now }
         ensures { IsEntry self.now level table.now result }
     {
-        find_in(
-            &self.key.name,
-            self.key.tree,
-            Part::of(table, level).numbers,
-            n,
-        )
+        find_in(&self.key.name, self.key.tree, Part::of(table, level))
     }
 
     // The global or the builtin of the name: outside all functions, globals come before builtins.
@@ -99,16 +94,16 @@ impl<'a> Query<'a> {
         self.find_outermost(table).ok().map(|found| found.code)
     }
 
-    // What is known of the name outside all functions, which is asked where it is of use in a table of n entries.
-    fn known_for(&self, table: &[u32], n: usize, known: Known) -> Known
-        requires outside { Outside self.now table.now }
+    // What is known of the name outside all functions, which is asked where it is of use in the table of the function at a level.
+    fn known_for(&self, table: &[u32], level: usize, known: Known) -> Known
+        requires opened { Opened self.now level table.now }
         requires known { IsKnown self.now table.now known }
         ensures { IsKnown self.now table.now result }
     {
         let Known::Unasked = known else {
             return known;
         };
-        if n <= SHORT {
+        if Part::of(table, level).entries() <= SHORT {
             return known;
         }
         match self.code_outermost(table) {
@@ -118,16 +113,16 @@ impl<'a> Query<'a> {
     }
 
     // The same as `find_at`, but the table is passed over where its marks show that the name is not there.
-    fn look_at(&self, table: &mut [u32], level: usize, n: usize, known: Known) -> Option<u32>
-        requires opened { Opened self.now level n table.old }
+    fn look_at(&self, table: &mut [u32], level: usize, known: Known) -> Option<u32>
+        requires opened { Opened self.now level table.old }
         requires known { IsKnown self.now table.old known }
         ensures entry { IsEntry self.now level table.old result }
         ensures inside { Remarks self.now level table.old table.new }
     {
-        if is_absent(self, table, level, n, known) {
+        if is_absent(self, table, level, known) {
             return None;
         }
-        self.find_at(table, level, n)
+        self.find_at(table, level)
     }
 
     // The name's symbol, seen from inside so many open functions: outward one function at a time, capturing on the way back.
@@ -145,9 +140,8 @@ impl<'a> Query<'a> {
             return self.resolve_outermost(table, known);
         }
         let l = level - 1;
-        let n = Part::of(table, l).entries();
-        let outside = self.known_for(table, n, known);
-        if let Some(code) = self.look_at(table, l, n, outside) {
+        let outside = self.known_for(table, l, known);
+        if let Some(code) = self.look_at(table, l, outside) {
             return Ok(Found { code, crossed: 0 });
         }
         let outer = self.resolve(&mut table[..GLOBALS_SIZE + PART_SIZE * l], l, outside);

@@ -126,7 +126,7 @@ fn put_head(output: &mut [u8], at: usize, tag: u8, len: usize)
 }
 
 // Moves the bytes from an offset up to another further back.
-// Kept: offsets and no slice, since an output of no bytes measures, and has no such part.
+// Kept: offsets and no slice, since an output that is too short measures, and has no such part.
 pub fn make_room(output: &mut [u8], from: usize, end: usize, by: usize)
     requires { (from ≤ end) × (end < 1048576) × (by < 10000) }
     ensures { output.new ≡ moved_by output.old from end by }
@@ -187,7 +187,7 @@ pub fn item_start(token: Token, at: usize) -> usize
 }
 
 // The bytes that a token denotes, or a flag.
-// Kept: text and token apart, here and below: with its text inside, a token's promises would each add that this text is the one read.
+// Kept: text and token apart, here and below: a token that lends its bytes still has offsets, to go on from, which must agree with them.
 #[tactic(auto, using(crate::proofs::RowAt::end_within))]
 fn put_content(text: &[u8], output: &mut [u8], token: Token, to: usize) -> usize
     requires { Holds text.now token × (to < 1048576) }

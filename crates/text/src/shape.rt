@@ -8,6 +8,7 @@ use definition::{operator, tag};
 
 impl Kind {
     // How tight a token holds the operand before it: 0 if it does not continue an expression.
+    // Kept: 0, the level below all (the book's LOWEST): an `Option` goes to `write_continued` as a sixth parameter, or is read twice.
     #[tactic(auto, unfolding(crate::specs::Shape::tight_of))]
     pub fn tightness(self) -> usize
         ensures { result ≡ shape.tight_of (number_of self) }
@@ -104,8 +105,7 @@ impl Kind {
     }
 
     // The tag of the field that a token makes of the operand before it.
-    // Kept: beside the two tables of tags below, each with keys of its own: one function of them would take the table as a parameter,
-    // and be no plainer.
+    // Kept: tables, here and at the two below: a kind has a tag in each: `[` is an Index, an Array, or begins an ExprStmt.
     #[tactic(auto, unfolding(crate::specs::Shape::continued_tag))]
     pub fn continued_tag(self) -> u8
         ensures { result ≡ shape.continued_tag (number_of self) }

@@ -13,7 +13,7 @@ use crate::scan::Token;
 use definition::tag;
 
 // From where a part is put: its offsets in the text and in the output, and how many levels are left.
-// Kept: text and output beside it, as `Parts` speaks of the bytes alone: a struct of the two would add that both lends stay the same.
+// Kept: text and output beside it: of 15 functions of `part` that take either, 10 take one alone, so a struct would be taken apart there.
 // Kept: `Ready` a clause: each function asks for its own room, 139,990 to 140,003, and the ghost field of a struct is one for all.
 #[derive(Clone, Copy)]
 struct Place {
@@ -47,8 +47,7 @@ fn write_expression(text: &[u8], output: &mut [u8], from: Place, least: usize) -
             ..from
         },
     );
-    // Kept: a loop, here and in the lists and statements below: where the next token stands is known when the part before it is
-    // written, so an iterator over tokens would be made anew at each turn, and say no more.
+    // Kept: a loop, here and below: each turn goes on behind a part of many tokens, so an iterator over tokens would be made anew.
     loop {
         let token = token_at(text, so_far.at);
         if token.kind.closes_group(opened) {

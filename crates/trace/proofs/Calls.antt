@@ -87,11 +87,11 @@ module _ (tree : Bytes) (l : Lent) (big : enough (request l tree) ≡ true) wher
   front = take session_size l.session
 
   -- with records
-  records_enough : (rs : List Record) → call_records tree l rs ≡ in_session_records l rs tree (read_session front)
+  pub records_enough : (rs : List Record) → call_records tree l rs ≡ in_session_records l rs tree (read_session front)
   unfolding call_records
   records_enough rs = pick_true (in_session_records l rs tree (read_session front)) (unrecorded rs (record { answer = Err (refusal Number.short_buffer 0); lent = l })) big
 
-  compile-records : (room : ℕ) (z : Session) → compile_records room z (request l tree) ≡ translate_records room (length l.output) z (read_tree tree)
+  pub compile-records : (room : ℕ) (z : Session) → compile_records room z (request l tree) ≡ translate_records room (length l.output) z (read_tree tree)
   unfolding compile_records
   compile-records room z = pick_true (translate_records room (length l.output) z (read_tree tree)) (untraced (turned_down z (refusal Number.short_buffer 0))) big
 

@@ -3,7 +3,7 @@ use Prim.Native.Nat.{ℕ, zero, suc, ◌+◌, ◌≤◌, ◌<◌}
 use native.Mathlib.Omega.{arith}
 use native.Mathlib.Numerals.{add-one}
 use mathlib.Core.List.{List, ◌∷◌}
-use mathlib.Core.Path.{◌≡◌, refl, sym, ap, ◌∙◌}
+use mathlib.Core.Path.{◌≡◌, refl, sym, ap}
 use lib.ListN.{length}
 use borrow.Author.Tests.{le-leb, lt-leb, lt-ltb, le-ltb}
 use Rattle.definition.specs.Basic.{Bytes}
@@ -12,7 +12,7 @@ use Rattle.definition.specs.Syntax.{Expr}
 use Rattle.definition.specs.SymbolTable.{named, with_params}
 use Rattle.definition.specs.Walk.{on, bind, Go, walk_stmts, walk_expr}
 use Rattle.definition.specs.Decode.{words_in}
-use Rattle.field.specs.Layout.{len, after, content, Whole}
+use Rattle.field.specs.Layout.{len, after, content}
 use Rattle.tree.specs.At.{FunctionAt}
 use Rattle.tree.specs.Reads.{Some, ReadsBlock, Counted}
 use Rattle.symbol_table.specs.Layout.{part_size, base, tables_of, globals_of, Good}
@@ -28,9 +28,6 @@ tables_length : (tree : Bytes) (level : ℕ) (t : List ℕ) → length (tables_o
 unfolding tables_of
 tables_length tree zero t = refl
 tables_length tree (suc level) t = ap suc (tables_length tree level t)
-
-pub params_whole : {tree : Bytes} {at params : ℕ} → params ≡ after tree (at + 3) → Some (FunctionAt tree (ReadsBlock tree) at) → Whole tree params
-params_whole q (e, i) = rw q i.on_params.whole
 
 -- there is room for one function more
 pub room_inside : {tree before : Bytes} {level : ℕ} {t : List ℕ} {l : Bytes} {n size : ℕ} → Standing tree before level t l n size → level < nesting_limit → base level + part_size ≤ length t

@@ -13,3 +13,4 @@ pub mod Older
 pub mod Calls
 pub mod Accepts
 pub mod Tracing
+pub mod Widened

@@ -1,12 +1,12 @@
 -- What stands at an offset of a tree, by its tag: its children, in a row, whose walk one after the other is its own.
-use Prim.Native.Nat.{ℕ, ◌+◌, ◌≤◌, ◌<◌}
+use Prim.Native.Nat.{ℕ, ◌+◌, ◌≤◌}
 use native.Mathlib.Omega.{arith}
 use mathlib.Core.Bool.{true, false}
 use mathlib.Core.List.{List, [], ◌∷◌}
 use mathlib.Core.Logic.{◌⊎◌, inl, inr}
 use mathlib.Core.Option.{Option, none, some}
 use mathlib.Core.Path.{◌≡◌, refl, sym, ap, subst}
-use lib.ListN.{length, get_or}
+use lib.ListN.{get_or}
 use lib.Dec.{ltb}
 use borrow.Author.Tests.{ne_eqb}
 use Rattle.definition.specs.Basic.{Bytes, byte_at}
@@ -325,6 +325,3 @@ module _ {tree : Bytes} {at : ℕ} where
 
   pub some_whole : Some (ReadsNode tree at) → Whole tree at
   some_whole (x, r) = node_whole x r
-
-  pub node_first : Some (ReadsNode tree at) → at < length tree
-  node_first (x, r) = omega (arith, (node_whole x r).fits)

@@ -193,6 +193,10 @@ module _ {tree : Bytes} {at op : ℕ} (q : op ≡ after tree (at + 3)) where
   pub right_stands : Some (InfixAt tree (ReadsExpr tree) at) → Some (ReadsNode tree (op + 4))
   right_stands (e, i) = (Node.expr i.right, rw q (record { reads = i.on_right }))
 
+  -- the right one stands behind the operator
+  pub right_at : Some (InfixAt tree (ReadsExpr tree) at) → after tree op ≡ op + 4
+  right_at (e, i) = let one : len tree op ≡ 1 = rw q i.operator.one in omega (arith, one)
+
   -- both operands lie inside
   pub operands_fit : Some (InfixAt tree (ReadsExpr tree) at) → 3 + len tree (op + 4) + (3 + len tree (at + 3)) ≤ 3 + len tree at
   operands_fit (e, i) = let h : after tree (op + 4) ≡ after tree at = rw q i.ends in omega arith

@@ -4,17 +4,17 @@ use native.Mathlib.Omega.{arith}
 use mathlib.Core.Bool.{true, false}
 use mathlib.Core.List.{List, [], ◌∷◌, ◌++◌, reverse}
 use mathlib.Core.Path.{◌≡◌, refl, sym, ap, subst, ◌∙◌}
-use lib.ListN.{length, take, drop, replicate, length-append, length-replicate, length-reverse, get_or-append}
+use lib.ListN.{length, take, drop, replicate, length-append, length-replicate, length-reverse}
 use lib.Dec.{leb}
-use lib.Seq.{length_front}
+use Rattle.std.proofs.Common.{append-nil}
+use Rattle.std.proofs.Math.Seq.{take-length}
+use Rattle.std.proofs.Math.ListN.{drop_of_length-le}
 use borrow.Author.Tests.{le-leb}
 use Rattle.definition.specs.Basic.{Bytes, both}
-use Rattle.definition.specs.Limit.{session_size, code_size, table_size, tree_limit}
+use Rattle.definition.specs.Limit.{session_size, code_size, table_size}
 use Rattle.definition.specs.Number
 use Rattle.definition.specs.Number.{refusal, number_of}
 use Rattle.definition.specs.Tree.{read_tree}
-use Rattle.definition.specs.Walk.{Res, walk_stmts}
-use Rattle.definition.specs.Decode.{words_in}
 use Rattle.definition.specs.Compile.{enough}
 use Rattle.definition.specs.Call.{Lent, Called, cleared, request, call}
 use Rattle.definition.specs.Valid.{AreBytes}
@@ -27,41 +27,37 @@ use Rattle.field.specs.Layout.{after}
 use Rattle.tree.specs.Check.{Good, verdict}
 use Rattle.walk.proofs.Tree.{tree_short}
 use Rattle.compiler.specs.Promise.{Compiles}
-use Rattle.compiler.specs.Stage.{lent_of, Long, Lengths}
-use Rattle.compiler.proofs.Lent.{front_length, cleared_again}
-use Rattle.records.specs.Naming.{Names, names, naming}
+use Rattle.compiler.specs.Stage.{lent_of, Long}
+use Rattle.compiler.proofs.Lent.{front_length}
 use Rattle.records.specs.Call.{Recorded, unrecorded, over_records, call_records}
 use Rattle.records.specs.declared.Record.{Record}
 use Rattle.trace.specs.Log.{log_of}
-use Rattle.trace.specs.Pass.{Logs, PassesTree}
+use Rattle.trace.specs.Pass.{PassesTree}
 use Rattle.trace.specs.Promise.{few_of, LooksAhead, HasOlder, Used, Traces}
 use Rattle.trace.specs.declared.CallTrace.{CallTrace}
 use Rattle.trace.specs.declared.Outlook.{Outlook}
-use Rattle.trace.proofs.Entries.{logs_same}
-use Rattle.trace.proofs.Tree.{good_reads}
 use Rattle.trace.proofs.Ahead.{log_length}
 use Rattle.trace.proofs.Calls.{with_output, seen, used_records}
 use Rattle.trace.proofs.Accepts.{untraced-call, few_call, enough-refused, counted, AcceptedBy, accepted_by, cleared_twice, has-older, second_logs}
 
--- The first parts of lent memory
+-- Lent memory of just these sizes
 
-pub lengths : {e c : Bytes} {t : List ℕ} → Long e c t → Lengths (take session_size e) (take code_size c) (take table_size t)
-lengths {e} {c} {t} h = record { session = sym (front_length session_size e h.session); code = sym (front_length code_size c h.code); table = sym (front_length table_size t h.table) }
+-- all of a list that is so long
+pub take_all : {n : ℕ} (l : List ℕ) → length l ≡ n → take n l ≡ l
+take_all l h = rw (sym h) (take-length l)
 
-pub used_front : (n : ℕ) (a x : List ℕ) → n ≤ length a → length x ≡ length (take n a) → Used n a (x ++ drop n a)
-used_front n a x h k = record { size = length_front a x n k; clears = cleared_again n x a (k ∙ sym (front_length n a h)) }
+pub drop_all : {n : ℕ} (l : List ℕ) → length l ≡ n → drop n l ≡ []
+drop_all l h = drop_of_length-le l (omega arith)
 
--- the log in the whole code area
-pub passes_longer : {tree e : Bytes} {from end : ℕ} (l rest : Bytes) {n : ℕ} → verdict (read_tree tree) ≡ Good → length l ≡ code_size → PassesTree tree e from end l n → PassesTree tree e from end (l ++ rest) n
-passes_longer {tree} {e} {end = end} l rest {n} g k p =
-    record { logs = λ b m t h. longer (walk_stmts naming b (names (words_in (take end e)) [] h.names [])) (p.logs b m t h); fits = p.fits }
-  where
-    short : length tree ≤ tree_limit
-    short = let r = good_reads tree g in tree_short (r.body, record { end = r.end; reads = r.reads })
+-- zeros over all of it
+pub cleared_all : {n : ℕ} (l : List ℕ) {x : List ℕ} → length l ≡ n → x ≡ replicate (length l) 0 → x ≡ cleared n l
+cleared_all {n} l h e = e ∙ ap (λ k. replicate k 0) h ∙ sym (append-nil (replicate n 0)) ∙ ap (λ z. replicate n 0 ++ z) (sym (drop_all l h))
 
-    longer : (y : Res Names (Unit {0})) → Logs y l n → Logs y (l ++ rest) n
-    longer (Res.on a s) e = logs_same l (l ++ rest) n (λ i b. get_or-append l rest 0 i (omega (arith, short, p.fits))) ∙ e
-    longer (Res.stop r s) e = tt
+pub all_long : {e c : Bytes} {t : List ℕ} → length e ≡ session_size → length c ≡ code_size → length t ≡ table_size → Long e c t
+all_long h k l = record { session = omega arith; code = omega arith; table = omega arith }
+
+pub all_used : {n : ℕ} {a a' : List ℕ} → length a ≡ n → length a' ≡ n → Used n a a'
+all_used {n} {a} {a'} h k = record { size = k ∙ sym h; clears = ap (λ r. replicate n 0 ++ r) (drop_all a' k ∙ sym (drop_all a h)) }
 
 pub long_big : (tree o : Bytes) {e c : Bytes} {t : List ℕ} → Long e c t → enough (request (lent_of e o c t) tree) ≡ true
 long_big tree o {e} {c} {t} h = both_intro (le-leb code_size (length c) h.code) (both_intro (le-leb table_size (length t) h.table) (le-leb session_size (length e) h.session))
@@ -169,3 +165,8 @@ unfolding call_records
 short_traces {tree} {e} {o} {c} {t} h =
     let l = lent_of e o c t in
     untraced-call (λ rs j. pick_false _ (unrecorded rs (record { answer = Err (refusal Number.short_buffer 0); lent = l })) h)
+
+-- and what is lent has come back
+pub short_back : {tree e o c : Bytes} {t : List ℕ} {room : ℕ} {l : Lent} → both (leb code_size (length c)) (both (leb table_size (length t)) (leb session_size (length e))) ≡ false
+    → lent_of e o c t ≡ l → Traces tree (lent_of e o c t) room (Err (refusal Number.short_buffer 0)) l
+short_back {tree} {e} {o} {c} {t} {room} h q = subst (λ l. Traces tree (lent_of e o c t) room (Err (refusal Number.short_buffer 0)) l) q (short_traces h)

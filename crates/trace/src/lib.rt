@@ -4,17 +4,17 @@
 pub mod log;
 mod pass;
 
-ghost use Rattle.std.specs.Prelude.{◌≡◌, ℕ, ◌+◌, ◌<◌, ◌≤◌, take, Err};
-ghost use Rattle.definition.specs.Limit.{session_size, code_size, table_size};
+ghost use Rattle.std.specs.Prelude.{◌≡◌, ℕ, ◌+◌, ◌<◌, ◌≤◌, length, Err};
+ghost use Rattle.definition.specs.Limit.{session_size, code_size};
 ghost use Rattle.field.specs.Layout.{after};
 ghost use Rattle.definition.specs.Tree.{read_tree};
 ghost use Rattle.tree.specs.Check.{Good, verdict};
-ghost use Rattle.compiler.specs.Stage.{lent_of, Long, Lengths};
+ghost use Rattle.compiler.specs.Stage.{lent_of};
 ghost use Rattle.trace.specs.Pass.{PassesTree};
-ghost use Rattle.trace.specs.Promise.{few_of, LooksAhead, HasOlder, Used, Traces};
+ghost use Rattle.trace.specs.Promise.{few_of, LooksAhead, HasOlder, Traces};
 
 use bytecode::read_layout;
-use compiler::{clear_table, compile, long_enough};
+use compiler::compile;
 use definition::limit::{CODE_SIZE, SESSION_SIZE, TABLE_SIZE};
 use definition::{Reason, Refusal, refused};
 use field::after_at;
@@ -36,9 +36,13 @@ pub struct Outlook {
     pub names: usize,
 }
 
-// The pass over a tree's names before it is compiled, in buffers of just these sizes.
-fn look_ahead(session: &[u8], tree: &[u8], code: &mut [u8], table: &mut [u32]) -> Outlook
-    requires { Lengths session.now code.old table.old }
+// The pass over a tree's names before it is compiled: it uses the work areas.
+fn look_ahead(
+    session: &[u8; SESSION_SIZE],
+    tree: &[u8],
+    code: &mut [u8; CODE_SIZE],
+    table: &mut [u32; TABLE_SIZE],
+) -> Outlook
     ensures { LooksAhead tree.now session.now result }
 {
     let Some(layout) = read_layout(session) else {
@@ -56,10 +60,15 @@ fn look_ahead(session: &[u8], tree: &[u8], code: &mut [u8], table: &mut [u32]) -
     }
 }
 
-// The pass over the names of a tree that was accepted, from the first `names` bytes of the session's names.
-// Kept: that the tree is sound, here, at `log_lent` and `name_tree`: a struct of a checked tree would be made once and taken apart at once.
-fn log_names(session: &[u8], tree: &[u8], code: &mut [u8], table: &mut [u32], names: usize) -> usize
-    requires lengths { Lengths session.now code.old table.old }
+// The pass over the names of an accepted tree, from the first `names` bytes of the session's names: the log is left in the code area.
+// Kept: that the tree is sound, here and at `name_tree`: a struct of a checked tree would be made once and taken apart at once.
+fn log_names(
+    session: &[u8; SESSION_SIZE],
+    tree: &[u8],
+    code: &mut [u8; CODE_SIZE],
+    table: &mut [u32; TABLE_SIZE],
+    names: usize,
+) -> usize
     requires has_older { HasOlder session.now names }
     requires tree_value { verdict (read_tree tree.now) ≡ Good }
     ensures { PassesTree tree.now session.now (after session.now 0 + 3) (after session.now 0 + 3 + names) code.new result }
@@ -87,65 +96,32 @@ fn few(answer: Result<usize, Refusal>) -> Refusal
     }
 }
 
-// The pass before a tree is compiled, in buffers that are large enough: it uses the work areas.
-fn look_lent(session: &[u8], tree: &[u8], code: &mut [u8], table: &mut [u32]) -> Outlook
-    requires { Long session.now code.old table.old }
-    ensures ahead { LooksAhead tree.now (take session_size session.now) result }
-    ensures code { Used code_size code.old code.new }
-    ensures table { Used table_size table.old table.new }
-{
-    look_ahead(
-        &session[..SESSION_SIZE],
-        tree,
-        &mut code[..CODE_SIZE],
-        &mut table[..TABLE_SIZE],
-    )
-}
-
-// The pass after a tree was accepted, in buffers that are large enough: the log is left in the code area.
-fn log_lent(session: &[u8], tree: &[u8], code: &mut [u8], table: &mut [u32], names: usize) -> usize
-    requires long { Long session.now code.old table.old }
-    requires has_older { HasOlder (take session_size session.now) names }
-    requires tree_value { verdict (read_tree tree.now) ≡ Good }
-    ensures passes { PassesTree tree.now (take session_size session.now) (after (take session_size session.now) 0 + 3) (after (take session_size session.now) 0 + 3 + names) code.new result }
-    ensures code { Used code_size code.old code.new }
-    ensures table { Used table_size table.old table.new }
-{
-    log_names(
-        &session[..SESSION_SIZE],
-        tree,
-        &mut code[..CODE_SIZE],
-        &mut table[..TABLE_SIZE],
-        names,
-    )
-}
-
-// Compiles a tree, and logs the records of one that is accepted, in buffers that are large enough. With fewer records than Identifiers it
-// compiles without an output, so that no tree is accepted.
-fn trace_lent(
-    session: &mut [u8],
+// Compiles a tree, and logs the records of one that is accepted, in buffers of just these sizes.
+// With fewer records than Identifiers it compiles without an output, so that no tree is accepted.
+fn trace_in(
+    session: &mut [u8; SESSION_SIZE],
     tree: &[u8],
     output: &mut [u8],
-    code: &mut [u8],
-    table: &mut [u32],
+    code: &mut [u8; CODE_SIZE],
+    table: &mut [u32; TABLE_SIZE],
     room: usize,
 ) -> Result<CallTrace, Refusal>
-    requires { Long session.old code.old table.old }
-    ensures { Traces tree.now (lent_of session.old output.old code.old table.old) room result (lent_of session.new output.new code.new table.new) }
+    ensures traces { Traces tree.now (lent_of session.old output.old code.old table.old) room result (lent_of session.new output.new code.new table.new) }
+    ensures sizes { (length session.new ≡ session_size) × (length code.new ≡ code_size) }
 {
-    let ahead = look_lent(session, tree, code, table);
+    let ahead = look_ahead(session, tree, code, table);
     if room < ahead.count {
         let answer = compile(session, tree, &mut output[..0], code, table);
         return Err(few(answer));
     }
     let length = compile(session, tree, output, code, table)?;
-    let count = log_lent(session, tree, code, table, ahead.names);
-    clear_table(table);
+    let count = log_names(session, tree, code, table, ahead.names);
+    table.fill(0);
     Ok(CallTrace { length, count })
 }
 
-// Compiles a tree in a session with so many records, and leaves all as such a call does but for two things: the records to be written are in a log at
-// the front of the code area, and the log is still to be cleared.
+// Compiles a tree in a session with so many records, and leaves all as such a call does but for two things:
+// the records to be written are in a log at the front of the code area, and the log is still to be cleared.
 // Kept: the slices one by one, here and above, as C lends them and `compile` takes them: a struct would be taken apart at each call.
 pub fn compile_log(
     session: &mut [u8],
@@ -157,8 +133,14 @@ pub fn compile_log(
 ) -> Result<CallTrace, Refusal>
     ensures { Traces tree.now (lent_of session.old output.old code.old table.old) room result (lent_of session.new output.new code.new table.new) }
 {
-    if long_enough(session, code, table) {
-        return trace_lent(session, tree, output, code, table, room);
-    }
-    refused(Reason::ShortBuffer, 0)
+    let Some(session) = session.first_chunk_mut() else {
+        return refused(Reason::ShortBuffer, 0);
+    };
+    let Some(code) = code.first_chunk_mut() else {
+        return refused(Reason::ShortBuffer, 0);
+    };
+    let Some(table) = table.first_chunk_mut() else {
+        return refused(Reason::ShortBuffer, 0);
+    };
+    trace_in(session, tree, output, code, table, room)
 }

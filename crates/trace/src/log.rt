@@ -9,7 +9,7 @@ use records::{Kind, Record};
 use symbol_table::{Found, Symbol};
 
 // Writes record n behind those before it: an Identifier's offset, and what its lookup found.
-// Kept: packed by hand, four bytes for each record, since the log is a part of the code area, which is lent.
+// Kept: packed by hand, here and in `record_at`, four bytes for each record, since the log is a part of the code area, which is lent.
 pub fn put_entry(log: &mut [u8], n: usize, at: usize, found: Found)
     requires n_in_bounds { 4 * n + 4 ≤ length log.old }
     requires at_lt_tree_limit { at < tree_limit }

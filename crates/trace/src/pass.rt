@@ -2,21 +2,20 @@
 ghost use Rattle.std.specs.Prelude.{◌≡◌, ◌+◌, ◌-◌, ◌≤◌, length, take};
 ghost use Rattle.definition.specs.Limit.{session_size, code_size, table_size};
 ghost use Rattle.definition.specs.Walk.{walk_stmt, walk_expr};
-ghost use Rattle.field.specs.Layout.{Whole, len, content};
-ghost use Rattle.tree.specs.At.{LetAt, InfixAt, FunctionAt};
 ghost use Rattle.tree.specs.Check.{Good, verdict};
 ghost use Rattle.definition.specs.Tree.{read_tree};
-ghost use Rattle.tree.specs.Reads.{Some, ReadsExpr, ReadsBlock};
+ghost use Rattle.tree.specs.Reads.{Some};
 ghost use Rattle.symbol_table.specs.Contract.{HasWords, HasItems};
-ghost use Rattle.records.specs.Naming.{naming, look_up};
-ghost use Rattle.trace.specs.Pass.{is_parent, walk_node, walk_nodes, ReadsNode, ReadsNodes, PassesTree, Anything};
-ghost use Rattle.trace.specs.Namer.{Stands, Names};
+ghost use Rattle.walk.specs.Parts.{Let, Infix, Function};
+ghost use Rattle.records.specs.Naming.{naming};
+ghost use Rattle.trace.specs.Pass.{is_parent, walk_node, walk_nodes, ReadsNode, ReadsNodes, PassesTree};
+ghost use Rattle.trace.specs.Namer.{Stands, StandsAt, Names, NamesAt, NamesRow, LogsAt};
 
 use super::log::put_entry;
 use definition::limit::{ARGUMENTS_LIMIT, NESTING_LIMIT};
 use definition::operator::LESS_THAN;
 use definition::tag;
-use field::after_at;
+use field::Field;
 use field::fields::Fields;
 use symbol_table::{Key, define, enter, resolve_name, start_from};
 use tree::count_fields;
@@ -47,96 +46,99 @@ struct Namer<'a> {
     count: usize,
 }
 
-// Kept: tree, names and level stay parameters, and what stands well is a clause of each method: a struct of the four slices would say in
-// each promise that tree and names are as they were, and the level differs inside a function.
+// Kept: names and level apart, the rest as clauses: in a struct each promise would say that the names are as they were; the level differs.
 impl<'a> Namer<'a> {
     // Looks an Identifier up, and logs its record.
-    fn log_identifier(&mut self, tree: &[u8], names: &[u8], level: usize, at: usize)
-        requires whole { Whole tree.now at }
-        requires standing { Stands tree.now names.now level self.old 4 }
-        ensures { Names tree.now names.now level Anything (λ _. look_up at (content tree.now at)) 4 self.old self.new }
+    fn log_identifier(&mut self, field: Field<'_>, names: &[u8], level: usize)
+        requires standing { Stands field.bytes.now names.now level self.old 4 }
+        ensures { LogsAt field.entry names.now level self.old self.new }
     {
-        if let Ok(found) = resolve_name(Key::new(tree, at), names, self.table, level) {
-            put_entry(self.log, self.count, at, found);
+        let key = Key::new(field.bytes, field.at);
+        if let Ok(found) = resolve_name(key, names, self.table, level) {
+            put_entry(self.log, self.count, field.at, found);
             self.count += 1;
         }
     }
 
-    // Logs the records of what stands at `at`.
+    // Logs the records of what stands at a field.
     #[cycle(pass)]
-    fn name_field(&mut self, tree: &[u8], names: &[u8], level: usize, at: usize)
-        requires some { Some (ReadsNode tree.now at) }
-        requires standing { Stands tree.now names.now level self.old (3 + len tree.now at) }
-        ensures { Names tree.now names.now level (ReadsNode tree.now at) walk_node (3 + len tree.now at) self.old self.new }
+    fn name_field(&mut self, field: Field<'_>, names: &[u8], level: usize)
+        requires some { Some (ReadsNode field.bytes.now field.at) }
+        requires standing { StandsAt field names.now level self.old }
+        ensures { NamesAt field.entry ReadsNode walk_node names.now level self.old self.new }
     {
-        match tree[at] {
-            tag::IDENTIFIER => self.log_identifier(tree, names, level, at),
-            tag::LET => self.name_let(tree, names, level, at),
-            tag::FUNCTION => self.name_function(tree, names, level, at),
-            tag::INFIX => self.name_infix(tree, names, level, at),
-            t if has_children(t) => {
-                let end = after_at(tree, at);
-                self.name_row(tree, names, level, at + 3, end)
-            }
+        match field.bytes[field.at] {
+            tag::IDENTIFIER => self.log_identifier(field, names, level),
+            tag::LET => self.name_let(field, names, level),
+            tag::FUNCTION => self.name_function(field, names, level),
+            tag::INFIX => self.name_infix(field, names, level),
+            t if has_children(t) => self.name_row(field.children(), names, level),
             _ => {}
         }
     }
 
-    // Logs the records of the fields from an offset up to an end.
+    // Logs the records of fields in a row.
     #[cycle(pass)]
-    fn name_row(&mut self, tree: &[u8], names: &[u8], level: usize, from: usize, end: usize)
-        requires some { Some (ReadsNodes tree.now from end) }
-        requires standing { Stands tree.now names.now level self.old (end - from) }
-        ensures { Names tree.now names.now level (ReadsNodes tree.now from end) walk_nodes (end - from) self.old self.new }
+    fn name_row(&mut self, fields: Fields<'_>, names: &[u8], level: usize)
+        requires some { Some (ReadsNodes fields.bytes.now fields.at fields.end) }
+        requires standing { Stands fields.bytes.now names.now level self.old (fields.end - fields.at) }
+        ensures { NamesRow fields.entry names.now level self.old self.new }
     {
-        for at in Fields::new(tree, from, end) {
-            self.name_field(tree, names, level, at);
+        for at in fields {
+            let field = Field {
+                bytes: fields.bytes,
+                at,
+            };
+            self.name_field(field, names, level);
         }
     }
 
     // A let: its name is defined before its value.
     #[cycle(pass)]
-    fn name_let(&mut self, tree: &[u8], names: &[u8], level: usize, at: usize)
-        requires some { Some (LetAt tree.now (ReadsExpr tree.now) at) }
-        requires standing { Stands tree.now names.now level self.old (3 + len tree.now at) }
-        ensures { Names tree.now names.now level (LetAt tree.now (ReadsExpr tree.now) at) (walk_stmt naming) (3 + len tree.now at) self.old self.new }
+    fn name_let(&mut self, field: Field<'_>, names: &[u8], level: usize)
+        requires some { Some (Let field.bytes.now field.at) }
+        requires standing { StandsAt field names.now level self.old }
+        ensures { NamesAt field.entry Let (walk_stmt naming) names.now level self.old self.new }
     {
-        let end = after_at(tree, at);
-        let _ = define(Key::new(tree, at + 3), self.table, level);
-        self.name_row(tree, names, level, at + 3, end)
+        let name = field.first();
+        let _ = define(Key::new(name.bytes, name.at), self.table, level);
+        self.name_row(field.children(), names, level)
     }
 
     // An infix: for `<` its right operand comes first.
     #[cycle(pass)]
-    fn name_infix(&mut self, tree: &[u8], names: &[u8], level: usize, at: usize)
-        requires some { Some (InfixAt tree.now (ReadsExpr tree.now) at) }
-        requires standing { Stands tree.now names.now level self.old (3 + len tree.now at) }
-        ensures { Names tree.now names.now level (InfixAt tree.now (ReadsExpr tree.now) at) (walk_expr naming) (3 + len tree.now at) self.old self.new }
+    fn name_infix(&mut self, field: Field<'_>, names: &[u8], level: usize)
+        requires some { Some (Infix field.bytes.now field.at) }
+        requires standing { StandsAt field names.now level self.old }
+        ensures { NamesAt field.entry Infix (walk_expr naming) names.now level self.old self.new }
     {
-        let op = after_at(tree, at + 3);
-        if tree[op + 3] == LESS_THAN {
-            self.name_field(tree, names, level, op + 4);
-            return self.name_field(tree, names, level, at + 3);
+        let left = field.first();
+        let op = left.next();
+        if field.bytes[op.at + 3] == LESS_THAN {
+            self.name_field(op.next(), names, level);
+            return self.name_field(left, names, level);
         }
-        let end = after_at(tree, at);
-        self.name_row(tree, names, level, at + 3, end)
+        self.name_row(field.children(), names, level)
     }
 
     // A function: its body, with a table of its own.
     #[cycle(pass)]
-    fn name_function(&mut self, tree: &[u8], names: &[u8], level: usize, at: usize)
-        requires some { Some (FunctionAt tree.now (ReadsBlock tree.now) at) }
-        requires standing { Stands tree.now names.now level self.old (3 + len tree.now at) }
-        ensures { Names tree.now names.now level (FunctionAt tree.now (ReadsBlock tree.now) at) (walk_expr naming) (3 + len tree.now at) self.old self.new }
+    fn name_function(&mut self, field: Field<'_>, names: &[u8], level: usize)
+        requires some { Some (Function field.bytes.now field.at) }
+        requires standing { StandsAt field names.now level self.old }
+        ensures { NamesAt field.entry Function (walk_expr naming) names.now level self.old self.new }
     {
-        let params = after_at(tree, at + 3);
-        let body = after_at(tree, params);
-        let k = count_fields(tree, params + 3, body);
+        let name = field.first();
+        let params = name.next();
+        let body = params.next();
+        let row = params.children();
+        let k = count_fields(row);
         if NESTING_LIMIT <= level || ARGUMENTS_LIMIT < k {
             return;
         }
-        enter(Key::new(tree, at + 3), self.table, level, params + 3, body);
-        self.name_field(tree, names, level + 1, body)
+        let key = Key::new(name.bytes, name.at);
+        enter(key, self.table, level, row.at, row.end);
+        self.name_field(body, names, level + 1);
     }
 
     // Logs the records of a whole tree; the slices are those that were lent.
@@ -147,7 +149,7 @@ impl<'a> Namer<'a> {
         ensures same_table { self.new.table.ghost_name ≡ self.old.table.ghost_name }
         ensures same_log { self.new.log.ghost_name ≡ self.old.log.ghost_name }
     {
-        self.name_row(tree, names, 0, 3, tree.len())
+        self.name_row(Fields::new(tree, 3, tree.len()), names, 0)
     }
 }
 

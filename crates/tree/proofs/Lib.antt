@@ -1,4 +1,5 @@
 pub mod Content
+pub mod Cut
 pub mod Parts
 pub mod Stood
 pub mod Stands

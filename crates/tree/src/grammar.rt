@@ -16,144 +16,119 @@ pub struct Wanted {
     pub ends: bool,
 }
 
-const STATEMENT_OR_END: Option<Wanted> = Some(Wanted {
+const STATEMENT_OR_END: Wanted = Wanted {
     low: tag::EXPR_STMT,
     high: tag::RETURN,
     least: 0,
     ends: true,
-});
+};
 
-const BLOCK: Option<Wanted> = Some(Wanted {
+const BLOCK: Wanted = Wanted {
     low: tag::BLOCK,
     high: tag::BLOCK,
     least: 0,
     ends: false,
-});
+};
 
-const BLOCK_OR_END: Option<Wanted> = Some(Wanted {
-    low: tag::BLOCK,
-    high: tag::BLOCK,
-    least: 0,
+const BLOCK_OR_END: Wanted = Wanted {
     ends: true,
-});
+    ..BLOCK
+};
 
-const EXPRESSION: Option<Wanted> = Some(Wanted {
+const EXPRESSION: Wanted = Wanted {
     low: tag::IDENTIFIER,
     high: tag::MACRO,
     least: 0,
     ends: false,
-});
+};
 
-const EXPRESSION_OR_END: Option<Wanted> = Some(Wanted {
-    low: tag::IDENTIFIER,
-    high: tag::MACRO,
-    least: 0,
+const EXPRESSION_OR_END: Wanted = Wanted {
     ends: true,
-});
+    ..EXPRESSION
+};
 
-const NAME: Option<Wanted> = Some(Wanted {
+const NAME: Wanted = Wanted {
     low: tag::NAME,
     high: tag::NAME,
     least: 1,
     ends: false,
-});
+};
 
-const NAME_OR_EMPTY: Option<Wanted> = Some(Wanted {
-    low: tag::NAME,
-    high: tag::NAME,
-    least: 0,
-    ends: false,
-});
+const NAME_OR_EMPTY: Wanted = Wanted { least: 0, ..NAME };
 
-const NAME_OR_END: Option<Wanted> = Some(Wanted {
-    low: tag::NAME,
-    high: tag::NAME,
-    least: 1,
-    ends: true,
-});
+const NAME_OR_END: Wanted = Wanted { ends: true, ..NAME };
 
-const PARAMS: Option<Wanted> = Some(Wanted {
+const PARAMS: Wanted = Wanted {
     low: tag::PARAMS,
     high: tag::PARAMS,
     least: 0,
     ends: false,
-});
+};
 
-const OPERATOR: Option<Wanted> = Some(Wanted {
+const OPERATOR: Wanted = Wanted {
     low: tag::OPERATOR,
     high: tag::OPERATOR,
     least: 0,
     ends: false,
-});
+};
 
 // What the children of each tag must be, or that there are none: the first four, and then the same again.
-static OF_BLOCK: [Option<Wanted>; 4] = [STATEMENT_OR_END; 4];
+static OF_BLOCK: [Option<Wanted>; 4] = [Some(STATEMENT_OR_END); 4];
 
-static OF_VALUE: [Option<Wanted>; 4] = [EXPRESSION, None, None, None];
+static OF_VALUE: [Option<Wanted>; 4] = [Some(EXPRESSION), None, None, None];
 
-static OF_LET: [Option<Wanted>; 4] = [NAME, EXPRESSION, None, None];
+static OF_LET: [Option<Wanted>; 4] = [Some(NAME), Some(EXPRESSION), None, None];
 
-static OF_PREFIX: [Option<Wanted>; 4] = [OPERATOR, EXPRESSION, None, None];
+static OF_PREFIX: [Option<Wanted>; 4] = [Some(OPERATOR), Some(EXPRESSION), None, None];
 
-static OF_INFIX: [Option<Wanted>; 4] = [EXPRESSION, OPERATOR, EXPRESSION, None];
+static OF_INFIX: [Option<Wanted>; 4] = [Some(EXPRESSION), Some(OPERATOR), Some(EXPRESSION), None];
 
-static OF_IF: [Option<Wanted>; 4] = [EXPRESSION, BLOCK, BLOCK_OR_END, None];
+static OF_IF: [Option<Wanted>; 4] = [Some(EXPRESSION), Some(BLOCK), Some(BLOCK_OR_END), None];
 
-static OF_FUNCTION: [Option<Wanted>; 4] = [NAME_OR_EMPTY, PARAMS, BLOCK, None];
+static OF_FUNCTION: [Option<Wanted>; 4] = [Some(NAME_OR_EMPTY), Some(PARAMS), Some(BLOCK), None];
 
-static OF_LIST: [Option<Wanted>; 4] = [EXPRESSION_OR_END; 4];
+static OF_LIST: [Option<Wanted>; 4] = [Some(EXPRESSION_OR_END); 4];
 
-static OF_INDEX: [Option<Wanted>; 4] = [EXPRESSION, EXPRESSION, None, None];
+static OF_INDEX: [Option<Wanted>; 4] = [Some(EXPRESSION), Some(EXPRESSION), None, None];
 
 static OF_HASH: [Option<Wanted>; 4] = [
-    EXPRESSION_OR_END,
-    EXPRESSION,
-    EXPRESSION_OR_END,
-    EXPRESSION,
+    Some(EXPRESSION_OR_END),
+    Some(EXPRESSION),
+    Some(EXPRESSION_OR_END),
+    Some(EXPRESSION),
 ];
 
-static OF_MACRO: [Option<Wanted>; 4] = [PARAMS, BLOCK, None, None];
+static OF_MACRO: [Option<Wanted>; 4] = [Some(PARAMS), Some(BLOCK), None, None];
 
-static OF_PARAMS: [Option<Wanted>; 4] = [NAME_OR_END; 4];
+static OF_PARAMS: [Option<Wanted>; 4] = [Some(NAME_OR_END); 4];
 
 static OF_OTHERS: [Option<Wanted>; 4] = [None; 4];
-
-// Whether a number lies between two others, both of them in.
-fn within(low: usize, x: usize, high: usize) -> bool
-    ensures { result ≡ both (leb low x) (leb x high) }
-{
-    (low <= x) & (x <= high)
-}
 
 // Whether a field may have this tag.
 pub fn good_tag(wanted: Wanted, t: u8) -> bool
     ensures { result ≡ good_tag wanted t }
 {
-    (wanted.low <= t) & (t <= wanted.high)
+    (wanted.low..=wanted.high).contains(&t)
 }
 
-// Whether the content at `from` is one byte, and at most so much.
-fn good_byte(tree: &[u8], from: usize, len: usize, most: u8) -> bool
-    requires { from + len ≤ length tree.now }
-    ensures { result ≡ good_byte len (byte_at tree.now from) most }
+// Whether a content is one byte, and at most so much.
+fn good_byte(content: &[u8], most: u8) -> bool
+    ensures { result ≡ good_byte (length content.now) (byte_at content.now 0) most }
 {
-    if len != 1 {
-        return false;
-    }
-    tree[from] <= most
+    matches!(content, [b] if *b <= most)
 }
 
-// Whether a field of a tag may have the content at `from`: its length, and a boolean's or an operator's byte.
-pub fn good_content(tree: &[u8], wanted: Wanted, t: u8, from: usize, len: usize) -> bool
-    requires { from + len ≤ length tree.now }
-    ensures { result ≡ good_content wanted t len (byte_at tree.now from) }
+// Whether a field of a tag may have this content: its length, and a boolean's or an operator's byte.
+pub fn good_content(content: &[u8], wanted: Wanted, t: u8) -> bool
+    ensures { result ≡ good_content wanted t (length content.now) (byte_at content.now 0) }
 {
+    let len = content.len();
     match t {
-        tag::IDENTIFIER => within(1, len, NAME_LIMIT),
+        tag::IDENTIFIER => (1..=NAME_LIMIT).contains(&len),
         tag::INTEGER => len == 8,
-        tag::BOOLEAN => good_byte(tree, from, len, 1),
-        tag::NAME => within(wanted.least, len, NAME_LIMIT),
-        tag::OPERATOR => good_byte(tree, from, len, operator::GREATER_THAN),
+        tag::BOOLEAN => good_byte(content, 1),
+        tag::NAME => (wanted.least..=NAME_LIMIT).contains(&len),
+        tag::OPERATOR => good_byte(content, operator::GREATER_THAN),
         _ => true,
     }
 }

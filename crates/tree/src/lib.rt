@@ -1,4 +1,4 @@
-// The tree check: a tree is good, or refused 3 or 4 at its place; and the readers of fields that the compiler uses afterwards.
+// The tree check: a tree is good, or refused 3 or 4 at its place; and a count of fields, which the compiler uses afterwards.
 #![tactic(auto)]
 
 use definition::limit::{LEVEL_LIMIT, TREE_LIMIT};
@@ -18,7 +18,8 @@ ghost use Rattle.tree.specs.Check.{verdict, bad_tree, too_deep, outcome_of, good
 use grammar::{Wanted, child_kinds, good_content, good_tag, is_leaf};
 
 // A refusal 3 at a place as a number; 0 stands for none.
-// Kept: tried with Result and `?`: the check of a tree takes 20 % more instructions, and a call on 30 KB of closures 5 %; the bar is 3 %.
+// Kept: here, in `deep`, `outcome` and `check_children`: tried with Result and `?`: the check of a tree takes 20 % more instructions,
+// and a call on 30 KB of closures 5 %; the bar is 3 %.
 fn bad(at: usize) -> usize
     requires { at ≤ tree_limit }
     ensures { outcome_of result ≡ bad_tree at }
@@ -48,7 +49,7 @@ fn outcome(n: usize) -> Result<(), Refusal>
 }
 
 // Whether a whole field that is wanted stands at `at`, before `end`: its tag, its length and its own bytes.
-// Kept: offsets and no slice: `length_before`, with which sections are read too, takes them, and `good_wanted` is said of them.
+// Kept: offsets and no slice: `check_all` says `good_wanted` at offsets of the whole tree; a slice would need a lemma that moves it there.
 fn good_field(tree: &[u8], wanted: Wanted, at: usize, end: usize) -> bool
     requires { (at ≤ end) × (end ≤ length tree.now) }
     ensures { result ≡ good_wanted (byte_at tree.now) wanted at end }
@@ -60,12 +61,14 @@ fn good_field(tree: &[u8], wanted: Wanted, at: usize, end: usize) -> bool
     if !good_tag(wanted, t) {
         return false;
     }
-    good_content(tree, wanted, t, at + 3, len)
+    let from = at + 3;
+    good_content(&tree[from..from + len], wanted, t)
 }
 
-// The children of the field at `parent`, whose content goes up to `end`, in order; then whether one is missing. The answer is a refusal's number.
+// The children of the field at `parent`, whose content goes up to `end`, in order; then whether one is missing. The answer is a
+// refusal's number.
 // Kept: `field::fields::Fields` goes over fields that are known to be whole, and here each is tested before the next can be found.
-// Kept: `k` is counted beside `at`: `kinds.iter().cycle()` would answer an `Option` that is never `None`, and `k` is read behind the loop.
+// Kept: `k` is counted beside `at`: `kinds.iter().cycle()` would answer an `Option` that is never `None`.
 fn check_children(tree: &[u8], levels: usize, parent: usize, end: usize) -> usize
     requires { (parent + 3 ≤ end) × (end ≤ length tree.now) × (end ≤ tree_limit) }
     ensures { outcome_of result ≡ check_all (byte_at tree.now) levels parent end }
@@ -116,11 +119,10 @@ pub fn check(tree: &[u8]) -> Result<(), Refusal>
     outcome(check_children(tree, LEVEL_LIMIT - 1, 0, n))
 }
 
-// How many fields stand in a row, from an offset up to an end.
-// Kept: both offsets, as `Fields` takes them.
-pub fn count_fields(tree: &[u8], from: usize, end: usize) -> usize
-    requires { Some (InRow tree.now from end) }
-    ensures { Counted tree.now from end result }
+// How many fields there are.
+pub fn count_fields(fields: Fields<'_>) -> usize
+    requires { Some (InRow fields.bytes.now fields.at fields.end) }
+    ensures { Counted fields.entry.bytes.now fields.entry.at fields.entry.end result }
 {
-    Fields::new(tree, from, end).count()
+    fields.count()
 }

@@ -34,17 +34,17 @@ use Rattle.trial.specs.Cells.{Keeping, work_size, stack_limit}
 use Rattle.trial.specs.Machine.{Safe, EndsAs}
 use Rattle.trial.specs.Call.{first_refused, refused_with, Outcome, trial_outcome, taken_outcome, judged_outcome, image_outcome, run_outcome, outcome_answer, outcome_into, work_after, scan_answer}
 use Rattle.trial.specs.declared.Ran.{Ran}
-use Rattle.trial.proofs.CodeLoop.{Sound, one_image, main_parts}
+use Rattle.trial.proofs.CodeLoop.{Sound, one_image, main_code}
 use Rattle.trial.proofs.Scanning.{all_taken, taken_runs, taken-low, named_small}
 
 -- main can be gone over
-pub marks_ready : (b : Bytes) {end pool : ℕ} → Sound b end pool → ChunkReady (replicate 65536 0) b 3 end
+pub marks_ready : (b : Bytes) {end : ℕ} → Sound b end → ChunkReady (replicate 65536 0) b 3 end
 marks_ready b {end} h =
-    let p = main_parts b h.reads h.ends h.pools in
+    let p = main_code b h.reads h.ends in
     record {
-      code = record { code = h.image.code; is = p.code };
-      room = omega (arith, length-replicate {A = ℕ} 65536 0, p.code.within, h.short);
-      short = omega (arith, p.code.within, h.short);
+      code = record { code = h.image.code; is = p };
+      room = omega (arith, length-replicate {A = ℕ} 65536 0, p.within, h.short);
+      short = omega (arith, p.within, h.short);
       blank = record { zero = λ k _. one_element 0 65536 k };
     }
 

@@ -1,19 +1,21 @@
 -- A loop over the instructions of main, which stands from 3 on.
-use Rattle.std.proofs.Common.{◌≡◌, ℕ, ◌+◌, ◌-◌, ◌<◌, ◌≤◌, [], ◌∷◌, length, sym, refl, ap, ◌∙◌, subst, arith}
+use Rattle.std.proofs.Common.{◌≡◌, ℕ, ◌+◌, ◌-◌, ◌<◌, ◌≤◌, List, [], ◌∷◌, length, sym, refl, ap, ◌∙◌, subst, arith}
 use Rattle.definition.specs.Basic.{Bytes, byte_at}
 use Rattle.definition.specs.Field.{head}
 use Rattle.definition.specs.Opcode.{Instr, size}
-use Rattle.definition.specs.Bytecode.{Code, size_of, Image}
+use Rattle.definition.specs.Bytecode.{Code, size_of, Const, Image}
 use Rattle.definition.specs.Decode.{decoded, read_instr}
 use Rattle.definition.specs.Trusted.{Stands}
 use Rattle.definition.specs.declared.reason.Refusal.{Refusal}
 use Rattle.opcode.specs.Decoding.{instr_of, decode_answer, read_before}
 use Rattle.opcode.specs.declared.Instruction.{Instruction}
 use Rattle.opcode.proofs.EachInstruction.{ReadAt}
-use Rattle.listing.specs.Reads.{CodeAt, PoolAt, ImageAt}
+use Rattle.bytecode.specs.declared.span.Parts.{Parts}
+use Rattle.bytecode.specs.Parts.{Divides}
+use Rattle.listing.specs.Reads.{CodeAt, PoolAt, PoolIn, ImageAt}
 use Rattle.listing.proofs.Items.{Reading, begins, ends, Next, next, all_read}
 use Rattle.listing.proofs.Lines.{whole-read}
-use Rattle.listing.proofs.Images.{parts, image_short, has_image}
+use Rattle.listing.proofs.Images.{parts, pool_in, image_short, has_image}
 use Rattle.opcode.proofs.Decoding.{before_within, answered, unanswered}
 use Rattle.std.specs.Prelude.{Err}
 use Rattle.trial.specs.declared.pool.Program.{Program}
@@ -22,33 +24,37 @@ use Rattle.trial.specs.declared.pool.Program.{Program}
 pub one_image : {b : Bytes} {m n : Image} → ImageAt b m → ImageAt b n → m ≡ n
 one_image {b} {m} {n} h k = let e : decoded m (length b) ≡ decoded n (length b) = sym h.reads ∙ k.reads in cc
 
--- the parts of an image whose main ends at an offset
-pub record MainParts (b : Bytes) (end pool : ℕ) (m : Image) : Type 0 where
-  pub code : CodeAt b 3 end m.code
-  pub pools : PoolAt b pool (length b) m.pool
+-- main of an image whose main ends at an offset
+pub main_code : (b : Bytes) {end : ℕ} {m : Image} → ImageAt b m → end ≡ 3 + (head (byte_at b) 0).len → CodeAt b 3 end m.code
+main_code b {end} {m} i e = subst (λ n. CodeAt b 3 n m.code) (sym e) (parts b i refl).code
 
-pub main_parts : (b : Bytes) {end pool : ℕ} {m : Image} → ImageAt b m → end ≡ 3 + (head (byte_at b) 0).len → pool ≡ end + 3 → MainParts b end pool m
-main_parts b {end} {pool} {m} i e q =
-    let p = parts b i refl in
-    record {
-      code = subst (λ n. CodeAt b 3 n m.code) (sym e) p.code;
-      pools = subst (λ n. PoolAt b n (length b) m.pool) (sym (q ∙ ap (λ n. n + 3) e)) p.pool;
-    }
+-- the image that bytes are, in their parts
+pub read_in : {b : Bytes} {p : Parts} → Divides b p → {m : Image} → ImageAt b m → ImageAt p.code.bytes.now m
+read_in d {m} h = subst (λ b. ImageAt b m) (sym d.main) h
 
--- a program by its bytes and offsets, with the image that they are
-pub record Sound (b : Bytes) (end pool : ℕ) : Type 0 where
+-- a program by its bytes and main's end, with the image that they are
+pub record Sound (b : Bytes) (end : ℕ) : Type 0 where
   pub image : Image
   pub reads : ImageAt b image
   pub ends : end ≡ 3 + (head (byte_at b) 0).len
-  pub pools : pool ≡ end + 3
   pub short : length b ≤ 65535
 
-pub sound : (p : Program) → Sound p.image.now p.end p.pool
-sound p = let h = has_image p.image.now p.sound in record { image = h.image; reads = h.is; ends = p.code_ends; pools = p.pool_starts; short = omega (arith, image_short p.image.now h.is) }
+pub sound : (p : Program) → Sound p.parts.code.bytes.now p.parts.code.end
+sound p =
+    let b = p.parts.code.bytes.now in
+    let h = has_image b p.sound in
+    record { image = h.image; reads = h.is; ends = p.divides.behind; short = omega (arith, image_short b h.is) }
 
 -- its constants
-pub pools : (p : Program) → PoolAt p.image.now p.pool (length p.image.now) (sound p).image.pool
-pools p = let h = sound p in (main_parts p.image.now h.reads h.ends h.pools).pools
+pub pools : (p : Program) {m : Image} → ImageAt p.parts.code.bytes.now m → PoolIn p.parts.pool m.pool
+pools p i = pool_in p.parts.code.bytes.now i p.divides
+
+-- they end with the bytes
+pub pool_ends : (p : Program) → p.parts.pool.end ≡ length p.parts.pool.bytes.now
+pool_ends p = p.divides.last ∙ ap length (sym p.divides.constants)
+
+pub whole_pool : (p : Program) {cs : List Const} → PoolIn p.parts.pool cs → PoolAt p.parts.pool.bytes.now p.parts.pool.start (length p.parts.pool.bytes.now) cs
+whole_pool p {cs} h = subst (λ e. PoolAt p.parts.pool.bytes.now p.parts.pool.start e cs) (pool_ends p) h
 
 module _ (b : Bytes) (end : ℕ) {c : Code} (h : CodeAt b 3 end c) where
   -- behind some instructions, at an offset

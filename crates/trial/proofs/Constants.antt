@@ -17,8 +17,9 @@ use Rattle.listing.proofs.Items.{Reading, begins, ends, all_read as read_all}
 use Rattle.listing.proofs.Constants.{integer-length, function_is}
 use Rattle.heights.specs.Chunks.{Standing}
 use Rattle.heights.proofs.Judges.{Turn, turn}
-use Rattle.bytecode.specs.Constants.{NextIs, Ended, Gives}
-use Rattle.bytecode.specs.declared.constants.Constants.{Constants as Walk}
+use Rattle.bytecode.specs.Constants.{SpanIs, Ended, GivesSpan}
+use Rattle.bytecode.specs.declared.constants.PoolConstants.{PoolConstants as Walk}
+use Rattle.bytecode.specs.declared.span.Span.{Span}
 use Rattle.bytecode.proofs.EachConstant.{Over, over_again}
 use Rattle.heights.proofs.EachConstant.{turn_at, all_read}
 use Rattle.std.specs.Iterator.{Yields, SkipsThenYields}
@@ -93,42 +94,53 @@ module _ (b : Bytes) (start k : ℕ) where
             (read_all (read_const (byte_at b)) (length b) (λ ds _. Found ds) (λ xs _ y _ p _. one xs y p) g.rest ((there refl).x ∷ l.constants) (at + 3 + (head (byte_at b) at).len) (sym g.same ∙ h.reads) f).is
 
   -- the constants that an iterator passed over
-  walked : (xs : List (ℕ × ℕ)) {s t : Walk} {left : ℕ} {cs : List Const} → PoolAt b start (length b) cs → Over b (length b) s → PoolLoop s.at left → length xs ≤ left → Yields Gives s xs t → Over b (length b) t × PoolLoop t.at (left - length xs)
-  walked [] {s} {t} {left} h o l q e = (subst (Over b (length b)) e o, subst (λ (t : Walk). PoolLoop t.at (left - 0)) e (subst (PoolLoop s.at) (omega arith) l))
+  walked : (xs : List Span) {s t : Walk} {left : ℕ} {cs : List Const} → PoolAt b start (length b) cs → Over b (length b) s.constants → PoolLoop s.constants.at left → length xs ≤ left → Yields GivesSpan s xs t
+      → Over b (length b) t.constants × PoolLoop t.constants.at (left - length xs)
+  walked [] {s} {t} {left} h o l q e =
+      (subst (λ (t : Walk). Over b (length b) t.constants) e o, subst (λ (t : Walk). PoolLoop t.constants.at (left - 0)) e (subst (PoolLoop s.constants.at) (omega arith) l))
   walked (x ∷ xs) {s} {t} {left} h o l q y =
-      let n = y.1 in
+      let n = y.1.is in
       let u = turn_at o n h (subst (Reading (read_const (byte_at b)) (length b) constants_limit start l.constants) (sym n.here) l.reading) in
-      let m : PoolLoop y.0.at (left - 1) =
+      let m : PoolLoop y.0.constants.at (left - 1) =
       subst (λ a. PoolLoop a (left - 1)) (sym n.behind) (record { constants = u.x ∷ l.constants; reading = u.reading; order = u.within; index = omega (arith, l.index) }) in
       let r = walked xs h (over_again o n) m (omega arith) y.2 in
-      (r.0, subst (PoolLoop t.at) (omega arith) r.1)
+      (r.0, subst (PoolLoop t.constants.at) (omega arith) r.1)
 
   -- one that stands at the index, or none
-  pub record StandsAt (at : ℕ) : Type 0 where
-    pub loop : PoolLoop at 0
-    pub before : at < length b
+  pub record StandsAt (x : Span) : Type 0 where
+    pub bytes : x.bytes.now ≡ b
+    pub loop : PoolLoop x.start 0
+    pub before : x.start < length b
 
-  module _ {s : Walk} (o : Over b (length b) s) (l : PoolLoop s.at k) {cs : List Const} (h : PoolAt b start (length b) cs) (xs : List (ℕ × ℕ)) {t : Walk} (y : Yields Gives s xs t) where
-    pub stands_at : {at after : ℕ} {u : Walk} → NextIs t at after u → length xs ≡ k → StandsAt at
-    stands_at {at} n q =
+  module _ {s : Walk} (o : Over b (length b) s.constants) (l : PoolLoop s.constants.at k) {cs : List Const} (h : PoolAt b start (length b) cs) (xs : List Span) {t : Walk} (y : Yields GivesSpan s xs t) where
+    pub stands_at : {x : Span} {u : Walk} → SpanIs t x u → length xs ≡ k → StandsAt x
+    stands_at {x} i q =
         let w = walked xs h o l (omega arith) y in
+        let n = i.is in
         record {
-          loop = subst (λ a. PoolLoop a 0) (sym n.here) (subst (PoolLoop t.at) (omega arith) w.1);
-          before = subst (λ a. a < length b) (sym n.here) (subst (λ e. t.at < e) w.0.stops n.before);
+          bytes = i.bytes ∙ w.0.image;
+          loop = subst (λ a. PoolLoop a 0) (sym n.here) (subst (PoolLoop t.constants.at) (omega arith) w.1);
+          before = subst (λ a. a < length b) (sym n.here) (subst (λ e. t.constants.at < e) w.0.stops n.before);
         }
 
-    pub none_left : Ended t → length xs ≤ k → integer_in (constant_at cs k) ≡ none
+    pub none_left : Ended t.constants → length xs ≤ k → integer_in (constant_at cs k) ≡ none
     none_left e q =
         let w = walked xs h o l q y in
         pool_ends w.1 h (all_read w.0 h w.1.reading e)
 
 -- the same of an iterator from the pool's start
-pub nth_stands : (b : Bytes) {start k : ℕ} {s u : Walk} → s.image.now ≡ b → s.at ≡ start → s.end ≡ length b → {cs : List Const} → PoolAt b start (length b) cs → {at after : ℕ} → SkipsThenYields Gives s k (Some (at, after)) u → StandsAt b start k at
+pub nth_stands : (b : Bytes) {start k : ℕ} {s u : Walk} → s.constants.image.now ≡ b → s.constants.at ≡ start → s.constants.end ≡ length b → {cs : List Const} → PoolAt b start (length b) cs → {x : Span} → SkipsThenYields GivesSpan s k (Some x) u → StandsAt b start k x
 nth_stands b {start} {k} i f e h r =
     let l = subst (λ at. PoolLoop b start k at k) (sym f) (pool-begins b start k h.order) in
     stands_at b start k (record { image = i; stops = e }) l h r.0 r.1.1 r.1.2 r.2
 
-pub nth_none : (b : Bytes) {start k : ℕ} {s : Walk} (u : Walk) → s.image.now ≡ b → s.at ≡ start → s.end ≡ length b → {cs : List Const} → PoolAt b start (length b) cs → SkipsThenYields Gives s k None u → integer_in (constant_at cs k) ≡ none
+pub nth_none : (b : Bytes) {start k : ℕ} {s : Walk} (u : Walk) → s.constants.image.now ≡ b → s.constants.at ≡ start → s.constants.end ≡ length b → {cs : List Const} → PoolAt b start (length b) cs → SkipsThenYields GivesSpan s k None u → integer_in (constant_at cs k) ≡ none
 nth_none b {start} {k} u i f e h r =
     let l = subst (λ at. PoolLoop b start k at k) (sym f) (pool-begins b start k h.order) in
     none_left b start k (record { image = i; stops = e }) l h r.0 r.1.1 r.1.2 r.2
+
+-- an integer that stands at the index fills eleven bytes
+pub integer_within : (b : Bytes) {start k : ℕ} {x : Span} → StandsAt b start k x → {cs : List Const} → PoolAt b start (length b) cs → byte_at b x.start ≡ tag_integer_const → x.start + 11 ≤ length b
+integer_within b {start} {k} s h e =
+    let t = there b start k s.loop h s.before refl in
+    omega (arith, t.behind, t.within, (is-integer b t.standing e).0)

@@ -13,6 +13,7 @@ pub mod Constants
 pub mod Memory
 pub mod Shown
 pub mod Producing
+pub mod Machines
 pub mod CodeLoop
 pub mod Scanning
 pub mod Running

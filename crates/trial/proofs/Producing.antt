@@ -8,9 +8,9 @@ use Rattle.definition.specs.Effect.{taken, takes, gives, falls, flow_of}
 use Rattle.trial.specs.Value.{Value, Infix, Prefix, truthy}
 use Rattle.trial.specs.Run.{Action, actions, Frame, frame, Run, top, below, moved, given, acted, execute}
 use Rattle.trial.specs.Cells.{Keeps, Stacked, kinds_at, stack_at, stack_kinds_at}
-use Rattle.trial.specs.Machine.{InfixAt, PrefixAt, Produces, Runs, product, reason_of, KeptAt, goes_on, Framed, After}
+use Rattle.trial.specs.Machine.{InfixAt, PrefixAt, Produces, Runs, product, reason_of, KeptAt, went_on, goes_on, Framed, After}
 use Rattle.trial.specs.declared.machine.State.{State}
-use Rattle.std.specs.declared.ops.ControlFlow.TheVariants.{Continue, Break}
+use Rattle.std.specs.declared.ops.ControlFlow.TheVariants.{Break}
 use Rattle.definition.specs.Number.{refusal}
 use Rattle.trial.proofs.Memory.{below_kept, push_globals, push_stack, set-globals, set_stack}
 use Rattle.definition.specs.declared.reason.Reason.{Reason}
@@ -134,55 +134,55 @@ module _ (cs : List Const) (k to : ℕ) (f : Frame) where
   acts (Produces.infixed i) = infix_acts i
 
 -- no value, or one
-given_none : {w : List ℕ} (f : Frame) (to : ℕ) (n : Reason) (st : List Value) {o : Option Value} → o ≡ none → After w f.at (Err (refusal n (3 + f.at))) (given f to n st o)
-given_none {w} f to n st e = subst (λ o. After w f.at (Err (refusal n (3 + f.at))) (given f to n st o)) (sym e) After.stopped
+given_none : {w : List ℕ} {s : State} (f : Frame) (to : ℕ) (n : Reason) (st : List Value) {o : Option Value} → o ≡ none → After w s f.at (Err (refusal n (3 + f.at))) (given f to n st o)
+given_none {w} {s} f to n st e = subst (λ o. After w s f.at (Err (refusal n (3 + f.at))) (given f to n st o)) (sym e) After.stopped
 
-given_some : {w : List ℕ} {s : State} (f : Frame) (to : ℕ) (n : Reason) (st : List Value) {o : Option Value} {x : Value} → o ≡ some x → After w f.at (Ok (Continue s)) (moved f to (x ∷ st) f.globals) → After w f.at (Ok (Continue s)) (given f to n st o)
-given_some {w} {s} f to n st e h = subst (λ o. After w f.at (Ok (Continue s)) (given f to n st o)) (sym e) h
+given_some : {w : List ℕ} {s : State} (f : Frame) (to : ℕ) (n : Reason) (st : List Value) {o : Option Value} {x : Value} → o ≡ some x → After w s f.at went_on (moved f to (x ∷ st) f.globals) → After w s f.at went_on (given f to n st o)
+given_some {w} {s} f to n st e h = subst (λ o. After w s f.at went_on (given f to n st o)) (sym e) h
 
 -- an instruction that puts a value, or stops
 module _ {n : ℕ} (p : Produces n) (a b : ℕ) (cs : List Const) (f : Frame) {w : List ℕ} {s : State} (h : Framed w s f) {o : Option Value} (k : o ≡ product cs a f.stack f.globals (get_or actions n Action.other)) where
-  pub produce_stops : {r : Reason} → r ≡ reason_of n → o ≡ none → After w f.at (Err (refusal r s.next)) (execute cs (instr n a b) f)
+  pub produce_stops : {r : Reason} → r ≡ reason_of n → o ≡ none → After w s f.at (Err (refusal r s.next)) (execute cs (instr n a b) f)
   produce_stops {r} e z =
       let q : refusal r s.next ≡ refusal (reason_of n) (3 + f.at) = λ j. refusal (e j) (h.stands j) in
-      subst (λ q. After w f.at (Err q) (execute cs (instr n a b) f)) (sym q)
-      (subst (After w f.at (Err (refusal (reason_of n) (3 + f.at)))) (sym (acts cs a (f.at + size (instr n a b)) f p)) (given_none f _ _ _ (sym k ∙ z)))
+      subst (λ q. After w s f.at (Err q) (execute cs (instr n a b) f)) (sym q)
+      (subst (After w s f.at (Err (refusal (reason_of n) (3 + f.at)))) (sym (acts cs a (f.at + size (instr n a b)) f p)) (given_none f _ _ _ (sym k ∙ z)))
 
   pub produce_goes_on : {left next : ℕ} {w₁ : List ℕ} {x : Value} → next ≡ 3 + (f.at + size (instr n a b)) → left + takes (instr n a b) ≡ s.height → left < 1024 → o ≡ some x
-      → KeptAt w (stack_at + left) x w₁ → After w₁ f.at (Ok (goes_on next (left + 1) (s.steps + 1))) (execute cs (instr n a b) f)
+      → KeptAt w (stack_at + left) x w₁ → After w₁ (goes_on next (left + 1) (s.steps + 1)) f.at went_on (execute cs (instr n a b) f)
   produce_goes_on {left} {next} {w₁} {x} e q l z u =
       let t = (known p).takes_is a b in
       let d : Stacked w left (dropped (get_or taken n 0) f.stack) = subst (λ m. Stacked w m (dropped (get_or taken n 0) f.stack)) (omega arith) (dropped_kept (get_or taken n 0) h.stack (omega arith)) in
       let i : kinds_at + (stack_at + left) ≡ stack_kinds_at + left = omega arith in
-      subst (λ w₁. After w₁ f.at (Ok (goes_on next (left + 1) (s.steps + 1))) (execute cs (instr n a b) f)) (sym (u.is ∙ ap (λ j. set (set w (stack_at + left) u.word) j u.kind) i))
-      (subst (After (set (set w (stack_at + left) u.word) (stack_kinds_at + left) u.kind) f.at (Ok (goes_on next (left + 1) (s.steps + 1)))) (sym (acts cs a (f.at + size (instr n a b)) f p))
+      subst (λ w₁. After w₁ (goes_on next (left + 1) (s.steps + 1)) f.at went_on (execute cs (instr n a b) f)) (sym (u.is ∙ ap (λ j. set (set w (stack_at + left) u.word) j u.kind) i))
+      (subst (After (set (set w (stack_at + left) u.word) (stack_kinds_at + left) u.kind) (goes_on next (left + 1) (s.steps + 1)) f.at went_on) (sym (acts cs a (f.at + size (instr n a b)) f p))
       (given_some f _ _ _ (sym k ∙ z) (
       After.on {f = frame (f.at + size (instr n a b)) (x ∷ dropped (get_or taken n 0) f.stack) f.globals (f.steps + 1)}
       (record { stands = e; stack = push_stack w f.globals h.globals l u.kind u.word d u.keeps; globals = push_globals w f.globals h.globals l u.kind u.word; steps = ap (λ k. k + 1) h.steps }))))
 
 -- the other instructions
 module _ (cs : List Const) (n a b : ℕ) (f : Frame) {w : List ℕ} {s : State} (h : Framed w s f) where
-  pub return_after : n ≡ 0x16 → After w f.at (Ok (Break (s.steps + 1))) (execute cs (instr n a b) f)
-  return_after e = subst (λ n. After w f.at (Ok (Break (s.steps + 1))) (execute cs (instr n a b) f)) (sym e) (subst (λ k. After w f.at (Ok (Break (k + 1))) (Run.returned f.globals (f.steps + 1))) (sym h.steps) (After.returned h.globals))
+  pub return_after : n ≡ 0x16 → After w s f.at (Ok (Break (s.steps + 1))) (execute cs (instr n a b) f)
+  return_after e = subst (λ n. After w s f.at (Ok (Break (s.steps + 1))) (execute cs (instr n a b) f)) (sym e) (subst (λ k. After w s f.at (Ok (Break (k + 1))) (Run.returned f.globals (f.steps + 1))) (sym h.steps) (After.returned h.globals))
 
-  pub jump_after : n ≡ 0x0E → After w f.at (Ok (goes_on (3 + a) s.height (s.steps + 1))) (execute cs (instr n a b) f)
-  jump_after e = subst (λ n. After w f.at (Ok (goes_on (3 + a) s.height (s.steps + 1))) (execute cs (instr n a b) f)) (sym e)
+  pub jump_after : n ≡ 0x0E → After w (goes_on (3 + a) s.height (s.steps + 1)) f.at went_on (execute cs (instr n a b) f)
+  jump_after e = subst (λ n. After w (goes_on (3 + a) s.height (s.steps + 1)) f.at went_on (execute cs (instr n a b) f)) (sym e)
       (After.on {f = frame a f.stack f.globals (f.steps + 1)} (record { stands = refl; stack = h.stack; globals = h.globals; steps = ap (λ k. k + 1) h.steps }))
 
   -- where one value is taken
   module _ (l : 1 ≤ s.height) where
-    dropped_one : (to next : ℕ) → next ≡ 3 + to → After w f.at (Ok (goes_on next (s.height - 1) (s.steps + 1))) (moved f to (below f.stack) f.globals)
+    dropped_one : (to next : ℕ) → next ≡ 3 + to → After w (goes_on next (s.height - 1) (s.steps + 1)) f.at went_on (moved f to (below f.stack) f.globals)
     dropped_one to next e = After.on {f = frame to (below f.stack) f.globals (f.steps + 1)} (record { stands = e; stack = below_kept h.stack l; globals = h.globals; steps = ap (λ k. k + 1) h.steps })
 
-    pub pop_after : {next : ℕ} → n ≡ 0x02 → next ≡ 3 + (f.at + size (instr n a b)) → After w f.at (Ok (goes_on next (s.height - 1) (s.steps + 1))) (execute cs (instr n a b) f)
+    pub pop_after : {next : ℕ} → n ≡ 0x02 → next ≡ 3 + (f.at + size (instr n a b)) → After w (goes_on next (s.height - 1) (s.steps + 1)) f.at went_on (execute cs (instr n a b) f)
     pop_after {next} e q =
-        subst (λ n. After w f.at (Ok (goes_on next (s.height - 1) (s.steps + 1))) (execute cs (instr n a b) f)) (sym e) (dropped_one (f.at + size (instr 0x02 a b)) next (q ∙ ap (λ n. 3 + (f.at + size (instr n a b))) e))
+        subst (λ n. After w (goes_on next (s.height - 1) (s.steps + 1)) f.at went_on (execute cs (instr n a b) f)) (sym e) (dropped_one (f.at + size (instr 0x02 a b)) next (q ∙ ap (λ n. 3 + (f.at + size (instr n a b))) e))
 
     pub set_after : {next : ℕ} {w₁ : List ℕ} {x : Value} → n ≡ 0x11 → next ≡ 3 + (f.at + size (instr n a b)) → a < 1024 → x ≡ top f.stack → KeptAt w a x w₁
-        → After w₁ f.at (Ok (goes_on next (s.height - 1) (s.steps + 1))) (execute cs (instr n a b) f)
+        → After w₁ (goes_on next (s.height - 1) (s.steps + 1)) f.at went_on (execute cs (instr n a b) f)
     set_after {next} {w₁} {x} e q m i u =
-        subst (λ n. After w₁ f.at (Ok (goes_on next (s.height - 1) (s.steps + 1))) (execute cs (instr n a b) f)) (sym e)
-        (subst (λ w₁. After w₁ f.at (Ok (goes_on next (s.height - 1) (s.steps + 1))) (execute cs (instr 0x11 a b) f)) (sym u.is)
+        subst (λ n. After w₁ (goes_on next (s.height - 1) (s.steps + 1)) f.at went_on (execute cs (instr n a b) f)) (sym e)
+        (subst (λ w₁. After w₁ (goes_on next (s.height - 1) (s.steps + 1)) f.at went_on (execute cs (instr 0x11 a b) f)) (sym u.is)
         (After.on {f = frame (f.at + size (instr 0x11 a b)) (below f.stack) (set f.globals a (some (top f.stack))) (f.steps + 1)}
         (record {
           stands = q ∙ ap (λ n. 3 + (f.at + size (instr n a b))) e;
@@ -192,19 +192,19 @@ module _ (cs : List Const) (n a b : ℕ) (f : Frame) {w : List ℕ} {s : State} 
         })))
 
     -- a condition, by what was answered of it
-    branch : (r : Bool) → r ≡ truthy (top f.stack) → (next : ℕ) → next ≡ 3 + pick r (f.at + size (instr 0x0D a b)) a → After w f.at (Ok (goes_on next (s.height - 1) (s.steps + 1))) (execute cs (instr 0x0D a b) f)
+    branch : (r : Bool) → r ≡ truthy (top f.stack) → (next : ℕ) → next ≡ 3 + pick r (f.at + size (instr 0x0D a b)) a → After w (goes_on next (s.height - 1) (s.steps + 1)) f.at went_on (execute cs (instr 0x0D a b) f)
     branch r e next q = dropped_one (pick (truthy (top f.stack)) (f.at + size (instr 0x0D a b)) a) next (q ∙ ap (λ r. 3 + pick r (f.at + size (instr 0x0D a b)) a) e)
 
     pub branch_true : {next : ℕ} {r : Bool} → n ≡ 0x0D → next ≡ 3 + (f.at + size (instr n a b)) → r ≡ truthy (top f.stack) → r ≡ true
-        → After w f.at (Ok (goes_on next (s.height - 1) (s.steps + 1))) (execute cs (instr n a b) f)
+        → After w (goes_on next (s.height - 1) (s.steps + 1)) f.at went_on (execute cs (instr n a b) f)
     branch_true {next} {r} e q t z =
-        subst (λ n. After w f.at (Ok (goes_on next (s.height - 1) (s.steps + 1))) (execute cs (instr n a b) f)) (sym e)
+        subst (λ n. After w (goes_on next (s.height - 1) (s.steps + 1)) f.at went_on (execute cs (instr n a b) f)) (sym e)
         (branch true (sym z ∙ t) next (q ∙ ap (λ n. 3 + (f.at + size (instr n a b))) e))
 
     pub branch_false : {r : Bool} → n ≡ 0x0D → r ≡ truthy (top f.stack) → r ≡ false
-        → After w f.at (Ok (goes_on (3 + a) (s.height - 1) (s.steps + 1))) (execute cs (instr n a b) f)
+        → After w (goes_on (3 + a) (s.height - 1) (s.steps + 1)) f.at went_on (execute cs (instr n a b) f)
     branch_false {r} e t z =
-        subst (λ n. After w f.at (Ok (goes_on (3 + a) (s.height - 1) (s.steps + 1))) (execute cs (instr n a b) f)) (sym e) (branch false (sym z ∙ t) (3 + a) refl)
+        subst (λ n. After w (goes_on (3 + a) (s.height - 1) (s.steps + 1)) f.at went_on (execute cs (instr n a b) f)) (sym e) (branch false (sym z ∙ t) (3 + a) refl)
 
 -- what is taken where nothing is put
 pub pop_takes : (n a b : ℕ) → n ≡ 0x02 → takes (instr n a b) ≡ 1

@@ -10,16 +10,16 @@ use Rattle.definition.proofs.Instructions.{code-count}
 use Rattle.opcode.specs.Decoding.{instr_of}
 use Rattle.opcode.specs.declared.Instruction.{Instruction}
 use Rattle.opcode.proofs.EachInstruction.{ReadAt}
-use Rattle.listing.specs.Reads.{CodeAt, PoolAt}
+use Rattle.listing.specs.Reads.{CodeAt}
 use Rattle.heights.specs.Judgement.{Reaches}
 use Rattle.heights.proofs.Positions.{Behind, behind_it}
 use Rattle.trial.specs.Value.{Globals}
 use Rattle.trial.specs.Run.{Action, actions, runnable_as, Frame, frame, Run, execute, come_to, pass, Trial, trial_of, trial, unset_globals}
 use Rattle.trial.specs.Cells.{Stacked, Keeping, stack_limit}
-use Rattle.trial.specs.Machine.{Runs, StepReady, Step, Framed, After, EndsAs, Safe}
+use Rattle.trial.specs.Machine.{Runs, StepReady, Step, went_on, goes_on, Framed, After, EndsAs, Safe}
 use Rattle.trial.specs.declared.machine.State.{State}
 use Rattle.std.specs.Prelude.{Result, Ok, Err}
-use Rattle.std.specs.declared.ops.ControlFlow.TheVariants.{Continue, Break}
+use Rattle.std.specs.declared.ops.ControlFlow.TheVariants.{Break}
 use Rattle.definition.specs.Number.{refusal}
 use Rattle.definition.specs.declared.reason.Refusal.{Refusal}
 use Rattle.trial.proofs.Passes.{comes_run, leaves_out, Within, pass_within}
@@ -40,18 +40,18 @@ record Went (w : List ℕ) (t : State) (r : Run) : Type 0 where
   is : r ≡ Run.on frame
   framed : Framed w t frame
 
-went : {w : List ℕ} {p : ℕ} {a : Step} {r : Run} {t : State} → After w p a r → a ≡ Ok (Continue t) → Went w t r
-went {w} {t = t} (After.on {s} {f} h) e = let q : s ≡ t = cc in record { frame = f; is = refl; framed = subst (λ s. Framed w s f) q h }
-went {t = t} (After.returned {n = n} k) e = let z : ◌≡◌ {A = ℕ} 0 1 = cc in absurd (omega arith)
-went {t = t} (After.stopped {k = k}) e = let z : ◌≡◌ {A = ℕ} 0 1 = cc in absurd (omega arith)
+went : {w : List ℕ} {t : State} {p : ℕ} {a : Step} {r : Run} → After w t p a r → a ≡ went_on → Went w t r
+went (After.on {f} h) e = record { frame = f; is = refl; framed = h }
+went (After.returned {n = n} k) e = let z : ◌≡◌ {A = ℕ} 0 1 = cc in absurd (omega arith)
+went (After.stopped {k = k}) e = let z : ◌≡◌ {A = ℕ} 0 1 = cc in absurd (omega arith)
 
 record Came (w : List ℕ) (n : ℕ) (r : Run) : Type 0 where
   globals : Globals
   is : r ≡ Run.returned globals n
   keeping : Keeping w globals
 
-came : {w : List ℕ} {p : ℕ} {a : Step} {r : Run} {n : ℕ} → After w p a r → a ≡ Ok (Break n) → Came w n r
-came {n = n} (After.on {s} {f} h) e = let z : ◌≡◌ {A = ℕ} 0 1 = cc in absurd (omega arith)
+came : {w : List ℕ} {s : State} {p : ℕ} {a : Step} {r : Run} {n : ℕ} → After w s p a r → a ≡ Ok (Break n) → Came w n r
+came {n = n} (After.on {f} h) e = let z : ◌≡◌ {A = ℕ} 0 1 = cc in absurd (omega arith)
 came {n = n} (After.returned {g} {n = k} q) e = let i : k ≡ n = cc in record { globals = g; is = ap (Run.returned g) i; keeping = q }
 came {n = n} (After.stopped {k = k}) e = let z : ◌≡◌ {A = ℕ} 0 1 = cc in absurd (omega arith)
 
@@ -60,8 +60,8 @@ record Halted (p : ℕ) (q : Refusal) (r : Run) : Type 0 where
   is : r ≡ Run.stopped reason p
   refusal_is : q ≡ refusal reason (3 + p)
 
-halted : {w : List ℕ} {p : ℕ} {a : Step} {r : Run} {q : Refusal} → After w p a r → a ≡ Err q → Halted p q r
-halted {q = q} (After.on {s} {f} h) e = let z : ◌≡◌ {A = ℕ} 0 1 = cc in absurd (omega arith)
+halted : {w : List ℕ} {s : State} {p : ℕ} {a : Step} {r : Run} {q : Refusal} → After w s p a r → a ≡ Err q → Halted p q r
+halted {q = q} (After.on {f} h) e = let z : ◌≡◌ {A = ℕ} 0 1 = cc in absurd (omega arith)
 halted {q = q} (After.returned {g} {n = k} h) e = let z : ◌≡◌ {A = ℕ} 0 1 = cc in absurd (omega arith)
 halted {p = p} {q = q} (After.stopped {k = k}) e = record { reason = k; is = refl; refusal_is = cc }
 
@@ -116,7 +116,7 @@ module _ {pool : List Const} {c : Code} (safe : Safe pool c) where
   set_below op a e q = ltb-true a globals_limit (sym (ap (λ o. runnable_as pool a (get_or actions o Action.other)) q) ∙ e)
 
 -- the loop
-module _ (b : Bytes) (end pool : ℕ) (m : Image) (h : CodeAt b 3 end m.code) (cs : PoolAt b pool (length b) m.pool) (safe : Safe m.pool m.code) where
+module _ (b : Bytes) (end : ℕ) (m : Image) (h : CodeAt b 3 end m.code) (safe : Safe m.pool m.code) where
   pub record RunLoop (w : List ℕ) (at : ℕ) (s : State) : Type 0 where
     pub code : Code
     pub behind : CodeLoop.Behind b end h code at
@@ -125,7 +125,7 @@ module _ (b : Bytes) (end pool : ℕ) (m : Image) (h : CodeAt b 3 end m.code) (c
     pub framed : Framed w s frame
     pub reached : Reaches m.code frame.at (length frame.stack)
 
-  pub run-begins : {w : List ℕ} → Keeping w unset_globals → RunLoop w 3 (record { next = 3; height = 0; steps = 0 })
+  pub run-begins : {w : List ℕ} → Keeping w unset_globals → RunLoop w 3 (goes_on 3 0 0)
   run-begins k =
       record {
         code = [];
@@ -136,11 +136,11 @@ module _ (b : Bytes) (end pool : ℕ) (m : Image) (h : CodeAt b 3 end m.code) (c
         reached = Reaches.start;
       }
 
-module _ {b : Bytes} {end pool : ℕ} {m : Image} {h : CodeAt b 3 end m.code} {cs : PoolAt b pool (length b) m.pool} {safe : Safe m.pool m.code} {w : List ℕ} {at : ℕ} {s : State}
-    (l : RunLoop b end pool m h cs safe w at s) where
+module _ {b : Bytes} {end : ℕ} {m : Image} {h : CodeAt b 3 end m.code} {safe : Safe m.pool m.code} {w : List ℕ} {at : ℕ} {s : State}
+    (l : RunLoop b end m h safe w at s) where
   -- at the same offset
-  pub same : {at₁ : ℕ} → at ≡ at₁ → RunLoop b end pool m h cs safe w at₁ s
-  same e = subst (λ at. RunLoop b end pool m h cs safe w at s) e l
+  pub same : {at₁ : ℕ} → at ≡ at₁ → RunLoop b end m h safe w at₁ s
+  same e = subst (λ at. RunLoop b end m h safe w at s) e l
 
   -- at the end
   pub run_ends : end ≤ at → EndsAs w (Ok s.steps) (trial m)
@@ -156,7 +156,7 @@ module _ {b : Bytes} {end pool : ℕ} {m : Image} {h : CodeAt b 3 end m.code} {c
 
   module _ {i : Instruction} {after : ℕ} (r : ReadAt b end at i after) where
     -- an instruction that a jump left out
-    pub run-over : (at ≡ s.next → ⊥) → RunLoop b end pool m h cs safe w after s
+    pub run-over : (at ≡ s.next → ⊥) → RunLoop b end m h safe w after s
     run-over n =
         record {
           code = instr_of i ∷ l.code;
@@ -181,8 +181,8 @@ module _ {b : Bytes} {end pool : ℕ} {m : Image} {h : CodeAt b 3 end m.code} {c
       pub run_next : after ≡ 3 + (l.frame.at + size (instr_of i))
       run_next = omega (arith, (CodeLoop.turn l.behind r).sized, position, l.behind.size_is)
 
-      module _ {w₁ : List ℕ} {a : Step} (x : After w₁ l.frame.at a (execute m.pool (instr_of i) l.frame)) where
-        pub run_again : {t : State} → a ≡ Ok (Continue t) → RunLoop b end pool m h cs safe w₁ after t
+      module _ {w₁ : List ℕ} {t : State} {a : Step} (x : After w₁ t l.frame.at a (execute m.pool (instr_of i) l.frame)) where
+        pub run_again : a ≡ went_on → RunLoop b end m h safe w₁ after t
         run_again e =
             let g = went x e in
             record {

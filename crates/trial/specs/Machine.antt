@@ -10,9 +10,10 @@ use Rattle.listing.specs.Reads.{ImageAt}
 use Rattle.heights.specs.Judgement.{Reaches}
 use Rattle.definition.specs.Number
 use Rattle.trial.specs.Value.{Value, Globals, Infix, Prefix, combined, changed}
-use Rattle.trial.specs.Run.{Action, integer_in, runnable, Frame, Run, top, below, Trial}
+use Rattle.trial.specs.Run.{Action, integer_in, runnable, Frame, Run, top, below, Trial, unset_globals}
 use Rattle.trial.specs.Cells.{Keeps, kinds_at, Stacked, Keeping, stack_limit}
 use Rattle.trial.specs.declared.machine.State.{State}
+use Rattle.trial.specs.declared.machine.Machine.{Machine}
 use Rattle.std.specs.declared.ops.ControlFlow.{ControlFlow}
 use Rattle.std.specs.declared.ops.ControlFlow.TheVariants.{Continue, Break}
 use Rattle.definition.specs.Number.{refusal}
@@ -101,17 +102,32 @@ pub record Framed (w : List ℕ) (s : State) (f : Frame) : Type 0 where
 
 -- what a step gives: the run goes on, ReturnValue ended it with its steps, or it stops
 abbrev pub Step : Type 0
-Step = Result (ControlFlow ℕ State) Refusal
+Step = Result (ControlFlow ℕ (Unit {0})) Refusal
 
--- it goes on, before an offset, with a stack so high, behind so many instructions
-abbrev pub goes_on : ℕ → ℕ → ℕ → ControlFlow ℕ State
-goes_on next height steps = Continue (record { next = next; height = height; steps = steps })
+abbrev pub went_on : Step
+went_on = Ok (Continue tt)
 
--- what a step at a position gives is the definition's
-pub data After (w : List ℕ) (p : ℕ) : Step → Run → Type 0 where
-  on : {s : State} {f : Frame} → Framed w s f → After w p (Ok (Continue s)) (Run.on f)
-  returned : {g : Globals} {n : ℕ} → Keeping w g → After w p (Ok (Break n)) (Run.returned g n)
-  stopped : {k : Reason} → After w p (Err (refusal k (3 + p))) (Run.stopped k p)
+-- it goes on before an offset, with a stack so high, behind so many instructions
+abbrev pub goes_on : ℕ → ℕ → ℕ → State
+goes_on next height steps = record { next = next; height = height; steps = steps }
+
+-- what a step at a position gives is the definition's, with what it leaves in the work area and the state
+pub data After (w : List ℕ) (s : State) (p : ℕ) : Step → Run → Type 0 where
+  on : {f : Frame} → Framed w s f → After w s p went_on (Run.on f)
+  returned : {g : Globals} {n : ℕ} → Keeping w g → After w s p (Ok (Break n)) (Run.returned g n)
+  stopped : {k : Reason} → After w s p (Err (refusal k (3 + p))) (Run.stopped k p)
+
+-- a machine stays with the program and the work area that it has
+pub record Stays (s s' : Machine) : Type 0 where
+  pub program : s'.program ≡ s.program
+  pub same : s'.work.ghost_name ≡ s.work.ghost_name
+
+-- one instruction executed that stores nothing
+pub record Steps (s s' : Machine) (next height : ℕ) (r : ControlFlow ℕ (Unit {0})) : Type 0 where
+  pub answers : r ≡ Continue tt
+  pub still : s'.work.now ≡ s.work.now
+  pub state : s'.state ≡ goes_on next height (s.state.steps + 1)
+  pub lent : Stays s s'
 
 -- what a run gives is the definition's
 pub data EndsAs (w : List ℕ) : Result ℕ Refusal → Trial → Type 0 where
@@ -128,3 +144,9 @@ pub record Safe (pool : List Const) (c : Code) : Type 0 where
 -- main of the image that bytes are can be run
 pub record SafeToRun (b : Bytes) : Type 0 where
   pub safe : (m : Image) → ImageAt b m → Safe m.pool m.code
+
+-- a machine that starts: nothing is executed, no global is set, and main can be run
+pub record Starts (s : Machine) : Type 0 where
+  pub state : s.state ≡ goes_on 3 0 0
+  pub unset : Keeping s.work.now unset_globals
+  pub safe : SafeToRun s.program.parts.code.bytes.now

@@ -47,11 +47,7 @@ fn run_chunk(
     ensures writes { (m : Image) → ImageAt image.now m → output.new ≡ outcome_into (taken_outcome (refused_with heights.now m) m (length output.old)) output.old }
 {
     let parts = Parts::of(image);
-    let program = Program {
-        image,
-        end: parts.code.end,
-        pool: parts.pool.start,
-    };
+    let program = Program { parts };
     let globals = scan(program, heights)?;
     if output.len() < 9 * globals {
         return refused(Reason::OutputShort, 0);
@@ -95,8 +91,8 @@ fn run_in(
     answer
 }
 
-// Runs main of an image with the heights offered for it, all globals unset. The output then starts with nine bytes for each global up to the highest
-// index that main names. The first 4,096 numbers of the work area are 0 after every answer but number 1.
+// Runs main of an image with the heights offered for it, all globals unset. The output then starts with nine bytes for each global up to
+// the highest index that main names. The first 4,096 numbers of the work area are 0 after every answer but number 1.
 pub fn run(
     image: &[u8],
     heights: &[u32],

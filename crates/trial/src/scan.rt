@@ -2,7 +2,7 @@
 ghost use Rattle.std.specs.Prelude.{◌≡◌, ℕ, ◌+◌, ◌<◌, ◌≤◌, List, length, slice_index_or};
 ghost use Rattle.definition.specs.Bytecode.{size_of, Const, Image};
 ghost use Rattle.opcode.specs.Decoding.{instr_of};
-ghost use Rattle.listing.specs.Reads.{PoolAt, ImageAt};
+ghost use Rattle.listing.specs.Reads.{PoolIn, ImageAt};
 ghost use Rattle.heights.specs.Marks.{marks_from};
 ghost use Rattle.heights.specs.Pass.{Passing, pass as passed, Passed};
 ghost use Rattle.trial.specs.Run.{actions, other, runnable as takes};
@@ -10,20 +10,18 @@ ghost use Rattle.trial.specs.Output.{names_as, named_globals};
 ghost use Rattle.trial.specs.Call.{first_refused, refused_with, scan_answer};
 
 use crate::cells::STACK_LIMIT;
-use crate::pool::{Program, integer_at};
-use bytecode::Span;
+use crate::pool::Program;
 use definition::limit::GLOBALS_LIMIT;
 use definition::{Reason, Refusal, refused};
 use heights::chunk::{GROUND, pass};
-use opcode::instructions::Instructions;
 use opcode::{Instruction, opcodes};
 
 // Whether a run takes an instruction, its height apart.
 fn runnable(program: Program<'_>, i: Instruction) -> bool
-    ensures { (cs : List Const) → PoolAt program.entry.image.now program.entry.pool (length program.entry.image.now) cs → result ≡ takes cs (instr_of i) }
+    ensures { (cs : List Const) → PoolIn program.entry.parts.pool cs → result ≡ takes cs (instr_of i) }
 {
     match i.op {
-        opcodes::CONSTANT => integer_at(program, usize::from(i.operand)).is_some(),
+        opcodes::CONSTANT => program.integer_at(usize::from(i.operand)).is_some(),
         opcodes::GET_GLOBAL | opcodes::SET_GLOBAL => usize::from(i.operand) < GLOBALS_LIMIT,
         opcodes::ADD
         | opcodes::POP
@@ -57,11 +55,11 @@ fn named(n: usize, i: Instruction) -> usize
 
 // The instructions of main, with what arrives before each: how many globals they name, or 27 at the first that a run does not take.
 fn scan_marked(marks: &[u32], program: Program<'_>) -> Result<usize, Refusal>
-    requires { program.end < length marks.now }
-    ensures { (m : Image) → ImageAt program.entry.image.now m → result ≡ scan_answer (first_refused m.pool (marks_from marks.now 3) m.code) (named_globals m.code) }
+    requires { program.parts.code.end < length marks.now }
+    ensures { (m : Image) → ImageAt program.entry.parts.code.bytes.now m → result ≡ scan_answer (first_refused m.pool (marks_from marks.now 3) m.code) (named_globals m.code) }
 {
     let mut names = 0;
-    for (at, i, _) in Instructions::new(program.image, 3, program.end) {
+    for (at, i, _) in program.parts.code.instructions() {
         if !runnable(program, i) || GROUND + STACK_LIMIT < marks[at] {
             return refused(Reason::NotRunnable, at);
         }
@@ -72,15 +70,10 @@ fn scan_marked(marks: &[u32], program: Program<'_>) -> Result<usize, Refusal>
 
 // Main, which passes with its heights.
 pub fn scan(program: Program<'_>, heights: &[u32]) -> Result<usize, Refusal>
-    ensures { (m : Image) → ImageAt program.entry.image.now m → (s : Passing) → passed heights.now 0 (size_of m.code) m.code ≡ Passed.passed s → result ≡ scan_answer (refused_with heights.now m) (named_globals m.code) }
+    ensures { (m : Image) → ImageAt program.entry.parts.code.bytes.now m → (s : Passing) → passed heights.now 0 (size_of m.code) m.code ≡ Passed.passed s → result ≡ scan_answer (refused_with heights.now m) (named_globals m.code) }
 {
     let mut marks = [0u32; 65536];
     marks[3] = GROUND;
-    let code = Span {
-        bytes: program.image,
-        start: 3,
-        end: program.end,
-    };
-    let _ = pass(&mut marks, code, heights);
+    let _ = pass(&mut marks, program.parts.code, heights);
     scan_marked(&marks, program)
 }

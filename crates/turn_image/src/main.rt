@@ -1,10 +1,10 @@
-// Reads an image from standard input and writes its chin form to standard output; or reads a chin form, which begins with 58, and writes its image. A
-// refusal is a sentence on standard error, and standard output stays empty.
+// Reads an image from standard input and writes its chin form to standard output; or reads a chin form, which begins with 58, and writes
+// its image. A refusal is a sentence on standard error, and standard output stays empty.
 #![tactic(auto)]
 
 use bytecode::CHIN_MAIN;
 use definition::Refusal;
-use report::{IMAGE_MOST, print_at_offset, with_input, write_first};
+use report::{IMAGE_MOST, print_at_offset, with_input, write_output};
 use std::io;
 
 // Translates an image by its first byte.
@@ -15,13 +15,13 @@ fn turn(image: &[u8], output: &mut [u8]) -> Result<usize, Refusal> {
     }
 }
 
-// Translates an image into an output of 65,536 bytes.
+// Translates an image, and writes what comes of it.
 fn run(rt: &(impl Print + Eprint), image: &[u8]) -> io::Result<()> {
-    let mut output = [0u8; 65536];
-    match turn(image, &mut output) {
-        Ok(n) => write_first(rt, &output, n),
-        Err(r) => print_at_offset(rt, "turn_image", r, "image"),
-    }
+    write_output(
+        rt,
+        |output| turn(image, output),
+        |r| print_at_offset(rt, "turn_image", r, "image"),
+    )
 }
 
 fn main(rt: HostRuntime) -> io::Result<()> {

@@ -91,3 +91,11 @@ pub if_walks : {tree : Bytes} {at : ℕ} {c c₁ c₂ : Bytes} {m m₁ m₂ : Re
 unfolding walk_expr
 if_walks {at = at} d e =
     walks_as (λ x i. ((i.test, record { first = i.branch; other = i.other }), (i.on_test, record { on_first = i.on_branch; on_other = record { reads = i.on_other } }), ap (walk_expr machine) i.is)) (walk_walk d e)
+
+-- the whole where its first branch went through
+pub other_walks : {tree : Bytes} {at skip : ℕ} {c c₁ c₂ c₃ c₄ : Bytes} {m m₁ m₂ m₃ : Rest} {s t : State} {w v r : Walked}
+    → Walks tree (ReadsExpr tree (at + 3)) (walk_expr machine) c c₁ m m₁ w (Ok s) → Jumped c₁ c₂ (Ok s) (Ok skip) t (jump at op_jump_not_truthy)
+    → Walks tree (ReadsBlock tree (after tree (at + 3))) (walk_branch at) c₂ c₃ m₁ m₂ (Ok t) v
+    → Walks tree (ReadsOther tree at) (behind_first at skip) c₃ c₄ m₂ m₃ v r
+    → Walks tree (IfAt tree (ReadsBlock tree) (ReadsExpr tree) at) (walk_expr machine) c c₄ m m₃ w r
+other_walks {at = at} {skip = skip} d j b e = if_walks d (jump_walk (walk_branches at) d.fine j (branches_walks skip refl b e))

@@ -62,6 +62,10 @@ module _ {c c' : Bytes} {s t : State} {f : View → Res View ℕ} where
       forgot (Ok n) e y = refl
       forgot (Err z) e y = refl
 
+  -- the memory is fine after it
+  pub jumped_fine : {tree : Bytes} {m : Rest} {n : ℕ} → Jumped c c' (Ok s) (Ok n) t f → Fine tree m (Ok s) → Fine tree m (Ok t)
+  jumped_fine {n = n} d h = (done_steps h (jumped_done (Ok n) d)).fine
+
   -- with its position, on the whole memory
   jumped_answer : (tree : Bytes) (m : Rest) (r : Result ℕ Refusal) → Jumped c c' (Ok s) r t f → answered tree c' m r t ≡ settled (bind (memory tree c m (Ok s)) (λ _. f))
   jumped_answer tree m (Ok n) d = ap (λ y. on n (view c' m.session y t)) (same_symbols tree m s t d.same) ∙ ap settled (d.step m.session (symbols_of tree m s))

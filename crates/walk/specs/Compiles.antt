@@ -4,6 +4,7 @@ use Rattle.definition.specs.Basic.{Bytes}
 use Rattle.definition.specs.Walk.{Go}
 use Rattle.definition.specs.declared.reason.Refusal.{Refusal}
 use Rattle.field.specs.declared.Field.{Field}
+use Rattle.field.specs.declared.fields.Fields.{Fields}
 use Rattle.scope.specs.View.{View}
 use Rattle.scope.specs.Walked.{walked}
 use Rattle.step.specs.Memory.{Rest, rest, Walks}
@@ -30,3 +31,7 @@ pub record Compiles {A : Type 0} (tree : Bytes) (R : A → Type 0) (k : A → Go
 -- what was done at a field: R says what stands there
 abbrev pub CompilesAt : {A : Type 0} → Field → (Bytes → ℕ → A → Type 0) → (A → Go View) → Compiler → Compiler → Result (Unit {0}) Refusal → Type 0
 CompilesAt f R = Compiles f.bytes.now (R f.bytes.now f.at)
+
+-- what was done over fields in a row
+abbrev pub CompilesRow : {A : Type 0} → Fields → (Bytes → ℕ → ℕ → A → Type 0) → (A → Go View) → Compiler → Compiler → Result (Unit {0}) Refusal → Type 0
+CompilesRow f R = Compiles f.bytes.now (R f.bytes.now f.at f.end)

@@ -5,10 +5,10 @@ ghost use Rattle.std.specs.Prelude.{◌≡◌, Ok};
 ghost use Rattle.definition.specs.Walk.{walk_stmt, walk_stmts, walk_expr, walk_exprs};
 ghost use Rattle.scope.specs.Walked.{walked};
 ghost use Rattle.scope.specs.Machine.{machine};
-ghost use Rattle.tree.specs.Reads.{Some, ReadsStmt, ReadsStmts, ReadsExpr, ReadsExprs, ReadsBlock, ReadsOther, ReadsBranches};
+ghost use Rattle.tree.specs.Reads.{Some, ReadsStmt, ReadsStmts, ReadsExpr, ReadsExprs, ReadsBlock};
 ghost use Rattle.step.specs.Memory.{rest, FineState, Walks};
-ghost use Rattle.walk.specs.Compiles.{Stands, Compiles, CompilesAt};
-ghost use Rattle.walk.specs.Parts.{Let, Prefix, Infix, If, Function, Call, Index, Items, walk_list, walk_branch, walk_other, walk_branches, ReadsTree};
+ghost use Rattle.walk.specs.Compiles.{Stands, Compiles, CompilesAt, CompilesRow};
+ghost use Rattle.walk.specs.Parts.{Let, Prefix, Infix, If, Function, Call, Index, Items, walk_list, walk_branch, ReadsTree};
 
 use definition::limit::ARGUMENTS_LIMIT;
 use definition::operator::LESS_THAN;
@@ -21,8 +21,7 @@ use step::{define, enter, leave, literal, load};
 use tree::count_fields;
 
 // The memory that a walk is lent: the session, the table area, the code area with the state.
-// Kept: that all stands well is a clause of the methods, since a ghost field would have to hold after a refusal, too, when a lookup may have
-// captured in outer tables. The field is their parameter: it is only read, so nothing need be said of it afterwards.
+// Kept: that all stands well is a clause: a ghost field would have to hold after a refusal, too, when a lookup may have captured outside.
 #[derive(Drop)]
 struct Compiler<'a, 's> {
     session: &'a mut [u8],
@@ -43,7 +42,7 @@ impl<'a, 's> Compiler<'a, 's> {
                 self.walk_expression(field.first())?;
                 self.scope.emit(field.at, opcodes::POP)
             }
-            tag::BLOCK => self.walk_block(field.bytes, field.at + 3, field.after()),
+            tag::BLOCK => self.walk_block(field.children()),
             tag::LET => self.walk_let(field),
             _ => {
                 self.walk_expression(field.first())?;
@@ -60,21 +59,24 @@ impl<'a, 's> Compiler<'a, 's> {
         ensures { CompilesAt field.entry Let (walk_stmt machine) self.old self.new result }
     {
         let value = field.first().next();
-        let setting = define(field.bytes, self.table, self.scope.state, field.at)?;
+        let setting = define(field, self.table, self.scope.state)?;
         self.walk_expression(value)?;
         self.scope
             .emit_operand(field.at, setting.op, setting.operand)
     }
 
-    // Compiles the statements from an offset up to an end.
+    // Compiles statements in a row.
     #[cycle(walk)]
-    fn walk_block(&mut self, tree: &[u8], from: usize, end: usize) -> Result<(), Refusal>
-        requires some { Some (ReadsStmts tree.now from end) }
-        requires standing { Stands tree.now self.old }
-        ensures { Compiles tree.now (ReadsStmts tree.now from end) (walk_stmts machine) self.old self.new result }
+    fn walk_block(&mut self, fields: Fields<'_>) -> Result<(), Refusal>
+        requires some { Some (ReadsStmts fields.bytes.now fields.at fields.end) }
+        requires standing { Stands fields.bytes.now self.old }
+        ensures { CompilesRow fields.entry ReadsStmts (walk_stmts machine) self.old self.new result }
     {
-        for at in Fields::new(tree, from, end) {
-            self.walk_statement(Field { bytes: tree, at })?;
+        for at in fields {
+            self.walk_statement(Field {
+                bytes: fields.bytes,
+                at,
+            })?;
         }
         Ok(())
     }
@@ -145,7 +147,8 @@ impl<'a, 's> Compiler<'a, 's> {
         self.scope.infix_operator(field.at, o)
     }
 
-    // Compiles an if: its test, a jump over its first branch, its branches.
+    // Compiles an if: its test, a jump over its first branch, that branch, a jump over the other one, and that, or Null where there is
+    // none.
     #[cycle(walk)]
     fn walk_if(&mut self, field: Field<'_>) -> Result<(), Refusal>
         requires some { Some (If field.bytes.now field.at) }
@@ -154,49 +157,30 @@ impl<'a, 's> Compiler<'a, 's> {
     {
         self.walk_expression(field.first())?;
         let skip = self.scope.jump(field.at, opcodes::JUMP_NOT_TRUTHY)?;
-        self.walk_branches(field, skip)
-    }
-
-    // Compiles the branches of an if, whose first jump stands at `skip`.
-    #[cycle(walk)]
-    fn walk_branches(&mut self, field: Field<'_>, skip: usize) -> Result<(), Refusal>
-        requires some { Some (If field.bytes.now field.at) }
-        requires standing { Stands field.bytes.now self.old }
-        ensures { CompilesAt field.entry ReadsBranches (walk_branches field.entry.at skip) self.old self.new result }
-    {
-        self.walk_branch(field.at, field.first().next())?;
+        let branch = field.first().next();
+        self.walk_branch(field.at, branch)?;
         let away = self.scope.jump_and_patch(field.at, skip)?;
-        self.walk_else(field)?;
+        let at = branch.after();
+        let end = field.after();
+        if at < end {
+            self.walk_branch(field.at, branch.next())?;
+        } else {
+            self.scope.emit(field.at, opcodes::NULL)?;
+        }
         self.scope.patch(away);
         Ok(())
     }
 
     // Compiles a block as a branch of the if at `place`: without its last Pop.
+    #[inline(always)]
     #[cycle(walk)]
     fn walk_branch(&mut self, place: usize, field: Field<'_>) -> Result<(), Refusal>
         requires some { Some (ReadsBlock field.bytes.now field.at) }
         requires standing { Stands field.bytes.now self.old }
         ensures { CompilesAt field.entry ReadsBlock (walk_branch place) self.old self.new result }
     {
-        self.walk_block(field.bytes, field.at + 3, field.after())?;
+        self.walk_block(field.children())?;
         self.scope.drop_pop(place)
-    }
-
-    // Compiles the other branch of an if, or Null where there is none.
-    #[cycle(walk)]
-    fn walk_else(&mut self, field: Field<'_>) -> Result<(), Refusal>
-        requires some { Some (If field.bytes.now field.at) }
-        requires standing { Stands field.bytes.now self.old }
-        ensures { CompilesAt field.entry ReadsOther (walk_other field.entry.at) self.old self.new result }
-    {
-        let branch = field.first().next();
-        let at = branch.after();
-        let end = field.after();
-        if at < end {
-            self.walk_branch(field.at, branch.next())
-        } else {
-            self.scope.emit(field.at, opcodes::NULL)
-        }
     }
 
     // Compiles an index: what is indexed, then by what.
@@ -220,40 +204,47 @@ impl<'a, 's> Compiler<'a, 's> {
         ensures { CompilesAt field.entry Call (walk_expr machine) self.old self.new result }
     {
         let callee = field.first();
-        let args = callee.after();
-        let end = field.after();
-        let n = count_fields(field.bytes, args, end);
+        let args = Fields {
+            bytes: field.bytes,
+            at: callee.after(),
+            end: field.after(),
+        };
+        let n = count_fields(args);
         self.walk_expression(callee)?;
         if ARGUMENTS_LIMIT < n {
             return refused(Reason::TooMany, field.at);
         }
-        self.walk_expressions(field.bytes, args, end)?;
+        self.walk_expressions(args)?;
         self.scope.emit_operand(field.at, opcodes::CALL, n)
     }
 
     // Compiles the items of an array or a hash, then its instruction with their number.
+    #[inline(always)]
     #[cycle(walk)]
     fn walk_list(&mut self, field: Field<'_>, op: u8) -> Result<(), Refusal>
         requires some { Some (Items field.bytes.now field.at) }
         requires standing { Stands field.bytes.now self.old }
         ensures { CompilesAt field.entry Items (walk_list field.entry.at op) self.old self.new result }
     {
-        let end = field.after();
-        let n = count_fields(field.bytes, field.at + 3, end);
-        self.walk_expressions(field.bytes, field.at + 3, end)?;
+        let items = field.children();
+        let n = count_fields(items);
+        self.walk_expressions(items)?;
         self.scope.emit_operand(field.at, op, n)
     }
 
-    // Compiles the expressions from an offset up to an end.
+    // Compiles expressions in a row.
     // Kept: beside `walk_block`: one method for both would take the step as a closure of this recursion, which is no plainer.
     #[cycle(walk)]
-    fn walk_expressions(&mut self, tree: &[u8], from: usize, end: usize) -> Result<(), Refusal>
-        requires some { Some (ReadsExprs tree.now from end) }
-        requires standing { Stands tree.now self.old }
-        ensures { Compiles tree.now (ReadsExprs tree.now from end) (walk_exprs machine) self.old self.new result }
+    fn walk_expressions(&mut self, fields: Fields<'_>) -> Result<(), Refusal>
+        requires some { Some (ReadsExprs fields.bytes.now fields.at fields.end) }
+        requires standing { Stands fields.bytes.now self.old }
+        ensures { CompilesRow fields.entry ReadsExprs (walk_exprs machine) self.old self.new result }
     {
-        for at in Fields::new(tree, from, end) {
-            self.walk_expression(Field { bytes: tree, at })?;
+        for at in fields {
+            self.walk_expression(Field {
+                bytes: fields.bytes,
+                at,
+            })?;
         }
         Ok(())
     }
@@ -267,11 +258,10 @@ impl<'a, 's> Compiler<'a, 's> {
     {
         let params = field.first().next();
         let body = params.next();
-        let end = body.after();
-        let n = count_fields(field.bytes, params.at + 3, body.at);
+        let n = count_fields(params.children());
         let outer = self.scope.state;
-        enter(field.bytes, self.table, self.scope, field.at, n)?;
-        self.walk_block(field.bytes, body.at + 3, end)?;
+        enter(field, self.table, self.scope, n)?;
+        self.walk_block(body.children())?;
         let table = &mut *self.table;
         leave(self.session, self.scope, table, outer, field.at, n)
     }
@@ -282,7 +272,11 @@ impl<'a, 's> Compiler<'a, 's> {
         requires standing { Stands tree.now self.old }
         ensures { Compiles tree.now (ReadsTree tree.now) (walk_stmts machine) self.old self.new result }
     {
-        self.walk_block(tree, 3, tree.len())
+        self.walk_block(Fields {
+            bytes: tree,
+            at: 3,
+            end: tree.len(),
+        })
     }
 }
 

@@ -1,5 +1,4 @@
 -- `compile_in` gives the call's result: a broken session, a refused tree, or the translation. Assumes nothing.
-use Rattle.definition.proofs.Slices.{are_bytes}
 use mathlib.Core.Path.{sym, ap, ◌∙◌}
 use Rattle.definition.proofs.Basic.{passed_on}
 use Rattle.bytecode.specs.Checked.{layout_answer}
@@ -14,5 +13,5 @@ returns-in_default c =
 pub returns-in_err-check : goal.returns-in_err-check
 returns-in_err-check c =
     let a = c.args in
-    let l = opened a.session.now (are_bytes c.slice_known-1.given) c.requires.session (sym c.read_layout.ensures.layout ∙ c.in-Some.is) in
+    let l = opened a.session.now (record { below = c.fits-session }) c.told-session (sym c.read_layout.ensures.layout ∙ c.in-Some.is) in
     rw (passed_on c.from_residual.ensures.1) (sym (refused_tree a.tree.now a.session.now a.output.now l (sym c.check.ensures ∙ c.in_err-check.was)))

@@ -4,36 +4,21 @@ use Rattle.std.proofs.lemmas.List.{get_or_default}
 use Rattle.definition.specs.Tag.{tag_name, tag_params, tag_call, tag_array, tag_hash, tag_block}
 use Rattle.definition.specs.Node.{leaf, node, operator}
 use Rattle.load.specs.Draw.{drawn, bind, field_of, times}
-use Rattle.load.specs.Load.{expression, infixes, name_field, function_names, parameters, pairs, row_need, an_expression, a_statement}
+use Rattle.load.specs.Load.{infixes, name_field, function_names, parameters, pairs, row_need, an_expression, a_statement}
 use Rattle.load.proofs.Laws.{draw-wrote, wrote_as}
-use Rattle.load.proofs.Rows.{field-wrote, block_is, branch-high, expression-low, expression-high, statement-high, yielding-high}
+use Rattle.load.proofs.Rows.{field-wrote, empty_block, block_is, branch-high, expression-low, expression-high, statement-high, yielding-high}
 use Rattle.load.proofs.Items.{no_items, behind_first, items-wrote, taken_need, taken_cost, taken-wrote, call_times, pairs_times, parameters-wrote}
 use Rattle.load.specs.declared.row.Item.TheVariants.{Expression, Statement}
+use Rattle.load.proofs.+items.Goals.{put_item-in-Statement, put_item-in_default}
 use Rattle.load.proofs.+items.Goals as goal
-
-pub put_block-returns-then-below-eq0 : goal.put_block-returns-then-below-eq0
-unfolding expression
-put_block-returns-then-below-eq0 t c = rw c.if-below-eq0.true c.put_node.ensures
-
-pub put_branch-returns-then-below-eq0 : goal.put_branch-returns-then-below-eq0
-unfolding expression
-put_branch-returns-then-below-eq0 t c = rw c.if-below-eq0.true c.put_node.ensures
-
-pub put_statement-returns-then-below-eq0 : goal.put_statement-returns-then-below-eq0
-unfolding expression
-put_statement-returns-then-below-eq0 t c = rw c.if-below-eq0.true c.put_node.ensures
-
-pub put_yielding-returns-then-below-eq0 : goal.put_yielding-returns-then-below-eq0
-unfolding expression
-put_yielding-returns-then-below-eq0 t c = rw c.if-below-eq0.true c.put_node.ensures
 
 pub put_branch-returns-then-draw-eq0 : goal.put_branch-returns-then-draw-eq0
 put_branch-returns-then-draw-eq0 t c =
-    branch-high c.args.below _ c.args.draws.now.state {k = 0} (omega (arith, c.if-below-eq0.false)) (sym c.if-draw-eq0.true ∙ c.draw.ensures.is) c.draw.ensures.state c.put_node-then-draw-eq0.ensures
+    branch-high c.args.below _ c.args.draws.now.state {k = 0} (omega (arith, c.requires.0)) (sym c.if-draw-eq0.true ∙ c.draw.ensures.is) c.draw.ensures.state c.put_node.ensures
 
 pub put_branch-returns : goal.put_branch-returns
 put_branch-returns t c =
-    branch-high c.args.below _ c.args.draws.now.state {k = 1} (omega (arith, c.if-below-eq0.false)) (omega (arith, c.if-draw-eq0.false, c.draw.ensures.small, c.draw.ensures.is)) c.draw.ensures.state c.put_node-2.ensures
+    branch-high c.args.below _ c.args.draws.now.state {k = 1} (omega (arith, c.requires.0)) (omega (arith, c.if-draw-eq0.false, c.draw.ensures.small, c.draw.ensures.is)) c.draw.ensures.state c.put_node-2.ensures
 
 pub put_expression-returns-then-below-eq0 : goal.put_expression-returns-then-below-eq0
 put_expression-returns-then-below-eq0 t c = expression-low _ _ _ c.if-below-eq0.true c.draw.ensures.is c.draw.ensures.state c.put_leaf.ensures
@@ -64,7 +49,7 @@ pub put_item-returns-in-Parameters : goal.put_item-returns-in-Parameters
 put_item-returns-in-Parameters t c =
     rw c.in-Parameters.is
     (draw-wrote (λ n s. bind (parameters n s) (λ xs. drawn (node tag_params xs))) 3 _ c.draw-n.ensures.is c.draw-n.ensures.state
-    (parameters-wrote c.args.below c.draw-n.result _ _ (omega (arith, c.draw-n.ensures.small)) c.put_node.ensures))
+    (parameters-wrote c.args.below c.draw-n.result _ _ (omega (arith, c.draw-n.ensures.small)) c.put_node-in-Parameters.ensures))
 
 pub put_items-returns-in_default : goal.put_items-returns-in_default
 put_items-returns-in_default t c = no_items _ _ _ _ _ (omega (arith, c.in_default.len_below))
@@ -76,24 +61,24 @@ pub put_node-returns : goal.put_node-returns
 put_node-returns t c = field-wrote _ _ _ _ (omega (arith, c.requires)) c.put_items-n.ensures refl c.put_head.ensures
 
 pub put_yielding-returns : goal.put_yielding-returns
-put_yielding-returns t c = yielding-high _ _ _ (omega (arith, c.if-below-eq0.false)) c.put_node-2.ensures
+put_yielding-returns t c = yielding-high _ _ _ (omega (arith, c.requires.0)) c.put_node.ensures
 
 pub put_statement-returns-in-Expression : goal.put_statement-returns-in-Expression
 put_statement-returns-in-Expression t c =
-    statement-high c.args.below _ _ (omega (arith, c.if-below-eq0.false)) c.statement_choices.ensures c.draw-k.ensures.is c.draw-k.ensures.state c.in-Expression.is c.put_node-in-Expression.ensures
+    statement-high c.args.below _ _ (omega (arith, c.requires.0)) c.statement_choices.ensures c.draw-k.ensures.is c.draw-k.ensures.state c.in-Expression.is c.put_node.ensures
 
 pub put_statement-returns-in-Let : goal.put_statement-returns-in-Let
 put_statement-returns-in-Let t c =
-    statement-high c.args.below _ _ (omega (arith, c.if-below-eq0.false)) c.statement_choices.ensures c.draw-k.ensures.is c.draw-k.ensures.state c.in-Let.is c.put_node-in-Let.ensures
+    statement-high c.args.below _ _ (omega (arith, c.requires.0)) c.statement_choices.ensures c.draw-k.ensures.is c.draw-k.ensures.state c.in-Let.is c.put_node-in-Let.ensures
 
 pub put_statement-returns-in-Return : goal.put_statement-returns-in-Return
 put_statement-returns-in-Return t c =
-    statement-high c.args.below _ _ (omega (arith, c.if-below-eq0.false)) c.statement_choices.ensures c.draw-k.ensures.is c.draw-k.ensures.state c.in-Return.is c.put_node-in-Return.ensures
+    statement-high c.args.below _ _ (omega (arith, c.requires.0)) c.statement_choices.ensures c.draw-k.ensures.is c.draw-k.ensures.state c.in-Return.is c.put_node-in-Return.ensures
 
 pub put_statement-returns-in-Block : goal.put_statement-returns-in-Block
 put_statement-returns-in-Block t c =
-    statement-high c.args.below _ _ (omega (arith, c.if-below-eq0.false)) c.statement_choices.ensures c.draw-k.ensures.is c.draw-k.ensures.state c.in-Block.is
-    (wrote_as (sym (block_is c.args.below _ _ (omega (arith, c.if-below-eq0.false)))) c.put_block.ensures)
+    statement-high c.args.below _ _ (omega (arith, c.requires.0)) c.statement_choices.ensures c.draw-k.ensures.is c.draw-k.ensures.state c.in-Block.is
+    (wrote_as (sym (block_is c.args.below _ _ (omega (arith, c.requires.0)))) c.put_block.ensures)
 
 pub put_row-put_node-requires-in-Call : goal.put_row-put_node-requires-in-Call
 put_row-put_node-requires-in-Call t c =
@@ -140,6 +125,14 @@ put_row-returns-in-Hash t c =
 pub put_block-returns : goal.put_block-returns
 put_block-returns t c =
     let p = a_statement (c.args.below - 1) in
-    wrote_as (block_is c.args.below _ _ (omega (arith, c.if-below-eq0.false)))
+    wrote_as (block_is c.args.below _ _ (omega (arith, c.requires.0)))
     (draw-wrote (λ k. field_of tag_block (times k p) (length c.args.out.now)) 3 _ c.draw-n.ensures.is c.draw-n.ensures.state
-    (taken-wrote (c.args.below - 1) 2 c.draw-n.result Statement tag_block _ _ (omega (arith, c.draw-n.ensures.small)) refl c.put_node-2.ensures))
+    (taken-wrote (c.args.below - 1) 2 c.draw-n.result Statement tag_block _ _ (omega (arith, c.draw-n.ensures.small)) refl c.put_node.ensures))
+
+pub put_item-returns-then-matches : goal.put_item-returns-then-matches
+put_item-returns-then-matches t c =
+    rw c.if-below-eq0.true
+    (elim c.match-matches.branch [
+      | put_item-in-Statement w ↦ wrote_as (empty_block w.in-Statement.is _ _) c.put_node.ensures
+      | put_item-in_default w ↦ grind (arith, c.if-matches.true, w.matches-is)
+    ])

@@ -1,8 +1,8 @@
--- `opcode::width` meets its contract: what it computes is the table's entry.
-use mathlib.Core.Path.{refl}
+-- `opcode::width` meets its contract: the table is the rule tabulated.
 use native.Mathlib.Omega.{arith}
-use Rattle.opcode.proofs.Widths.{packed-entry}
+use Rattle.opcode.specs.Table.{entry}
+use Rattle.opcode.proofs.Tables.{tabulated}
 use Rattle.opcode.proofs.width.Goals as goal
 
 pub returns : goal.returns
-returns c = packed-entry _ _ refl c.args.op (omega arith) c.wide-o.ensures.is
+returns c = rw c.wide.ensures.is (tabulated entry 256 c.args.op (omega arith))

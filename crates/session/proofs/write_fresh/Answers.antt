@@ -8,4 +8,4 @@ returns-then-session-lt-SESSION_SIZE c = rw c.refused.ensures (made_short c.args
 
 pub returns : goal.returns
 returns c =
-    made-fresh c.args.session.now c.if-session-lt-SESSION_SIZE.false c.restore.ensures refl c.finish_session.ensures
+    made-fresh c.args.session.now c.if-session-lt-SESSION_SIZE.false c.clear.ensures refl c.finish_session.ensures

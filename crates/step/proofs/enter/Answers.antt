@@ -10,17 +10,21 @@ returns-then-level-ge-NESTING_LIMIT c = rw c.refused.ensures (enter-nested c.req
 pub returns-then-n-gt-ARGUMENTS_LIMIT : goal.returns-then-n-gt-ARGUMENTS_LIMIT
 returns-then-n-gt-ARGUMENTS_LIMIT c = rw c.refused-then-n-gt-ARGUMENTS_LIMIT.ensures (enter-many c.requires.head_at c.if-level-ge-NESTING_LIMIT.false c.if-n-gt-ARGUMENTS_LIMIT.true)
 
-pub new-requires : goal.new-requires
-new-requires c = let h = c.requires.head_at.named.fits in record { stands = h; within = omega (arith, h, c.requires.tree_len_bound) }
+pub next-params-requires : goal.next-params-requires
+next-params-requires c = rw (c.first-name.ensures.bytes, c.first-name.ensures.at) (params_whole c.requires.head_at)
+
+pub new-key-requires : goal.new-key-requires
+new-key-requires c = let h = c.requires.head_at.named.fits in rw (c.first-name.ensures.bytes, c.first-name.ensures.at) (record { stands = h; within = omega (arith, h, c.requires.tree_len_bound) })
 
 pub enter-requires-clause-tree_len_bound : goal.enter-requires-clause-tree_len_bound
-enter-requires-clause-tree_len_bound c = rw c.new.ensures.tree c.requires.tree_len_bound
-
-pub after_at-end-requires : goal.after_at-end-requires
-after_at-end-requires c = rw c.after_at-params.ensures.is (params_whole c.requires.head_at)
+enter-requires-clause-tree_len_bound c = rw (c.new-key.ensures.tree, c.first-name.ensures.bytes) c.requires.tree_len_bound
 
 pub enter-requires-clause-params : goal.enter-requires-clause-params
-enter-requires-clause-params c = rw (c.new.ensures.tree, c.after_at-end.ensures.is, c.after_at-params.ensures.is) (params_stand c.requires.head_at c.if-n-gt-ARGUMENTS_LIMIT.false)
+enter-requires-clause-params c =
+    rw (c.new-key.ensures.tree, c.after.ensures.is, c.next-params.ensures.bytes, c.next-params.ensures.at, c.first-name.ensures.bytes, c.first-name.ensures.at) (params_stand c.requires.head_at c.if-n-gt-ARGUMENTS_LIMIT.false)
 
 pub returns : goal.returns
-returns c = let s = c.args.scope.now in record { enters = λ e f. enter-on c.requires.head_at s.state c.if-level-ge-NESTING_LIMIT.false c.if-n-gt-ARGUMENTS_LIMIT.false (rw (c.new.ensures.tree, c.new.ensures.at, c.after_at-end.ensures.is, c.after_at-params.ensures.is) at c.enter.ensures) s.area s.fits c.enter.auto.table c.inside-scope.ensures e f; code = refl; same = refl }
+returns c =
+    let s = c.args.scope.now in
+    let t = rw (c.new-key.ensures.tree, c.new-key.ensures.at, c.after.ensures.is, c.next-params.ensures.bytes, c.next-params.ensures.at, c.first-name.ensures.bytes, c.first-name.ensures.at) at c.enter.ensures in
+    record { enters = λ e f. enter-on c.requires.head_at s.state c.if-level-ge-NESTING_LIMIT.false c.if-n-gt-ARGUMENTS_LIMIT.false t s.area s.fits c.enter.auto.table c.inside-scope.ensures e f; code = refl; same = refl }

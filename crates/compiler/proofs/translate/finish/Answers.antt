@@ -9,7 +9,7 @@ use Rattle.compiler.proofs.Accepted.{bounds, words-end, names_room, session_room
 use Rattle.compiler.proofs.translate.finish.Goals as goal
 
 pub returns-then-output-total : goal.returns-then-output-total
-returns-then-output-total c p = rw c.refused.ensures (short p c.if-output-total.true c.restore.ensures)
+returns-then-output-total c p = rw c.refused.ensures (short p c.if-output-total.true c.clear.ensures)
 
 pub append_names-end-requires : goal.append_names-end-requires
 append_names-end-requires c =

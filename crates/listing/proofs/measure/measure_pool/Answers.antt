@@ -15,30 +15,41 @@ use Rattle.listing.proofs.measure.measure_pool.Goals as goal
 pub returns-in_err-head-clause-is : goal.returns-in_err-head-clause-is
 returns-in_err-head-clause-is c =
     let b = c.args.image.now in
-    rw (passed_on c.from_residual.ensures.1) (sym (ap pool_measured (unfitting b c.args.at (length b) is_pool c.head_where.ensures (λ h r q. search rules) c.in_err-head.was (pool_content (byte_at b)))))
+    let e = c.whole.ensures in
+    let r = c.from-rest.ensures in
+    rw (passed_on c.from_residual.ensures.1) (sym (ap pool_measured (unfitting b c.args.at (length b) is_pool (rw (r.bytes, r.start, r.end, e.bytes, e.end) at c.head_where.ensures) (λ h r q. search rules) c.in_err-head.was (pool_content (byte_at b)))))
 
-pub overflow_add-constants-3 : goal.overflow_add-constants-3
-overflow_add-constants-3 c =
+pub behind-requires : goal.behind-requires
+behind-requires c =
     let b = c.args.image.now in
-    let f = fitting b c.args.at (length b) is_pool c.head_where.ensures (λ h r q. search rules) c.in_ok-head.was in
+    let e = c.whole.ensures in
+    let r = c.from-rest.ensures in
+    let f = fitting b c.args.at (length b) is_pool (rw (r.bytes, r.start, r.end, e.bytes, e.end) at c.head_where.ensures) (λ h r q. search rules) c.in_ok-head.was in
     omega arith
 
 pub invariant_of-constants : goal.invariant_of-constants
 invariant_of-constants c =
     let b = c.args.image.now in
-    let f = fitting b c.args.at (length b) is_pool c.head_where.ensures (λ h r q. search rules) c.in_ok-head.was in
+    let e = c.whole.ensures in
+    let r = c.from-rest.ensures in
+    let f = fitting b c.args.at (length b) is_pool (rw (r.bytes, r.start, r.end, e.bytes, e.end) at c.head_where.ensures) (λ h r q. search rules) c.in_ok-head.was in
     let s = pool_short c.in_ok-head.head f.is_good in
-    record { part = record { order = omega arith; within = omega (arith, f.within) }; few = omega arith }
+    record { few = omega arith }
 
 pub returns-clause-is : goal.returns-clause-is
 returns-clause-is c =
     let b = c.args.image.now in
-    let f = fitting b c.args.at (length b) is_pool c.head_where.ensures (λ h r q. search rules) c.in_ok-head.was in
-    rw f.reads c.measure_constants.ensures.is
+    let e = c.whole.ensures in
+    let r = c.from-rest.ensures in
+    let f = fitting b c.args.at (length b) is_pool (rw (r.bytes, r.start, r.end, e.bytes, e.end) at c.head_where.ensures) (λ h r q. search rules) c.in_ok-head.was in
+    let b = c.behind.ensures in
+    rw f.reads (rw (b.end, b.start, b.bytes, r.start, r.bytes, e.bytes) at c.measure_constants.ensures.is)
 
 pub returns-clause-small : goal.returns-clause-small
 returns-clause-small c =
     let b = c.args.image.now in
-    let f = fitting b c.args.at (length b) is_pool c.head_where.ensures (λ h r q. search rules) c.in_ok-head.was in
+    let e = c.whole.ensures in
+    let r = c.from-rest.ensures in
+    let f = fitting b c.args.at (length b) is_pool (rw (r.bytes, r.start, r.end, e.bytes, e.end) at c.head_where.ensures) (λ h r q. search rules) c.in_ok-head.was in
     let s = pool_short c.in_ok-head.head f.is_good in
     omega (arith, c.measure_constants.ensures.small)

@@ -1,8 +1,6 @@
 -- `report::input::with_input` meets its contract: the input is what the buffer's front holds.
 use native.Mathlib.Omega.{arith}
 use mathlib.Core.Path.{refl}
-use mathlib.Core.List.{List}
-use lib.ListN.{length}
 use Rattle.std.specs.Prelude.{Result, Ok, Err, IfOk}
 use Rattle.std.proofs.lemmas.List.{length-take-le}
 use Rattle.report.proofs.input.with_input.Goals as goal

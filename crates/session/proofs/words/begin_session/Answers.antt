@@ -13,4 +13,4 @@ pub returns : goal.returns
 returns c =
     let n = 3 + length c.args.words.now in
     let none : (n + 3) - (n + 3) ≡ 0 = omega arith in
-    begun_session c.args.session.now c.args.words.now c.requires.0 c.requires.1 refl c.restore.ensures c.put_field.ensures (ap (λ k. sets c.put_field.new.out n (heading tag_names k)) none) c.finish_session.ensures
+    begun_session c.args.session.now c.args.words.now c.requires.0 c.requires.1 refl c.clear.ensures c.put_field.ensures (ap (λ k. sets c.put_field.new.out n (heading tag_names k)) none) c.finish_session.ensures

@@ -1,5 +1,5 @@
 -- `step::closing::close` meets its contract: room for the loads, the constant, then the loads and Closure.
-use mathlib.Core.Path.{refl}
+use mathlib.Core.Path.{refl, ◌∙◌}
 use Rattle.definition.proofs.Basic.{passed_on}
 use Rattle.step.proofs.Closed.{few_captures, closes_full, closes_stops, closes_on}
 use Rattle.step.proofs.closing.close.Goals as goal
@@ -12,10 +12,12 @@ returns-then-end-loads_size-gt-CODE_SIZE c = rw c.refused.ensures (record { clos
 
 pub returns-in_err-index : goal.returns-in_err-index
 returns-in_err-index c =
+    let a = c.in_err-index.ensures in
     rw (passed_on c.from_residual.ensures.1)
-    (record { closed = closes_stops _ _ c.requires (rw c.of-part.ensures at c.originals-originals.ensures.count) (rw c.of-part.ensures at c.originals-originals.ensures.symbols) c.loads_size.ensures.is c.if-end-loads_size-gt-CODE_SIZE.false (rw c.of-part.ensures at c.definitions-locals.ensures) c.in_err-index.ensures; same = refl })
+    (record { closed = rw a.code (closes_stops _ _ c.requires (rw c.of-part.ensures at c.originals-originals.ensures.count) (rw c.of-part.ensures at c.originals-originals.ensures.symbols) c.loads_size.ensures.is c.if-end-loads_size-gt-CODE_SIZE.false (rw c.of-part.ensures at c.definitions-locals.ensures) a.adds); same = a.same })
 
 pub returns : goal.returns
 returns c =
+    let a = c.in_ok-index.ensures in
     let d = c.emit_function.ensures in
-    record { closed = closes_on _ _ c.requires (rw c.of-part.ensures at c.originals-originals.ensures.count) (rw c.of-part.ensures at c.originals-originals.ensures.symbols) c.loads_size.ensures.is c.if-end-loads_size-gt-CODE_SIZE.false (rw c.of-part.ensures at c.definitions-locals.ensures) c.in_ok-index.ensures (rw c.outside-scope.ensures at d.done); same = d.same }
+    record { closed = closes_on _ _ c.requires (rw c.of-part.ensures at c.originals-originals.ensures.count) (rw c.of-part.ensures at c.originals-originals.ensures.symbols) c.loads_size.ensures.is c.if-end-loads_size-gt-CODE_SIZE.false (rw c.of-part.ensures at c.definitions-locals.ensures) a.adds (rw (c.outside-scope.ensures, a.code) at d.done); same = d.same ∙ a.same }

@@ -18,15 +18,13 @@ loop-at-init c =
       begun = subst (λ at. Begun a.names.bytes.now a.names.at a.names.end (set c.clear_heads.new.globals 0 0) at) (starts_at e n) (begun-start a.names.bytes.now a.names.at c.clear_heads.new.globals (omega arith) k a.names.end c.requires.has_items);
     }
 
-pub add_global-requires : goal.add_global-requires
-add_global-requires c =
+pub add-requires : goal.add-requires
+add-requires c =
     let l = c.loop-at in
     let a = c.args in
     let n = c.in-Some.ensures.steps in
     let x = subst (λ at. Begun a.names.bytes.now a.names.at a.names.end l.globals at) (sym n.here) l.invariant.begun in
-    record {
-      addable = begun_addable _ _ _ _ _ x _ c.requires.session_len_bound (begun_here _ _ _ _ _ x c.requires.has_items (is_before l.invariant.over n)) c.hash_at-hash.ensures.is;
-    }
+    begun_addable _ _ _ _ _ x _ c.requires.session_len_bound (begun_here _ _ _ _ _ x c.requires.has_items (is_before l.invariant.over n)) c.hash_at.ensures.is
 
 pub loop-at-preserved : goal.loop-at-preserved
 loop-at-preserved c =
@@ -37,8 +35,8 @@ loop-at-preserved c =
     record {
       can = c.in-Some.ensures.goes.keeps;
       over = over_again l.invariant.over n;
-      begun = subst (λ at. Begun a.names.bytes.now a.names.at a.names.end c.add_global.new.globals at) (sym (is_behind l.invariant.over n))
-          (begun-step _ _ _ _ _ x _ c.requires.session_len_bound (begun_here _ _ _ _ _ x c.requires.has_items (is_before l.invariant.over n)) c.add_global.ensures);
+      begun = subst (λ at. Begun a.names.bytes.now a.names.at a.names.end c.add.new.globals at) (sym (is_behind l.invariant.over n))
+          (begun-step _ _ _ _ _ x _ c.requires.session_len_bound (begun_here _ _ _ _ _ x c.requires.has_items (is_before l.invariant.over n)) c.add.ensures);
     }
 
 pub returns : goal.returns

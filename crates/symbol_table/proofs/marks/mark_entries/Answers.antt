@@ -16,6 +16,6 @@ code_outermost-code-requires c =
 pub loop-i-preserved : goal.loop-i-preserved
 loop-i-preserved c =
     let l = c.loop-i in
-    marks_next _ _ _ _ _ c.requires.good _ _ l.invariant (omega (arith, c.requires.count)) _ _ c.requires.size
-    (rw (c.new.ensures.tree, c.new.ensures.at, globals_then _ _ _ _ _ c.requires.good _ l.invariant.remarked, c.of-in-loop-i.ensures) at c.code_outermost-code.ensures.outermost)
+    marks_next _ _ _ _ _ c.requires.good _ _ l.invariant (omega (arith, rw c.of-part.ensures at c.entries-n.ensures)) _ _ c.requires.size
+    (rw (c.new.ensures.tree, c.new.ensures.at, globals_then _ _ _ _ _ c.requires.good _ l.invariant.remarked, c.of.ensures) at c.code_outermost-code.ensures.outermost)
     c.next_at.auto.table c.next_at.ensures

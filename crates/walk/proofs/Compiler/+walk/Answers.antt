@@ -9,13 +9,13 @@ use Rattle.tree.proofs.Rows.{exprs_in_row, names_in_row, stmts_to, exprs_to}
 use Rattle.walk.proofs.Calls.{many_walks, few_walks, call_walks, array_walks, hash_walks, list_walks}
 use Rattle.walk.proofs.Expressions.{expr_walks, identifier_walks, integer_walks, string_walks, boolean_byte, boolean_walks, macro_walks, index_walks, less_walks, infix_walks, prefix_walks}
 use Rattle.walk.proofs.Function.{inside_walked, leaves_stays, function_walks}
-use Rattle.walk.proofs.If.{branch_walks, branches_walks, behind_walks, behind_refused, else_walks, null_walks, if_walks}
-use Rattle.walk.proofs.Sequence.{done_refuses, walk_stays, jump_walk, jump_refused}
+use Rattle.walk.proofs.If.{branch_walks, branches_walks, behind_walks, behind_refused, else_walks, null_walks, if_walks, other_walks}
+use Rattle.walk.proofs.Sequence.{done_refuses, walk_stays, jump_walk, jump_refused, jumped_fine}
 use Rattle.step.proofs.Memory.{done_stays}
 use Rattle.walk.proofs.Statements.{let_walks, let_refused, stmt_walks, expr_stmt_walks, block_walks, return_walks}
 use Rattle.walk.proofs.Turns.{stmts_first, stmts_fit, exprs_first, exprs_fit}
 use Rattle.walk.proofs.Compiled.{loop_holds, turn_at, stmt_turn, expr_turn, stmt_refused, expr_refused, stmts_walked, exprs_walked}
-use Rattle.field.proofs.EachField.{can_begin, is_before}
+use Rattle.field.proofs.EachField.{begins_there, can_begin, is_before}
 use borrow.Author.Rules.{rules}
 use mathlib.Core.Path.{refl, sym, subst, ◌∙◌}
 use Rattle.std.specs.Prelude.{Ok}
@@ -24,14 +24,14 @@ use Rattle.scope.specs.Machine.{machine}
 use Rattle.tree.specs.Reads.{ReadsExpr}
 use Rattle.walk.specs.Compiles.{Compiles}
 use native.Mathlib.Omega.{arith}
-use Rattle.walk.proofs.Compiler.+walk.Goals.{walk_infix-then-o-eq-LESS_THAN+in_ok-walk_expression+in_ok-walk_expression-2, walk_infix-else-o-eq-LESS_THAN+in_ok-walk_expression-3+in_ok-walk_expression-4}
+use Rattle.walk.proofs.Compiler.+walk.Goals.{walk_if-then-at-end+in_ok-walk_branch-2, walk_if-else-at-end+in_ok-emit, walk_infix-then-o-eq-LESS_THAN+in_ok-walk_expression+in_ok-walk_expression-2, walk_infix-else-o-eq-LESS_THAN+in_ok-walk_expression-3+in_ok-walk_expression-4}
 use Rattle.walk.proofs.Compiler.+walk.Goals as goal
 
 pub walk_block-loop-at-init-derived : goal.walk_block-loop-at-init-derived
-walk_block-loop-at-init-derived t c = (can_begin c.into_iter-at-iterator.ensures.into_iter_gives c.new-at-items.ensures (stmts_to c.requires.some), tt)
+walk_block-loop-at-init-derived t c = (can_begin c.into_iter-at-iterator.ensures.into_iter_gives (begins_there c.args.fields) (stmts_to c.requires.some), tt)
 
 pub walk_block-loop-at-init : goal.walk_block-loop-at-init
-walk_block-loop-at-init t c = loop_holds c.into_iter-at-iterator.ensures.into_iter_gives c.new-at-items.ensures c.requires.some c.requires.standing
+walk_block-loop-at-init t c = loop_holds c.into_iter-at-iterator.ensures.into_iter_gives (begins_there c.args.fields) c.requires.some c.requires.standing
 
 pub walk_block-walk_statement-requires : goal.walk_block-walk_statement-requires
 walk_block-walk_statement-requires t c =
@@ -54,10 +54,10 @@ walk_block-returns t c =
     stmts_walked c.in-None.ensures.steps c.loop-at.invariant
 
 pub walk_expressions-loop-at-init-derived : goal.walk_expressions-loop-at-init-derived
-walk_expressions-loop-at-init-derived t c = (can_begin c.into_iter-at-iterator.ensures.into_iter_gives c.new-at-items.ensures (exprs_to c.requires.some), tt)
+walk_expressions-loop-at-init-derived t c = (can_begin c.into_iter-at-iterator.ensures.into_iter_gives (begins_there c.args.fields) (exprs_to c.requires.some), tt)
 
 pub walk_expressions-loop-at-init : goal.walk_expressions-loop-at-init
-walk_expressions-loop-at-init t c = loop_holds c.into_iter-at-iterator.ensures.into_iter_gives c.new-at-items.ensures c.requires.some c.requires.standing
+walk_expressions-loop-at-init t c = loop_holds c.into_iter-at-iterator.ensures.into_iter_gives (begins_there c.args.fields) c.requires.some c.requires.standing
 
 pub walk_expressions-walk_expression-requires : goal.walk_expressions-walk_expression-requires
 walk_expressions-walk_expression-requires t c =
@@ -81,61 +81,29 @@ walk_expressions-returns t c =
 
 pub walk_branch-returns-in_err-walk_block : goal.walk_branch-returns-in_err-walk_block
 walk_branch-returns-in_err-walk_block t c =
-    let d = c.in_err-walk_block.ensures in
-    rw (passed_on c.from_residual.ensures.1) (record { walks = branch_walks c.args.place c.after.ensures.is d.walks (done_stays d.walks.ready); same = d.same })
+    let d = rw (c.children.ensures.bytes, c.children.ensures.at, c.children.ensures.end) at c.in_err-walk_block.ensures in
+    rw (passed_on c.from_residual.ensures.1) (record { walks = branch_walks c.args.place refl d.walks (done_stays d.walks.ready); same = d.same })
 
 pub walk_branch-returns : goal.walk_branch-returns
 walk_branch-returns t c =
-    let d = c.in_ok-walk_block.ensures in
+    let d = rw (c.children.ensures.bytes, c.children.ensures.at, c.children.ensures.end) at c.in_ok-walk_block.ensures in
     let e = c.drop_pop.ensures in
-    record { walks = branch_walks c.args.place c.after.ensures.is d.walks e.done; same = rw e.same d.same }
-
-pub walk_branches-returns-in_err-walk_branch : goal.walk_branches-returns-in_err-walk_branch
-walk_branches-returns-in_err-walk_branch t c =
-    let d = rw (c.next.ensures.bytes, c.next.ensures.at, c.first.ensures.bytes, c.first.ensures.at) at c.in_err-walk_branch.ensures in
-    rw (passed_on c.from_residual.ensures.1) (record { walks = branches_walks c.args.skip refl d.walks (walk_stays d.walks.ready); same = d.same })
-
-pub walk_branches-returns-in_err-away : goal.walk_branches-returns-in_err-away
-walk_branches-returns-in_err-away t c =
-    let d = rw (c.next.ensures.bytes, c.next.ensures.at, c.first.ensures.bytes, c.first.ensures.at) at c.in_ok-walk_branch.ensures in
-    let j = c.in_err-away.ensures in
-    rw (passed_on c.from_residual-in_err-away.ensures.1) (record { walks = branches_walks c.args.skip refl d.walks (behind_refused c.args.skip d.walks.fine j.jumped); same = rw j.same d.same })
-
-pub walk_branches-returns-in_err-walk_else : goal.walk_branches-returns-in_err-walk_else
-walk_branches-returns-in_err-walk_else t c =
-    let d = rw (c.next.ensures.bytes, c.next.ensures.at, c.first.ensures.bytes, c.first.ensures.at) at c.in_ok-walk_branch.ensures in
-    let j = c.in_ok-away.ensures in
-    let e = c.in_err-walk_else.ensures in
-    rw (passed_on c.from_residual-in_err-walk_else.ensures.1) (record {
-      walks = branches_walks c.args.skip refl d.walks (behind_walks c.args.skip d.walks.fine j.jumped e.walks (done_stays e.walks.ready));
-      same = e.same ∙ rw j.same d.same;
-    })
-
-pub walk_branches-returns : goal.walk_branches-returns
-walk_branches-returns t c =
-    let d = rw (c.next.ensures.bytes, c.next.ensures.at, c.first.ensures.bytes, c.first.ensures.at) at c.in_ok-walk_branch.ensures in
-    let j = c.in_ok-away.ensures in
-    let e = c.in_ok-walk_else.ensures in
-    let p = c.patch.ensures in
-    record {
-      walks = branches_walks c.args.skip refl d.walks (behind_walks c.args.skip d.walks.fine j.jumped e.walks p.done);
-      same = rw p.same (e.same ∙ rw j.same d.same);
-    }
+    record { walks = branch_walks c.args.place refl d.walks e.done; same = rw e.same d.same }
 
 pub walk_call-count_fields-n-requires : goal.walk_call-count_fields-n-requires
 walk_call-count_fields-n-requires t c =
-    exprs_in_row (call_args (rw (c.first-callee.ensures.bytes, c.first-callee.ensures.at) at c.after-args.ensures.is) c.after-end.ensures.is c.requires.some)
+    exprs_in_row (call_args (rw (c.first-callee.ensures.bytes, c.first-callee.ensures.at) at c.after.ensures.is) c.after-2.ensures.is c.requires.some)
 
 pub walk_call-returns-in_err-walk_expression : goal.walk_call-returns-in_err-walk_expression
 walk_call-returns-in_err-walk_expression t c =
     let d = rw (c.first-callee.ensures.bytes, c.first-callee.ensures.at) at c.in_err-walk_expression.ensures in
-    rw (passed_on c.from_residual.ensures.1) (record { walks = call_walks (rw (c.first-callee.ensures.bytes, c.first-callee.ensures.at) at c.after-args.ensures.is) c.after-end.ensures.is d.walks (walk_stays d.walks.ready); same = d.same })
+    rw (passed_on c.from_residual.ensures.1) (record { walks = call_walks (rw (c.first-callee.ensures.bytes, c.first-callee.ensures.at) at c.after.ensures.is) c.after-2.ensures.is d.walks (walk_stays d.walks.ready); same = d.same })
 
 pub walk_call-returns-then-n-gt-ARGUMENTS_LIMIT : goal.walk_call-returns-then-n-gt-ARGUMENTS_LIMIT
 walk_call-returns-then-n-gt-ARGUMENTS_LIMIT t c =
     let d = rw (c.first-callee.ensures.bytes, c.first-callee.ensures.at) at c.in_ok-walk_expression.ensures in
     record {
-      walks = call_walks (rw (c.first-callee.ensures.bytes, c.first-callee.ensures.at) at c.after-args.ensures.is) c.after-end.ensures.is d.walks (many_walks c.args.field.at c.count_fields-n.ensures c.if-n-gt-ARGUMENTS_LIMIT.true d.walks.fine (done_refuses d.walks.ready.area c.refused.ensures));
+      walks = call_walks (rw (c.first-callee.ensures.bytes, c.first-callee.ensures.at) at c.after.ensures.is) c.after-2.ensures.is d.walks (many_walks c.args.field.at c.count_fields-n.ensures c.if-n-gt-ARGUMENTS_LIMIT.true d.walks.fine (done_refuses d.walks.ready.area c.refused.ensures));
       same = d.same;
     }
 
@@ -144,7 +112,7 @@ walk_call-returns-in_err-walk_expressions t c =
     let d = rw (c.first-callee.ensures.bytes, c.first-callee.ensures.at) at c.in_ok-walk_expression.ensures in
     let e = c.in_err-walk_expressions.ensures in
     rw (passed_on c.from_residual-in_err-walk_expressions.ensures.1) (record {
-      walks = call_walks (rw (c.first-callee.ensures.bytes, c.first-callee.ensures.at) at c.after-args.ensures.is) c.after-end.ensures.is d.walks (few_walks c.args.field.at c.count_fields-n.ensures c.if-n-gt-ARGUMENTS_LIMIT.false e.walks (done_stays e.walks.ready));
+      walks = call_walks (rw (c.first-callee.ensures.bytes, c.first-callee.ensures.at) at c.after.ensures.is) c.after-2.ensures.is d.walks (few_walks c.args.field.at c.count_fields-n.ensures c.if-n-gt-ARGUMENTS_LIMIT.false e.walks (done_stays e.walks.ready));
       same = e.same ∙ d.same;
     })
 
@@ -154,19 +122,9 @@ walk_call-returns t c =
     let e = c.in_ok-walk_expressions.ensures in
     let f = c.emit_operand.ensures in
     record {
-      walks = call_walks (rw (c.first-callee.ensures.bytes, c.first-callee.ensures.at) at c.after-args.ensures.is) c.after-end.ensures.is d.walks (few_walks c.args.field.at c.count_fields-n.ensures c.if-n-gt-ARGUMENTS_LIMIT.false e.walks f.done);
+      walks = call_walks (rw (c.first-callee.ensures.bytes, c.first-callee.ensures.at) at c.after.ensures.is) c.after-2.ensures.is d.walks (few_walks c.args.field.at c.count_fields-n.ensures c.if-n-gt-ARGUMENTS_LIMIT.false e.walks f.done);
       same = rw f.same (e.same ∙ d.same);
     }
-
-pub walk_else-returns-then-at-end : goal.walk_else-returns-then-at-end
-walk_else-returns-then-at-end t c =
-    let d = rw (c.next.ensures.bytes, c.next.ensures.at, c.next-branch.ensures.bytes, c.first.ensures.bytes) at c.walk_branch.ensures in
-    record { walks = else_walks (rw (c.first.ensures.bytes, c.first.ensures.at) at c.next-branch.ensures.at) refl c.after-end.ensures.is (rw (rw (c.next-branch.ensures.bytes, c.first.ensures.bytes) at c.after-at.ensures.is) at c.if-at-end.true) d.walks; same = d.same }
-
-pub walk_else-returns-else-at-end : goal.walk_else-returns-else-at-end
-walk_else-returns-else-at-end t c =
-    let e = c.emit.ensures in
-    record { walks = null_walks (rw (c.first.ensures.bytes, c.first.ensures.at) at c.next-branch.ensures.at) (rw (c.next-branch.ensures.bytes, c.first.ensures.bytes) at c.after-at.ensures.is) c.after-end.ensures.is c.if-at-end.false c.requires.standing.fine e.done; same = rw e.same refl }
 
 pub walk_expression-walk_prefix-requires : goal.walk_expression-walk_prefix-requires
 walk_expression-walk_prefix-requires t c =
@@ -262,19 +220,21 @@ walk_expression-returns-in_default t c =
 
 pub walk_function-count_fields-n-requires : goal.walk_function-count_fields-n-requires
 walk_function-count_fields-n-requires t c =
-    names_in_row (function_params (rw (c.first.ensures.bytes, c.first.ensures.at) at c.next-params.ensures.at) (rw (c.next-params.ensures.bytes, c.first.ensures.bytes) at c.next-body.ensures.at) c.requires.some)
+    rw (c.children.ensures.bytes, c.children.ensures.at, c.children.ensures.end, c.next-params.ensures.bytes, c.first.ensures.bytes) (names_in_row (function_params (rw (c.first.ensures.bytes, c.first.ensures.at) at c.next-params.ensures.at) refl c.requires.some))
 
 pub walk_function-returns-in_err-enter : goal.walk_function-returns-in_err-enter
 walk_function-returns-in_err-enter t c =
     let i = c.in_err-enter.ensures in
     let e = i.enters _ c.requires.standing.fine in
-    rw (passed_on c.from_residual.ensures.1) (record { walks = rw i.code (function_walks (rw (c.first.ensures.bytes, c.first.ensures.at) at c.next-params.ensures.at) (rw (c.next-params.ensures.bytes, c.first.ensures.bytes) at c.next-body.ensures.at) (rw (c.next-body.ensures.bytes, c.next-params.ensures.bytes, c.first.ensures.bytes) at c.after-end.ensures.is) c.count_fields-n.ensures e (walk_stays e.ready) (leaves_stays e.ready)); same = rw i.same refl })
+    let k = rw (c.children.ensures.bytes, c.children.ensures.at, c.children.ensures.end, c.next-params.ensures.bytes, c.first.ensures.bytes) at c.count_fields-n.ensures in
+    rw (passed_on c.from_residual.ensures.1) (record { walks = rw i.code (function_walks (rw (c.first.ensures.bytes, c.first.ensures.at) at c.next-params.ensures.at) refl refl k e (walk_stays e.ready) (leaves_stays e.ready)); same = rw i.same refl })
 
 pub walk_function-returns-in_err-walk_block : goal.walk_function-returns-in_err-walk_block
 walk_function-returns-in_err-walk_block t c =
     let i = c.in_ok-enter.ensures in
-    let d = c.in_err-walk_block.ensures in
-    rw (passed_on c.from_residual-in_err-walk_block.ensures.1) (record { walks = function_walks (rw (c.first.ensures.bytes, c.first.ensures.at) at c.next-params.ensures.at) (rw (c.next-params.ensures.bytes, c.first.ensures.bytes) at c.next-body.ensures.at) (rw (c.next-body.ensures.bytes, c.next-params.ensures.bytes, c.first.ensures.bytes) at c.after-end.ensures.is) c.count_fields-n.ensures (i.enters _ c.requires.standing.fine) (rw (← i.code) d.walks) (leaves_stays d.walks.ready); same = rw (← i.same) d.same })
+    let k = rw (c.children.ensures.bytes, c.children.ensures.at, c.children.ensures.end, c.next-params.ensures.bytes, c.first.ensures.bytes) at c.count_fields-n.ensures in
+    let d = rw (c.children-2.ensures.bytes, c.children-2.ensures.at, c.children-2.ensures.end, c.next-body.ensures.bytes, c.next-body.ensures.at, c.next-params.ensures.bytes, c.first.ensures.bytes) at c.in_err-walk_block.ensures in
+    rw (passed_on c.from_residual-in_err-walk_block.ensures.1) (record { walks = function_walks (rw (c.first.ensures.bytes, c.first.ensures.at) at c.next-params.ensures.at) refl refl k (i.enters _ c.requires.standing.fine) (rw (← i.code) d.walks) (leaves_stays d.walks.ready); same = rw (← i.same) d.same })
 
 pub walk_function-leave-requires-clause-deeper : goal.walk_function-leave-requires-clause-deeper
 walk_function-leave-requires-clause-deeper t c =
@@ -284,27 +244,10 @@ walk_function-leave-requires-clause-deeper t c =
 pub walk_function-returns : goal.walk_function-returns
 walk_function-returns t c =
     let i = c.in_ok-enter.ensures in
-    let d = c.in_ok-walk_block.ensures in
+    let k = rw (c.children.ensures.bytes, c.children.ensures.at, c.children.ensures.end, c.next-params.ensures.bytes, c.first.ensures.bytes) at c.count_fields-n.ensures in
+    let d = rw (c.children-2.ensures.bytes, c.children-2.ensures.at, c.children-2.ensures.end, c.next-body.ensures.bytes, c.next-body.ensures.at, c.next-params.ensures.bytes, c.first.ensures.bytes) at c.in_ok-walk_block.ensures in
     let l = c.leave.ensures.closed in
-    record { walks = function_walks (rw (c.first.ensures.bytes, c.first.ensures.at) at c.next-params.ensures.at) (rw (c.next-params.ensures.bytes, c.first.ensures.bytes) at c.next-body.ensures.at) (rw (c.next-body.ensures.bytes, c.next-params.ensures.bytes, c.first.ensures.bytes) at c.after-end.ensures.is) c.count_fields-n.ensures (i.enters _ c.requires.standing.fine) (rw (← i.code) d.walks) (l.leaves _ d.walks.fine); same = rw (l.same, ← i.same) d.same }
-
-pub walk_if-returns-in_err-walk_expression : goal.walk_if-returns-in_err-walk_expression
-walk_if-returns-in_err-walk_expression t c =
-    let d = rw (c.first.ensures.bytes, c.first.ensures.at) at c.in_err-walk_expression.ensures in
-    rw (passed_on c.from_residual.ensures.1) (record { walks = if_walks d.walks (walk_stays d.walks.ready); same = d.same })
-
-pub walk_if-returns-in_err-skip : goal.walk_if-returns-in_err-skip
-walk_if-returns-in_err-skip t c =
-    let d = rw (c.first.ensures.bytes, c.first.ensures.at) at c.in_ok-walk_expression.ensures in
-    let j = c.in_err-skip.ensures in
-    rw (passed_on c.from_residual-in_err-skip.ensures.1) (record { walks = if_walks d.walks (jump_refused (walk_branches c.args.field.at) d.walks.fine j.jumped); same = rw j.same d.same })
-
-pub walk_if-returns : goal.walk_if-returns
-walk_if-returns t c =
-    let d = rw (c.first.ensures.bytes, c.first.ensures.at) at c.in_ok-walk_expression.ensures in
-    let j = c.in_ok-skip.ensures in
-    let e = c.walk_branches.ensures in
-    record { walks = if_walks d.walks (jump_walk (walk_branches c.args.field.at) d.walks.fine j.jumped e.walks); same = e.same ∙ rw j.same d.same }
+    record { walks = function_walks (rw (c.first.ensures.bytes, c.first.ensures.at) at c.next-params.ensures.at) refl refl k (i.enters _ c.requires.standing.fine) (rw (← i.code) d.walks) (l.leaves _ d.walks.fine); same = rw (l.same, ← i.same) d.same }
 
 pub walk_index-returns-in_err-walk_expression : goal.walk_index-returns-in_err-walk_expression
 walk_index-returns-in_err-walk_expression t c =
@@ -388,18 +331,18 @@ walk_let-returns t c =
 
 pub walk_list-count_fields-n-requires : goal.walk_list-count_fields-n-requires
 walk_list-count_fields-n-requires t c =
-    exprs_in_row (rw c.after-end.ensures.is c.requires.some)
+    rw (c.children-items.ensures.bytes, c.children-items.ensures.at, c.children-items.ensures.end) (exprs_in_row c.requires.some)
 
 pub walk_list-returns-in_err-walk_expressions : goal.walk_list-returns-in_err-walk_expressions
 walk_list-returns-in_err-walk_expressions t c =
-    let d = c.in_err-walk_expressions.ensures in
-    rw (passed_on c.from_residual.ensures.1) (record { walks = list_walks _ _ c.after-end.ensures.is c.count_fields-n.ensures d.walks (done_stays d.walks.ready); same = d.same })
+    let d = rw (c.children-items.ensures.bytes, c.children-items.ensures.at, c.children-items.ensures.end) at c.in_err-walk_expressions.ensures in
+    rw (passed_on c.from_residual.ensures.1) (record { walks = list_walks _ _ refl (rw (c.children-items.ensures.bytes, c.children-items.ensures.at, c.children-items.ensures.end) at c.count_fields-n.ensures) d.walks (done_stays d.walks.ready); same = d.same })
 
 pub walk_list-returns : goal.walk_list-returns
 walk_list-returns t c =
-    let d = c.in_ok-walk_expressions.ensures in
+    let d = rw (c.children-items.ensures.bytes, c.children-items.ensures.at, c.children-items.ensures.end) at c.in_ok-walk_expressions.ensures in
     let e = c.emit_operand.ensures in
-    record { walks = list_walks _ _ c.after-end.ensures.is c.count_fields-n.ensures d.walks e.done; same = rw e.same d.same }
+    record { walks = list_walks _ _ refl (rw (c.children-items.ensures.bytes, c.children-items.ensures.at, c.children-items.ensures.end) at c.count_fields-n.ensures) d.walks e.done; same = rw e.same d.same }
 
 pub walk_prefix-returns-in_err-walk_expression : goal.walk_prefix-returns-in_err-walk_expression
 walk_prefix-returns-in_err-walk_expression t c =
@@ -435,11 +378,12 @@ walk_statement-returns-in_ok-walk_expression-in-17 t c =
 
 pub walk_statement-walk_block-requires : goal.walk_statement-walk_block-requires
 walk_statement-walk_block-requires t c =
-    (search rules, (block_body c.after.ensures.is (stmt_here tag_block c.in-18.is c.requires.some), search rules))
+    rw (c.children.ensures.bytes, c.children.ensures.at, c.children.ensures.end) (search rules, (block_body refl (stmt_here tag_block c.in-18.is c.requires.some), search rules))
 
 pub walk_statement-returns-in-18 : goal.walk_statement-returns-in-18
 walk_statement-returns-in-18 t c =
-    record { walks = block_walks c.in-18.is c.after.ensures.is c.walk_block.ensures.walks; same = c.walk_block.ensures.same }
+    let d = rw (c.children.ensures.bytes, c.children.ensures.at, c.children.ensures.end) at c.walk_block.ensures in
+    record { walks = block_walks c.in-18.is refl d.walks; same = d.same }
 
 pub walk_statement-walk_let-requires : goal.walk_statement-walk_let-requires
 walk_statement-walk_let-requires t c =
@@ -477,3 +421,83 @@ walk_statement-returns-in_ok-walk_expression-in_default t c =
     let d = rw (c.first-in_default.ensures.bytes, c.first-in_default.ensures.at) at c.in_ok-walk_expression-in_default.ensures in
     let e = c.emit-in_default.ensures in
     record { walks = return_walks h d.walks e.done; same = rw e.same d.same }
+
+pub walk_if-returns-in_err-walk_expression : goal.walk_if-returns-in_err-walk_expression
+walk_if-returns-in_err-walk_expression t c =
+    let d = rw (c.first.ensures.bytes, c.first.ensures.at) at c.in_err-walk_expression.ensures in
+    rw (passed_on c.from_residual.ensures.1) (record { walks = if_walks d.walks (walk_stays d.walks.ready); same = d.same })
+
+pub walk_if-returns-in_err-skip : goal.walk_if-returns-in_err-skip
+walk_if-returns-in_err-skip t c =
+    let d = rw (c.first.ensures.bytes, c.first.ensures.at) at c.in_ok-walk_expression.ensures in
+    let j = c.in_err-skip.ensures in
+    rw (passed_on c.from_residual-in_err-skip.ensures.1) (record { walks = if_walks d.walks (jump_refused (walk_branches c.args.field.at) d.walks.fine j.jumped); same = rw j.same d.same })
+
+pub walk_if-returns-in_err-walk_branch : goal.walk_if-returns-in_err-walk_branch
+walk_if-returns-in_err-walk_branch t c =
+    let d = rw (c.first.ensures.bytes, c.first.ensures.at) at c.in_ok-walk_expression.ensures in
+    let j = c.in_ok-skip.ensures in
+    let b = rw (c.next-branch.ensures.bytes, c.next-branch.ensures.at, c.first-2.ensures.bytes, c.first-2.ensures.at) at c.in_err-walk_branch.ensures in
+    rw (passed_on c.from_residual-in_err-walk_branch.ensures.1) (record {
+      walks = if_walks d.walks (jump_walk (walk_branches c.args.field.at) d.walks.fine j.jumped (branches_walks _ refl b.walks (walk_stays b.walks.ready)));
+      same = b.same ∙ rw j.same d.same;
+    })
+
+pub walk_if-returns-in_err-away : goal.walk_if-returns-in_err-away
+walk_if-returns-in_err-away t c =
+    let d = rw (c.first.ensures.bytes, c.first.ensures.at) at c.in_ok-walk_expression.ensures in
+    let j = c.in_ok-skip.ensures in
+    let b = rw (c.next-branch.ensures.bytes, c.next-branch.ensures.at, c.first-2.ensures.bytes, c.first-2.ensures.at) at c.in_ok-walk_branch.ensures in
+    let a = c.in_err-away.ensures in
+    rw (passed_on c.from_residual-in_err-away.ensures.1) (record { walks = other_walks d.walks j.jumped b.walks (behind_refused _ b.walks.fine a.jumped); same = rw a.same (b.same ∙ rw j.same d.same) })
+
+pub walk_if-returns-in_err-walk_branch-2 : goal.walk_if-returns-in_err-walk_branch-2
+walk_if-returns-in_err-walk_branch-2 t c =
+    let d = rw (c.first.ensures.bytes, c.first.ensures.at) at c.in_ok-walk_expression.ensures in
+    let j = c.in_ok-skip.ensures in
+    let b = rw (c.next-branch.ensures.bytes, c.next-branch.ensures.at, c.first-2.ensures.bytes, c.first-2.ensures.at) at c.in_ok-walk_branch.ensures in
+    let a = c.in_ok-away.ensures in
+    let e = rw (c.next.ensures.bytes, c.next.ensures.at, c.next-branch.ensures.bytes, c.first-2.ensures.bytes) at c.in_err-walk_branch-2.ensures in
+    let q = rw (c.first-2.ensures.bytes, c.first-2.ensures.at) at c.next-branch.ensures.at in
+    let p = rw (c.next-branch.ensures.bytes, c.first-2.ensures.bytes) at c.after-at.ensures.is in
+    let o = else_walks q refl c.after-end.ensures.is (rw p at c.if-at-end.true) e.walks in
+    rw (passed_on c.from_residual-in_err-walk_branch-2.ensures.1) (record {
+      walks = other_walks d.walks j.jumped b.walks (behind_walks _ b.walks.fine a.jumped o (done_stays e.walks.ready));
+      same = e.same ∙ rw a.same (b.same ∙ rw j.same d.same);
+    })
+
+pub walk_if-returns-in_err-emit : goal.walk_if-returns-in_err-emit
+walk_if-returns-in_err-emit t c =
+    let d = rw (c.first.ensures.bytes, c.first.ensures.at) at c.in_ok-walk_expression.ensures in
+    let j = c.in_ok-skip.ensures in
+    let b = rw (c.next-branch.ensures.bytes, c.next-branch.ensures.at, c.first-2.ensures.bytes, c.first-2.ensures.at) at c.in_ok-walk_branch.ensures in
+    let a = c.in_ok-away.ensures in
+    let e = c.in_err-emit.ensures in
+    let q = rw (c.first-2.ensures.bytes, c.first-2.ensures.at) at c.next-branch.ensures.at in
+    let p = rw (c.next-branch.ensures.bytes, c.first-2.ensures.bytes) at c.after-at.ensures.is in
+    let o = null_walks q p c.after-end.ensures.is c.if-at-end.false (jumped_fine a.jumped b.walks.fine) e.done in
+    rw (passed_on c.from_residual-in_err-emit.ensures.1) (record {
+      walks = other_walks d.walks j.jumped b.walks (behind_walks _ b.walks.fine a.jumped o (done_stays o.ready));
+      same = rw (e.same, a.same) (b.same ∙ rw j.same d.same);
+    })
+
+pub walk_if-returns : goal.walk_if-returns
+walk_if-returns t c =
+    let d = rw (c.first.ensures.bytes, c.first.ensures.at) at c.in_ok-walk_expression.ensures in
+    let j = c.in_ok-skip.ensures in
+    let b = rw (c.next-branch.ensures.bytes, c.next-branch.ensures.at, c.first-2.ensures.bytes, c.first-2.ensures.at) at c.in_ok-walk_branch.ensures in
+    let a = c.in_ok-away.ensures in
+    let q = rw (c.first-2.ensures.bytes, c.first-2.ensures.at) at c.next-branch.ensures.at in
+    let p = rw (c.next-branch.ensures.bytes, c.first-2.ensures.bytes) at c.after-at.ensures.is in
+    elim c.if-at-end.branch [
+      | walk_if-then-at-end+in_ok-walk_branch-2 w ↦
+          let e = rw (w.next.ensures.bytes, w.next.ensures.at, c.next-branch.ensures.bytes, c.first-2.ensures.bytes) at w.in_ok-walk_branch-2.ensures in
+          let o = else_walks q refl c.after-end.ensures.is (rw p at w.if-at-end.true) e.walks in
+          let f = rw w.self-is at c.patch.ensures in
+          rw w.self-is (record { walks = other_walks d.walks j.jumped b.walks (behind_walks _ b.walks.fine a.jumped o f.done); same = rw f.same (e.same ∙ rw a.same (b.same ∙ rw j.same d.same)) })
+      | walk_if-else-at-end+in_ok-emit w ↦
+          let e = w.in_ok-emit.ensures in
+          let o = null_walks q p c.after-end.ensures.is w.if-at-end.false (jumped_fine a.jumped b.walks.fine) e.done in
+          let f = rw w.self-is at c.patch.ensures in
+          rw w.self-is (record { walks = other_walks d.walks j.jumped b.walks (behind_walks _ b.walks.fine a.jumped o f.done); same = rw (f.same, e.same, a.same) (b.same ∙ rw j.same d.same) })
+    ]

@@ -13,31 +13,25 @@ abbrev field : List ℕ → ℕ → ℕ
 field tree at = 2 * (3 + len tree at)
 
 abbrev pub decreases-walk_block : goal.decreases-walk_block
-decreases-walk_block l = 2 * (l.end - l.from) + 2
+decreases-walk_block l = 2 * (l.fields.end - l.fields.at) + 2
 
 abbrev pub decreases-walk_branch : goal.decreases-walk_branch
 decreases-walk_branch l = field l.field.bytes.now l.field.at
 
-abbrev pub decreases-walk_branches : goal.decreases-walk_branches
-decreases-walk_branches l = field l.field.bytes.now l.field.at + 1
-
 abbrev pub decreases-walk_call : goal.decreases-walk_call
 decreases-walk_call l = field l.field.bytes.now l.field.at
 
-abbrev pub decreases-walk_else : goal.decreases-walk_else
-decreases-walk_else l = field l.field.bytes.now l.field.at
-
 abbrev pub decreases-walk_expression : goal.decreases-walk_expression
-decreases-walk_expression l = field l.field.bytes.now l.field.at + 3
+decreases-walk_expression l = field l.field.bytes.now l.field.at + 1
 
 abbrev pub decreases-walk_expressions : goal.decreases-walk_expressions
-decreases-walk_expressions l = 2 * (l.end - l.from) + 4
+decreases-walk_expressions l = 2 * (l.fields.end - l.fields.at) + 2
 
 abbrev pub decreases-walk_function : goal.decreases-walk_function
 decreases-walk_function l = field l.field.bytes.now l.field.at
 
 abbrev pub decreases-walk_if : goal.decreases-walk_if
-decreases-walk_if l = field l.field.bytes.now l.field.at + 2
+decreases-walk_if l = field l.field.bytes.now l.field.at
 
 abbrev pub decreases-walk_index : goal.decreases-walk_index
 decreases-walk_index l = field l.field.bytes.now l.field.at
@@ -58,7 +52,7 @@ abbrev pub decreases-walk_statement : goal.decreases-walk_statement
 decreases-walk_statement l = field l.field.bytes.now l.field.at + 1
 
 abbrev pub invariant-walk_block-loop-at : goal.invariant-walk_block-loop-at
-invariant-walk_block-loop-at l = LoopTurn l.tree (ReadsStmts l.tree) (walk_stmts machine) l.from l.end l.initial.self l.at-iterator l.self
+invariant-walk_block-loop-at l = LoopTurn l.fields.bytes.now (ReadsStmts l.fields.bytes.now) (walk_stmts machine) l.fields.at l.fields.end l.initial.self l.at-iterator l.self
 
 abbrev pub invariant-walk_expressions-loop-at : goal.invariant-walk_expressions-loop-at
-invariant-walk_expressions-loop-at l = LoopTurn l.tree (ReadsExprs l.tree) (walk_exprs machine) l.from l.end l.initial.self l.at-iterator l.self
+invariant-walk_expressions-loop-at l = LoopTurn l.fields.bytes.now (ReadsExprs l.fields.bytes.now) (walk_exprs machine) l.fields.at l.fields.end l.initial.self l.at-iterator l.self

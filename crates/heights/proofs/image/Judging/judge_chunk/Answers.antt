@@ -7,6 +7,6 @@ pub returns : goal.returns
 returns c =
     let a = c.args in
     record {
-      judges = λ d k. judged-on a.before.chunks (c.check_chunk.ensures d k a.kind c.last.ensures) a.self.now.output.now c.in_ok-chunk.was c.store.ensures;
+      judges = λ d k. judged-on a.before.chunks (c.check_chunk.ensures d k) a.self.now.output.now c.in_ok-chunk.was c.store.ensures;
       lent = record { output = c.store.auto.output; marks = c.check_chunk.auto.marks; same = refl };
     }

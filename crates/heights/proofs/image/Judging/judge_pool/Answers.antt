@@ -12,8 +12,8 @@ judge_constant-requires c =
     let s = a.self.now in
     let l = c.loop-index in
     let n = c.in-Some.ensures.steps in
-    let p = pool_at l.invariant.so_far (sym n.0.here) (sym n.1) in
-    constant_ready a.pool.bytes.now a.pool.start a.pool.end s.output.now s.marks.now a.before c.requires p (turn_at l.invariant.over n.0 c.requires.pool.is p.reading)
+    let p = pool_at l.invariant.so_far (sym n.0.is.here) (sym n.1) in
+    rw (n.0.bytes ∙ l.invariant.over.image) (constant_ready a.pool.bytes.now a.pool.start a.pool.end s.output.now s.marks.now a.before c.requires p (turn_at l.invariant.over n.0.is c.requires.pool.is p.reading))
 
 pub returns-in_default : goal.returns-in_default
 returns-in_default c =
@@ -21,11 +21,11 @@ returns-in_default c =
     let s = a.self.now in
     let l = c.loop-index in
     let n = c.in-Some.ensures.steps in
-    let p = pool_at l.invariant.so_far (sym n.0.here) (sym n.1) in
-    let k = turn_at l.invariant.over n.0 c.requires.pool.is p.reading in
+    let p = pool_at l.invariant.so_far (sym n.0.is.here) (sym n.1) in
+    let k = turn_at l.invariant.over n.0.is c.requires.pool.is p.reading in
     let j = c.judge_constant.ensures in
     record {
-      judges = pool_fails a.pool.bytes.now a.pool.start a.pool.end s.output.now s.marks.now a.before c.requires p k (j.judges k.x k.standing) c.in_default.is;
+      judges = pool_fails a.pool.bytes.now a.pool.start a.pool.end s.output.now s.marks.now a.before c.requires p k (j.judges k.x (rw (n.0.bytes ∙ l.invariant.over.image) k.standing)) c.in_default.is;
       lent = lent_on l.invariant.lent j.lent;
     }
 
@@ -35,13 +35,13 @@ loop-index-preserved c =
     let s = a.self.now in
     let l = c.loop-index in
     let n = c.in-Some.ensures.steps in
-    let p = pool_at l.invariant.so_far (sym n.0.here) (sym n.1) in
-    let k = turn_at l.invariant.over n.0 c.requires.pool.is p.reading in
+    let p = pool_at l.invariant.so_far (sym n.0.is.here) (sym n.1) in
+    let k = turn_at l.invariant.over n.0.is c.requires.pool.is p.reading in
     let j = c.judge_constant in
-    let q = pool_again a.pool.bytes.now a.pool.start a.pool.end s.output.now s.marks.now a.before c.requires p k (j.ensures.judges k.x k.standing) c.in-Some-judge_constant.is j.ensures.lent.marks j.ensures.lent.output in
+    let q = pool_again a.pool.bytes.now a.pool.start a.pool.end s.output.now s.marks.now a.before c.requires p k (j.ensures.judges k.x (rw (n.0.bytes ∙ l.invariant.over.image) k.standing)) c.in-Some-judge_constant.is j.ensures.lent.marks j.ensures.lent.output in
     record {
-      over = over_again l.invariant.over n.0;
-      so_far = pool_at q (sym n.0.behind) (ap (λ k. k + 1) n.1 ∙ sym n.2);
+      over = over_again l.invariant.over n.0.is;
+      so_far = pool_at q (sym n.0.is.behind) (ap (λ k. k + 1) n.1 ∙ sym n.2);
       lent = lent_on l.invariant.lent j.ensures.lent;
     }
 

@@ -4,10 +4,10 @@ use Rattle.heights.specs.Lent.{Lends}
 use Rattle.heights.proofs.Flows.{PoolLoop}
 use Rattle.heights.proofs.propose.Proposer.propose_pool.Given as goal
 
-abbrev pub invariant-loop-start : goal.invariant-loop-start
-invariant-loop-start l =
+abbrev pub invariant-loop-constant : goal.invariant-loop-constant
+invariant-loop-constant l =
     record {
-      over : Over l.pool.bytes.now l.pool.end l.start-iterator;
-      so_far : PoolLoop l.pool.bytes.now l.pool.start l.pool.end l.initial.self.count l.initial.self.heights.now l.initial.self.marks.now l.self.heights.now l.self.marks.now l.start-iterator.at l.self.count;
+      over : Over l.pool.bytes.now l.pool.end l.constant-iterator.constants;
+      so_far : PoolLoop l.pool.bytes.now l.pool.start l.pool.end l.initial.self.count l.initial.self.heights.now l.initial.self.marks.now l.self.heights.now l.self.marks.now l.constant-iterator.constants.at l.self.count;
       lent : Lends l.initial.self l.self;
     }

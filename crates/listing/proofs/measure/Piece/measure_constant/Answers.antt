@@ -1,5 +1,5 @@
 -- `listing::measure::Piece::measure_constant` meets its contract: by its head, and then its content.
-use mathlib.Core.Path.{ap, sym, refl}
+use mathlib.Core.Path.{ap, sym}
 use native.Mathlib.Omega.{arith}
 use Rattle.definition.proofs.Basic.{passed_on}
 use Rattle.std.proofs.Common.{rules}
@@ -15,33 +15,35 @@ use Rattle.listing.proofs.measure.Piece.measure_constant.Goals as goal
 pub returns-in_err-head-clause-is : goal.returns-in_err-head-clause-is
 returns-in_err-head-clause-is c =
     let a = c.args.self in
-    rw (passed_on c.from_residual.ensures.1) (sym (ap constant_measured (unfitting a.image.now a.at a.end (is_constant Plain) c.head_where.ensures (λ h r q. search rules) c.in_err-head.was (read_content (byte_at a.image.now)))))
+    rw (passed_on c.from_residual.ensures.1) (sym (ap constant_measured (unfitting a.part.span.bytes.now a.part.span.start a.part.span.end (is_constant Plain) c.head_where.ensures (λ h r q. search rules) c.in_err-head.was (read_content (byte_at a.part.span.bytes.now)))))
 
-pub overflow_add-content-3 : goal.overflow_add-content-3
-overflow_add-content-3 c =
+pub behind-requires : goal.behind-requires
+behind-requires c =
     let a = c.args.self in
-    let f = fitting a.image.now a.at a.end (is_constant Plain) c.head_where.ensures (λ h r q. search rules) c.in_ok-head.was in
+    let f = fitting a.part.span.bytes.now a.part.span.start a.part.span.end (is_constant Plain) c.head_where.ensures (λ h r q. search rules) c.in_ok-head.was in
     omega (arith, f.within)
 
 pub invariant_of-content : goal.invariant_of-content
 invariant_of-content c =
     let a = c.args.self in
-    let f = fitting a.image.now a.at a.end (is_constant Plain) c.head_where.ensures (λ h r q. search rules) c.in_ok-head.was in
-    record { part = record { order = omega arith; within = omega (arith, f.within, a.part.within) }; few = omega (arith, f.within, a.few) }
+    let f = fitting a.part.span.bytes.now a.part.span.start a.part.span.end (is_constant Plain) c.head_where.ensures (λ h r q. search rules) c.in_ok-head.was in
+    record { few = omega (arith, f.within, a.few) }
 
 pub measure_content-requires : goal.measure_content-requires
 measure_content-requires c =
     let a = c.args.self in
-    (refl, (fitting a.image.now a.at a.end (is_constant Plain) c.head_where.ensures (λ h r q. search rules) c.in_ok-head.was).is_good)
+    let b = c.behind.ensures in
+    (omega arith, (fitting a.part.span.bytes.now a.part.span.start a.part.span.end (is_constant Plain) c.head_where.ensures (λ h r q. search rules) c.in_ok-head.was).is_good)
 
 pub returns-clause-is : goal.returns-clause-is
 returns-clause-is c =
     let a = c.args.self in
-    let f = fitting a.image.now a.at a.end (is_constant Plain) c.head_where.ensures (λ h r q. search rules) c.in_ok-head.was in
-    rw f.reads c.measure_content.ensures.is
+    let f = fitting a.part.span.bytes.now a.part.span.start a.part.span.end (is_constant Plain) c.head_where.ensures (λ h r q. search rules) c.in_ok-head.was in
+    let b = c.behind.ensures in
+    rw f.reads (rw (b.start, b.bytes) at c.measure_content.ensures.is)
 
 pub returns-clause-small : goal.returns-clause-small
 returns-clause-small c =
     let a = c.args.self in
-    let f = fitting a.image.now a.at a.end (is_constant Plain) c.head_where.ensures (λ h r q. search rules) c.in_ok-head.was in
+    let f = fitting a.part.span.bytes.now a.part.span.start a.part.span.end (is_constant Plain) c.head_where.ensures (λ h r q. search rules) c.in_ok-head.was in
     omega (arith, c.measure_content.ensures.small, ap (λ (h : Head). h.len) f.is)

@@ -4,7 +4,7 @@ use Rattle.listing.proofs.Measures.{PoolLoop}
 use Rattle.listing.proofs.measure.Piece.measure_constants.Given as goal
 
 abbrev pub invariant-loop-at : goal.invariant-loop-at
-invariant-loop-at l = PoolLoop l.self.image.now l.self.at l.self.end l.at l.count l.text
+invariant-loop-at l = PoolLoop l.self.part.span.bytes.now l.self.part.span.start l.self.part.span.end l.at l.count l.text
 
 abbrev pub decreases-loop-at : goal.decreases-loop-at
-decreases-loop-at l = l.self.end - l.at
+decreases-loop-at l = l.self.part.span.end - l.at

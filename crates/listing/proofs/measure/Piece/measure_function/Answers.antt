@@ -11,7 +11,8 @@ use Rattle.listing.proofs.measure.Piece.measure_function.Goals as goal
 pub returns-clause-is : goal.returns-clause-is
 returns-clause-is c =
     let a = c.args.self in
-    let len = a.end - a.at in
-    let e : a.end ≡ a.at + len = omega (arith, a.part.order) in
-    let k = c.measure_code.ensures.is len (omega arith) ∙ ap (λ n. code_measured (read_code (byte_at a.image.now) len (a.at + 3) n)) e in
-    function_good a.image.now a.at len k c.in_ok-measured.was (omega arith) c.word-locals.ensures.is c.wide-parameters.ensures.is c.function_length.ensures.is
+    let len = a.part.span.end - a.part.span.start in
+    let e : a.part.span.end ≡ a.part.span.start + len = omega (arith, a.part.within.order) in
+    let f = c.from.ensures in
+    let k = (rw (f.end, f.start, f.bytes) at c.measure_code.ensures.is len (omega arith)) ∙ ap (λ n. code_measured (read_code (byte_at a.part.span.bytes.now) len (a.part.span.start + 3) n)) e in
+    function_good a.part.span.bytes.now a.part.span.start len k c.in_ok-measured.was (omega arith) c.word-locals.ensures.is c.wide-parameters.ensures.is c.function_length.ensures.is

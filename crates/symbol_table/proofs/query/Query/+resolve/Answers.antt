@@ -14,11 +14,11 @@ resolve_outermost-requires-clause-outside t c = outside_standing _ c.requires.st
 pub returns-then-level-eq0 : goal.returns-then-level-eq0
 returns-then-level-eq0 t c = resolved_outermost _ _ _ _ _ _ c.requires.standing.good _ c.if-level-eq0.true c.resolve_outermost.ensures.crossed c.resolve_outermost.ensures.resolved
 
-pub known_for-outside-requires-clause-outside : goal.known_for-outside-requires-clause-outside
-known_for-outside-requires-clause-outside t c = outside_standing _ c.requires.standing
+pub known_for-outside-requires-clause-opened : goal.known_for-outside-requires-clause-opened
+known_for-outside-requires-clause-opened t c = opened_standing _ c.requires.standing (omega arith)
 
 pub look_at-requires-clause-opened : goal.look_at-requires-clause-opened
-look_at-requires-clause-opened t c = opened_standing _ c.requires.standing (omega arith) (rw c.of.ensures at c.entries-n.ensures)
+look_at-requires-clause-opened t c = opened_standing _ c.requires.standing (omega arith)
 
 pub returns-in-Some : goal.returns-in-Some
 returns-in-Some t c =
