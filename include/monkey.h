@@ -2,9 +2,9 @@
  * The profile compiler for C: link target/staticlib/libcapi.a (tools/staticlib; x86-64). The bytes of trees, sessions and images: docs/FORMAT.md.
  *
  * Buffers
- *   Each is a pointer and a length. A length counts elements: bytes, for the table area and lists of heights 32-bit numbers, and for the work area of
+ *   Each is a pointer and a length. A length counts elements: bytes, for the table area, lists of heights and tokens 32-bit numbers, and for the work area of
  *   a trial run 64-bit numbers.
- *   No pointer is null, also where the length is 0; a table area or a list of heights is aligned as a uint32_t, a work area as a uint64_t.
+ *   No pointer is null, also where the length is 0; a table area, a list of heights or the numbers of a token are aligned as a uint32_t, a work area as a uint64_t.
  *   No two buffers of one call overlap, and nothing else reads or writes them while it runs.
  *   The functions keep nothing of their own between calls and use no heap, so that threads may call them on buffers of their own.
  *   A call takes up to 100,000 bytes of stack (measured on trees of 64 levels); those on heights up to 270,000 (measured: 262,880, most of it one
@@ -21,6 +21,9 @@
 
 #include <stddef.h>
 #include <stdint.h>
+
+/* The version of this header, of the library and of the command `profile`. */
+#define MONKEY_VERSION "1.0"
 
 #ifdef __cplusplus
 extern "C" {
@@ -40,7 +43,8 @@ enum {
     MONKEY_CHUNKS_LIMIT = 4097,  /* no image has more chunks: main and 4,096 functions */
     MONKEY_WORK_SIZE = 4096,     /* 64-bit numbers of the work area of a trial run */
     MONKEY_GLOBALS_LIMIT = 9216, /* no trial run writes more bytes: nine for each of 1,024 globals */
-    MONKEY_NAMES_LIMIT = 8189    /* no tree has more Identifiers */
+    MONKEY_NAMES_LIMIT = 8189,   /* no tree has more Identifiers */
+    MONKEY_TOKEN_SIZE = 3        /* 32-bit numbers of a token */
 };
 
 /* The numbers of refusals. The place is an offset in the tree, 0 where none is named here. */
@@ -265,6 +269,52 @@ static inline uint32_t monkey_run_steps(uint64_t answer) { return (uint32_t)answ
  *   15 at 0, where it is longer than the output or than 32,768.
  */
 uint64_t monkey_read_text(const uint8_t *text, size_t text_length, uint8_t *output, size_t output_length);
+
+/* The kinds of tokens. */
+enum monkey_token {
+    MONKEY_TOKEN_LET = 0,            /* the seven words: let return true false if fn else */
+    MONKEY_TOKEN_RETURN = 1,
+    MONKEY_TOKEN_NAME = 2,           /* every other word */
+    MONKEY_TOKEN_INTEGER = 3,        /* its digits */
+    MONKEY_TOKEN_STRING = 4,         /* with both quotes */
+    MONKEY_TOKEN_TRUE = 5,
+    MONKEY_TOKEN_FALSE = 6,
+    MONKEY_TOKEN_IF = 7,
+    MONKEY_TOKEN_FN = 8,
+    MONKEY_TOKEN_BANG = 9,           /* ! */
+    MONKEY_TOKEN_OPEN_BRACE = 10,    /* { */
+    MONKEY_TOKEN_OPEN_PAREN = 11,    /* ( */
+    MONKEY_TOKEN_OPEN_BRACKET = 12,  /* [ */
+    MONKEY_TOKEN_MINUS = 13,         /* - */
+    MONKEY_TOKEN_PLUS = 14,          /* + */
+    MONKEY_TOKEN_STAR = 15,          /* * */
+    MONKEY_TOKEN_SLASH = 16,         /* / */
+    MONKEY_TOKEN_LESS = 17,          /* < */
+    MONKEY_TOKEN_GREATER = 18,       /* > */
+    MONKEY_TOKEN_EQUAL = 19,         /* == */
+    MONKEY_TOKEN_UNEQUAL = 20,       /* != */
+    MONKEY_TOKEN_ELSE = 21,
+    MONKEY_TOKEN_ASSIGN = 22,        /* = */
+    MONKEY_TOKEN_CLOSE_PAREN = 23,   /* ) */
+    MONKEY_TOKEN_CLOSE_BRACKET = 24, /* ] */
+    MONKEY_TOKEN_CLOSE_BRACE = 25,   /* } */
+    MONKEY_TOKEN_COMMA = 26,         /* , */
+    MONKEY_TOKEN_COLON = 27,         /* : */
+    MONKEY_TOKEN_SEMICOLON = 28,     /* ; */
+    MONKEY_TOKEN_ENDED = 29          /* no token: the text has ended */
+};
+
+/*
+ * Finds the token of a script in text form that is next from an offset on, blanks passed, as monkey_read_text sees it: docs/GRAMMAR.md, Tokens. The answer is 3, and
+ * three numbers stand at the front of `token`, whose other numbers stay as they were: the offset of the token's first byte, its length in bytes, its kind. Where the text
+ * has ended: its length, 0, MONKEY_TOKEN_ENDED. The token behind it is had from the sum of the first two on. Whether a script may have a token there, monkey_read_text
+ * alone judges; from an offset inside a token its rest is read as if it stood alone.
+ *   Refused, and the numbers are as they were: 20 and the place of what is no token there: a byte that begins none, a string without its second quote, a word of
+ *     more than 32 bytes, a token that would end behind offset 8,192, or offset 8,192 itself, where the text goes on and no token begins before it; 20 at the text's
+ *     length or 8,192, the smaller, where `at` is above it; 21 and the place of an integer above the limit; then 15 at 0, where `token` has fewer than
+ *     MONKEY_TOKEN_SIZE numbers.
+ */
+uint64_t monkey_next_token(const uint8_t *text, size_t text_length, size_t at, uint32_t *token, size_t token_length);
 
 #ifdef __cplusplus
 }

@@ -1,5 +1,5 @@
 /*
- * compile and names: scripts as text or trees, compiled in one session.
+ * compile and names: scripts as text or trees, each compiled in a session of its own, or all in one.
  */
 #include <stdio.h>
 #include <stdlib.h>
@@ -7,83 +7,117 @@
 
 #include "profile.h"
 
-/* A script: its text, where it has one, and its tree. */
+/* A script: the bytes of its file, a text or a tree; its image; the name of that in a directory. */
 struct script {
     const char *path;
-    uint8_t text[TEXT_ROOM];
-    size_t text_length;
-    uint8_t tree[TREE_ROOM];
-    size_t tree_length;
-};
-
-/* An image that was compiled, and the name of its file in a directory. */
-struct image {
     uint8_t *bytes;
     size_t length;
+    uint8_t *image;
+    size_t image_length;
     char *name;
+    int failed; /* refused or not read */
 };
 
-static struct script script;
+enum { TREE_TAG = 0x10 };
+
+static uint8_t input[TEXT_ROOM > TREE_ROOM ? TEXT_ROOM : TREE_ROOM];
+static uint8_t tree[TREE_ROOM]; /* of the script that is compiled */
+static size_t tree_length;
 static uint8_t session[MONKEY_SESSION_SIZE];
+static uint8_t first_session[MONKEY_SESSION_SIZE];
 static uint8_t output[MONKEY_IMAGE_LIMIT];
 static uint8_t code[MONKEY_CODE_SIZE];
 static uint32_t table[MONKEY_TABLE_SIZE];
 static struct monkey_name names[MONKEY_NAMES_LIMIT];
 
-/* Reads a script: a tree, or a text whose tree is made. */
-static int read_script(const struct arguments *a, const char *path) {
-    script.path = path;
-    if (a->tree) {
-        return read_input(path, script.tree, sizeof script.tree, &script.tree_length);
+/* A copy of bytes; null where there is no memory. */
+static uint8_t *copy_of(const uint8_t *bytes, size_t length) {
+    uint8_t *copy = malloc(length + 1);
+    if (copy != NULL) {
+        memcpy(copy, bytes, length);
     }
-    int status = read_input(path, script.text, sizeof script.text, &script.text_length);
+    return copy;
+}
+
+/* Reads the file of a script. */
+static int read_script(const struct arguments *a, const char *path, struct script *script) {
+    size_t length;
+    int status = read_input(path, input, a->tree ? TREE_ROOM : TEXT_ROOM, &length);
     if (status != DONE) {
         return status;
     }
-    uint64_t answer = monkey_read_text(script.text, script.text_length, script.tree, sizeof script.tree);
-    switch (monkey_number(answer)) {
-    case 0:
-        script.tree_length = monkey_value(answer);
-        return DONE;
-    case MONKEY_BAD_SCRIPT:
-    case MONKEY_LARGE_INTEGER:
-        return refuse_in_text(path, answer, script.text, script.text_length, monkey_value(answer));
-    default: /* of the whole tree: too deep, or too long */
-        return refuse_plainly(path, answer);
-    }
+    script->path = path;
+    script->length = length;
+    script->bytes = copy_of(input, length);
+    return script->bytes == NULL ? file_error(path) : DONE;
 }
 
-/* Says why the script was refused, by line and column where it is a text. */
-static int refuse_script(const struct arguments *a, uint64_t answer) {
-    if (monkey_number(answer) == MONKEY_NO_SESSION) {
-        return refuse_plainly(a->session == NULL ? "session" : a->session, answer);
-    }
+/* A message about a script in text form, with nothing said yet. */
+static struct message message_of(const struct script *script) {
+    struct message m = {script->path, script->bytes, script->length, 0, "", NULL, 0};
+    return m;
+}
+
+/* Makes the tree of a script that was read: its own bytes, or those that its text stands for. */
+static int make_tree(const struct arguments *a, const struct script *script) {
     if (a->tree) {
-        return refuse_at_offset(script.path, answer, "tree");
+        memcpy(tree, script->bytes, script->length);
+        tree_length = script->length;
+        return DONE;
     }
-    size_t place = place_in_text(script.tree, script.tree_length, monkey_value(answer), script.text, script.text_length);
-    return refuse_in_text(script.path, answer, script.text, script.text_length, place);
-}
-
-/* Keeps a copy of the image that was just compiled. */
-static int keep_image(struct image *image, size_t length) {
-    image->bytes = malloc(length);
-    if (image->bytes == NULL) {
-        return file_error(script.path);
+    uint64_t answer = monkey_read_text(script->bytes, script->length, tree, sizeof tree);
+    if (monkey_number(answer) != 0) {
+        struct message m = message_of(script);
+        find_reason(&m, answer);
+        return say_message(&m, monkey_number(answer));
     }
-    memcpy(image->bytes, output, length);
-    image->length = length;
+    tree_length = monkey_value(answer);
     return DONE;
 }
 
-/* Compiles a script in the session. */
-static int compile_script(const struct arguments *a, const char *path, struct image *image) {
-    int status = read_script(a, path);
+/* Says why the script was refused. */
+static int refuse_script(const struct arguments *a, const struct script *script, uint64_t answer) {
+    char reason[256];
+    if (monkey_number(answer) == MONKEY_NO_SESSION) {
+        return refuse_plainly(a->session == NULL ? "session" : a->session, answer);
+    }
+    if (!a->tree) {
+        struct message m = message_of(script);
+        find_tree_reason(&m, answer, session, tree, tree_length);
+        return say_message(&m, monkey_number(answer));
+    }
+    if (monkey_number(answer) == MONKEY_BAD_TREE) {
+        return refuse_for(script->path, answer, word_of(MONKEY_BAD_TREE), mistaken(script->bytes, script->length, TREE_TAG), "tree");
+    }
+    if (monkey_number(answer) != MONKEY_UNDEFINED) {
+        return refuse_at_offset(script->path, answer, "tree");
+    }
+    explain_undefined(reason, sizeof reason, session, tree, monkey_value(answer));
+    return refuse_for(script->path, answer, reason, "", "tree");
+}
+
+/* Whether the scripts of a command share one session. */
+static int is_together(const struct arguments *a) {
+    return a->together || a->session != NULL;
+}
+
+/* Compiles a script, in a session as the first one was or in the one that those before it left, and keeps its image. */
+static int compile_script(const struct arguments *a, struct script *script) {
+    int status = make_tree(a, script);
     if (status != DONE) {
         return status;
     }
-    uint64_t answer = monkey_compile(session, sizeof session, script.tree, script.tree_length, output, sizeof output, code, sizeof code, table, MONKEY_TABLE_SIZE);
-    return monkey_number(answer) == 0 ? keep_image(image, monkey_value(answer)) : refuse_script(a, answer);
+    if (!is_together(a)) {
+        memcpy(session, first_session, sizeof session);
+    }
+    uint64_t answer = monkey_compile(session, sizeof session, tree, tree_length, output, sizeof output,
+                                     code, sizeof code, table, MONKEY_TABLE_SIZE);
+    if (monkey_number(answer) != 0) {
+        return refuse_script(a, script, answer);
+    }
+    script->image_length = monkey_value(answer);
+    script->image = copy_of(output, script->image_length);
+    return script->image == NULL ? file_error(script->path) : DONE;
 }
 
 /* The file name of a script's image: its own, with `.image` for what is behind the last point. */
@@ -101,85 +135,187 @@ static char *image_name(const char *path) {
 }
 
 /* Names the images of a directory; no two may have the same name. */
-static int name_images(const struct arguments *a, struct image *images) {
+static int name_images(const struct arguments *a, struct script *scripts) {
     for (size_t k = 0; k < a->count; k++) {
-        images[k].name = image_name(a->operands[k]);
-        if (images[k].name == NULL) {
+        scripts[k].name = image_name(a->operands[k]);
+        if (scripts[k].name == NULL) {
             return file_error(a->operands[k]);
         }
         for (size_t j = 0; j < k; j++) {
-            if (strcmp(images[j].name, images[k].name) == 0) {
-                return usage_error(a->command, "two scripts would be written to ", images[k].name);
+            if (strcmp(scripts[j].name, scripts[k].name) == 0) {
+                return usage_error(a->command, "two scripts would be written to ", scripts[k].name);
             }
         }
     }
     return DONE;
 }
 
-/* Writes the last image, or each into a directory. */
-static int write_images(const struct arguments *a, const struct image *images) {
-    if (images[0].name == NULL) {
-        return write_binary(a->output, images[a->count - 1].bytes, images[a->count - 1].length);
+/* Whether the images go into a directory: of several scripts they must, and one that is not there is made. */
+static int choose_output(const struct arguments *a, struct script *scripts) {
+    if (a->output != NULL && is_directory(a->output)) {
+        return name_images(a, scripts);
     }
-    int status = ensure_directory(a->output);
+    if (a->count == 1) {
+        return DONE;
+    }
+    if (a->output == NULL || strcmp(a->output, "-") == 0) {
+        return usage_error(a->command, "several scripts need a directory: name one with -o", "");
+    }
+    if (is_there(a->output)) {
+        return usage_error(a->command, "several scripts need a directory, and this is none: ", a->output);
+    }
+    return name_images(a, scripts);
+}
+
+/* Frees paths. */
+static void free_paths(char **paths, size_t count) {
+    for (size_t k = 0; paths != NULL && k < count; k++) {
+        free(paths[k]);
+    }
+    free(paths);
+}
+
+/* Refuses to write over a script, or two things to one file: the images, their directory, the session, its lock. */
+static int check_written(const struct arguments *a, const struct script *scripts) {
+    size_t count = 0;
+    char **written = calloc(a->count + 3, sizeof *written);
+    if (written == NULL) {
+        return file_error("memory");
+    }
+    if (a->output != NULL) {
+        written[count++] = path_with(a->output, "");
+    } else {
+        count++; /* null: standard output */
+    }
+    for (size_t k = 0; k < a->count && scripts[k].name != NULL; k++) {
+        written[count++] = path_within(a->output, scripts[k].name);
+    }
+    if (a->session != NULL) {
+        written[count++] = path_with(a->session, "");
+        written[count++] = lock_of(a->session);
+    }
+    int status = check_places(a->command, written, count, a->operands, a->count);
+    free_paths(written, count);
+    return status;
+}
+
+/* Has the images written beside their targets, or in a new directory. */
+static int prepare_images(const struct arguments *a, const struct script *scripts) {
+    if (scripts[0].name == NULL) {
+        return is_stream(a->output) ? refuse_terminal(a->output) : prepare_file(a->output, scripts[0].image, scripts[0].image_length, 0);
+    }
+    int status = is_there(a->output) ? DONE : prepare_directory(a->output);
     for (size_t k = 0; k < a->count && status == DONE; k++) {
-        status = write_within(a->output, images[k].name, images[k].bytes, images[k].length);
+        status = prepare_within(a->output, scripts[k].name, scripts[k].image, scripts[k].image_length);
     }
     return status;
 }
 
-/* Compiles all scripts, and only then writes: the session beside its file, the images, then the session by a rename. */
-static int compile_all(const struct arguments *a, struct image *images, struct pending *file) {
-    int status = a->output != NULL && is_directory(a->output) ? name_images(a, images) : DONE;
-    for (size_t k = 0; k < a->count && status == DONE; k++) {
-        status = compile_script(a, a->operands[k], &images[k]);
+/* Writes the images and the session: all beside their targets, then an image to a stream, then all are renamed, the session last. */
+static int write_results(const struct arguments *a, const struct script *scripts) {
+    int status = begin_files(a->count + 2, a->session != NULL);
+    if (status == DONE) {
+        status = prepare_images(a, scripts);
     }
     if (status == DONE && a->session != NULL) {
-        status = save_session(a->session, session, file);
+        status = prepare_file(a->session, session, sizeof session, 1);
+    }
+    if (status == DONE && scripts[0].name == NULL && is_stream(a->output)) {
+        status = write_through(a->output, scripts[0].image, scripts[0].image_length);
     }
     if (status == DONE) {
-        status = write_images(a, images);
+        status = commit_files();
     }
-    return status == DONE && a->session != NULL ? commit_file(file) : status;
+    drop_files();
+    return status;
 }
 
-/* Refuses an output, or a session file, that is one of the scripts, and an output that is the session file. */
-static int check_output(const struct arguments *a) {
-    const char *written[] = {a->output, a->session};
+/* Says, of several scripts in one session, that their images depend on each other. */
+static void warn_together(const struct arguments *a) {
+    if (is_together(a) && a->count > 1) {
+        note(a, "several scripts in one session: length and contents of each image depend on the scripts before it", NULL);
+    }
+}
+
+/* The worse of two statuses. */
+static int worse(int one, int other) {
+    return one > other ? one : other;
+}
+
+/*
+ * Compiles each script that was read, and answers the worst status. In one session, of those behind a refused one only trees are made: what it
+ * would have defined is not known to them.
+ */
+static int compile_each(const struct arguments *a, struct script *scripts, int status) {
     for (size_t k = 0; k < a->count; k++) {
-        for (size_t w = 0; w < 2; w++) {
-            if (written[w] != NULL && same_file(written[w], a->operands[k])) {
-                return usage_error(a->command, "a script would be written over: ", a->operands[k]);
-            }
+        if (scripts[k].bytes == NULL) {
+            continue;
         }
+        int one = is_together(a) && status != DONE ? make_tree(a, &scripts[k]) : compile_script(a, &scripts[k]);
+        scripts[k].failed = one != DONE;
+        status = worse(status, one);
     }
-    if (a->output != NULL && a->session != NULL && (strcmp(a->output, a->session) == 0 || same_file(a->output, a->session))) {
-        return usage_error(a->command, "image and session would be one file: ", a->session);
-    }
-    return DONE;
+    return status;
 }
 
-/* profile compile */
-int run_compile(const struct arguments *a) {
-    struct pending file = {NULL, NULL, 0};
-    int status = check_output(a);
+/* How many of the scripts were refused or not read. */
+static size_t count_failed(const struct arguments *a, const struct script *scripts) {
+    size_t failed = 0;
+    for (size_t k = 0; k < a->count; k++) {
+        failed += (size_t)scripts[k].failed;
+    }
+    return failed;
+}
+
+/* Reads all scripts, then has the session, compiles them, and only then writes, if none was refused. */
+static int compile_all(const struct arguments *a, struct script *scripts) {
+    int status = a->session != NULL && find_session(a->session) < 0 ? FAILED : choose_output(a, scripts);
     if (status == DONE) {
-        status = open_session(a, session, 1);
+        status = check_written(a, scripts);
     }
     if (status != DONE) {
         return status;
     }
-    struct image *images = calloc(a->count, sizeof *images);
-    if (images == NULL) {
+    for (size_t k = 0; k < a->count; k++) {
+        int one = read_script(a, a->operands[k], &scripts[k]);
+        scripts[k].failed = one != DONE;
+        status = worse(status, one);
+    }
+    if (count_failed(a, scripts) == a->count) {
+        return status;
+    }
+    int opened = open_session(a, session, 1);
+    if (opened != DONE) {
+        return worse(status, opened);
+    }
+    memcpy(first_session, session, sizeof session);
+    status = compile_each(a, scripts, status);
+    note_failed(a, count_failed(a, scripts));
+    return status == DONE ? write_results(a, scripts) : status;
+}
+
+/* Frees what is known of scripts. */
+static void free_scripts(struct script *scripts, size_t count) {
+    for (size_t k = 0; k < count; k++) {
+        free(scripts[k].bytes);
+        free(scripts[k].image);
+        free(scripts[k].name);
+    }
+    free(scripts);
+}
+
+/* profile compile */
+int run_compile(const struct arguments *a) {
+    struct script *scripts = calloc(a->count, sizeof *scripts);
+    if (scripts == NULL) {
         return file_error("memory");
     }
-    status = compile_all(a, images, &file);
-    drop_file(&file);
-    for (size_t k = 0; k < a->count; k++) {
-        free(images[k].bytes);
-        free(images[k].name);
+    int status = compile_all(a, scripts);
+    release_lock();
+    free_scripts(scripts, a->count);
+    if (status == DONE) {
+        warn_together(a);
     }
-    free(images);
     return status;
 }
 
@@ -195,22 +331,22 @@ static void print_name(const uint8_t *name, size_t length) {
 }
 
 /* Prints where a name stands: line and column, or the offset in the tree. */
-static void print_place(const struct arguments *a, size_t offset) {
+static void print_place(const struct arguments *a, const struct script *script, size_t offset) {
     unsigned line, column;
     if (a->tree) {
         printf("offset %u: ", (unsigned)offset);
         return;
     }
-    size_t place = place_in_text(script.tree, script.tree_length, offset, script.text, script.text_length);
-    position_of(script.text, script.text_length, place, &line, &column);
+    size_t place = place_in_text(tree, tree_length, offset, script->bytes, script->length);
+    position_of(script->bytes, script->length, place, &line, &column);
     printf("line %u, column %u: ", line, column);
 }
 
 /* Prints how one name was resolved. */
-static void print_record(const struct arguments *a, const struct monkey_name *n) {
+static void print_record(const struct arguments *a, const struct script *script, const struct monkey_name *n) {
     static const char *const kinds[] = {"global", "local", "built-in word", "captured variable", "the function itself"};
-    const uint8_t *field = script.tree + n->offset; /* tag, length in two bytes, name */
-    print_place(a, n->offset);
+    const uint8_t *field = tree + n->offset; /* tag, length in two bytes, name */
+    print_place(a, script, n->offset);
     print_name(field + 3, (size_t)field[1] * 256 + field[2]);
     printf(" is %s", kinds[n->kind]);
     if (n->kind != MONKEY_FUNCTION) {
@@ -229,24 +365,35 @@ static int by_offset(const void *left, const void *right) {
     return (l > r) - (l < r);
 }
 
-/* profile names */
-int run_names(const struct arguments *a) {
-    int status = open_session(a, session, 0);
-    if (status == DONE) {
-        status = read_script(a, a->operands[0]);
-    }
+/* Prints how each name of a script that was read was resolved. */
+static int print_names(const struct arguments *a, const struct script *script) {
+    int status = make_tree(a, script);
     if (status != DONE) {
         return status;
     }
-    uint64_t answer = monkey_compile_names(session, sizeof session, script.tree, script.tree_length, output, sizeof output, code, sizeof code, table, MONKEY_TABLE_SIZE,
-                                           &names[0].offset, 4 * MONKEY_NAMES_LIMIT);
+    uint64_t answer = monkey_compile_names(session, sizeof session, tree, tree_length, output, sizeof output,
+                                           code, sizeof code, table, MONKEY_TABLE_SIZE, &names[0].offset, 4 * MONKEY_NAMES_LIMIT);
     if (monkey_number(answer) != 0) {
-        return refuse_script(a, answer);
+        return refuse_script(a, script, answer);
     }
     size_t count = monkey_names_count(answer);
     qsort(names, count, sizeof names[0], by_offset);
     for (size_t k = 0; k < count; k++) {
-        print_record(a, &names[k]);
+        print_record(a, script, &names[k]);
     }
     return finish_stdout();
+}
+
+/* profile names */
+int run_names(const struct arguments *a) {
+    struct script script = {0};
+    int status = open_session(a, session, 0);
+    if (status == DONE) {
+        status = read_script(a, a->operands[0], &script);
+    }
+    if (status == DONE) {
+        status = print_names(a, &script);
+    }
+    free(script.bytes);
+    return status;
 }

@@ -1,5 +1,5 @@
 /*
- * What --help prints.
+ * What --help and --version print.
  */
 #include <stdio.h>
 #include <string.h>
@@ -9,79 +9,145 @@
 static const char whole[] =
     "profile: compiles profiles of wheelchair controls\n"
     "\n"
-    "  profile compile SCRIPT.. [-o IMAGE]   compile scripts to an image\n"
+    "  profile compile SCRIPT.. [-o IMAGE]   compile scripts to images\n"
     "  profile names SCRIPT                  how each name of a script was resolved\n"
-    "  profile list IMAGE                    list an image as text\n"
-    "  profile check IMAGE                   whether an image is sound\n"
-    "  profile depth IMAGE                   how deep the stack gets in each function\n"
+    "  profile list IMAGE..                  list images as text\n"
+    "  profile check IMAGE..                 whether images are sound\n"
+    "  profile depth IMAGE..                 how deep the stack gets in each function\n"
     "  profile run IMAGE                     run the main code, print the globals\n"
     "  profile frames SIZE IMAGE [-o DIR]    count or write the frames for the radio\n"
     "  profile chin IMAGE [-o OUT]           translate into the chin unit's form\n"
     "  profile unchin OUT [-o IMAGE]         translate back\n"
     "  profile load SEED [-o TREE]           write the test tree of a seed\n"
+    "  profile explain NUMBER                what the number of an error means\n"
+    "  profile help SUBCOMMAND               say more of one of them\n"
     "\n"
-    "A file - is standard input or output; without -o standard output is written.\n"
-    "profile SUBCOMMAND --help says more of each.\n"
-    "Exit status: 0 done; 1 refused, with number, word and place on standard error;\n"
+    "  -o, --output FILE  where the result goes; without it to standard output\n"
+    "  -q, --quiet        no notes on standard error, errors alone\n"
+    "  -h, --help         this, or behind a subcommand its own help\n"
+    "  -V, --version      the version, in place of a subcommand\n"
+    "\n"
+    "A file - is standard input or output. Options stand behind the subcommand; behind\n"
+    "-- there are operands alone.\n"
+    "Exit status: 0 done; 1 refused, with place, number and reason on standard error;\n"
     "2 wrong use, or a file that cannot be read or written.\n";
+
+static const char common[] =
+    "  -q, --quiet         no notes on standard error, errors alone\n"
+    "  -h, --help          this\n";
 
 static const struct {
     const char *command, *text;
 } texts[] = {
     {"compile",
-     "profile compile SCRIPT.. [--tree] [--session FILE] [--words WORD,WORD..] [-o IMAGE]\n"
+     "profile compile SCRIPT.. [--tree] [--together] [--session FILE]\n"
+     "                [--words WORD,WORD..] [-o IMAGE]\n"
      "\n"
-     "Compiles scripts in text form, one after the other in one session, so that each\n"
-     "knows the definitions of those before it.\n"
+     "Compiles scripts in text form, each in a fresh session.\n"
+     "Of each script the first error is shown. If one is refused nothing is written: no\n"
+     "image, and the session file is as it was. All is written beside its file and renamed\n"
+     "when it is on the disk, the session last. Nothing is written over a script.\n"
      "\n"
-     "  -o IMAGE        where the image of the last script goes. Where IMAGE is a\n"
-     "                  directory, or ends in /, each script's image goes into it:\n"
-     "                  speed.monkey becomes speed.image\n"
-     "  --tree          the scripts are trees in bytes, not texts\n"
-     "  --session FILE  go on with the session of this file and write it anew; a file\n"
-     "                  that is not there is made\n"
-     "  --words WORD,.. a fresh session has these built-in words alone ('': none)\n"
-     "\n"
-     "If one script is refused nothing is written: no image, and the session file is as\n"
-     "it was. The session is written beside its file and renamed when all is on the disk.\n"},
+     "  -o, --output IMAGE  where the image goes. Where IMAGE is a directory, or ends in\n"
+     "                      /, and always of several scripts, each script's image goes\n"
+     "                      into it: speed.monkey becomes speed.image. A directory that is\n"
+     "                      not there is made\n"
+     "  --tree              the scripts are trees in bytes, not texts\n"
+     "  --together          all scripts in one session: each knows the definitions of\n"
+     "                      those before it, and length and contents of its image depend\n"
+     "                      on them\n"
+     "  --session FILE      go on with the session of this file, all scripts in it, and\n"
+     "                      write it anew; a file that is not there is made\n"
+     "  --words WORD,..     a fresh session has these built-in words alone ('': none)\n"},
     {"names",
      "profile names SCRIPT [--tree] [--session FILE] [--words WORD,WORD..]\n"
      "\n"
      "Says of each name that a script uses, in its order, what it is: a global, a local,\n"
      "a built-in word, a variable captured from a function further out, or the function\n"
      "in which it stands; with its index, and how many functions further out it was found.\n"
-     "The session file is read and not written. Options as for compile.\n"},
-    {"list", "profile list IMAGE [-o FILE]\n\nChecks an image and lists its code and constants as text.\n"},
-    {"check", "profile check IMAGE\n\nSays whether an image is sound; else the offset of what is wrong first.\n"},
+     "The session file is read and not written.\n"
+     "\n"
+     "  --tree              the script is a tree in bytes, not a text\n"
+     "  --session FILE      the session of this file, so its globals and built-in words\n"
+     "  --words WORD,..     a fresh session with these built-in words alone\n"},
+    {"list",
+     "profile list IMAGE.. [-o FILE]\n"
+     "\n"
+     "Checks images and lists code and constants as text; of several each listing is\n"
+     "headed by its file.\n"
+     "\n"
+     "  -o, --output FILE   where the listings go, if none is refused\n"},
+    {"check",
+     "profile check IMAGE..\n"
+     "\n"
+     "Says of each image in one line, with status 1 if one part of one image fails,\n"
+     "whether it\n"
+     "- decodes: all of its bytes are what an image has;\n"
+     "- the stack passes: no instruction takes more than is there, by whatever way it is\n"
+     "  reached, and main ends with nothing left; else the first instruction at fault;\n"
+     "- what the code names is there: constants, functions, where jumps go, locals,\n"
+     "  captures; of globals and built-in words, which an image does not hold, not more\n"
+     "  than 1024 and 24.\n"},
     {"depth",
-     "profile depth IMAGE\n"
+     "profile depth IMAGE..\n"
      "\n"
      "Prints how many values the stack holds at most: in main, and in each function by\n"
-     "its pool index. Refuses an image whose stack would not be right.\n"},
+     "its pool index; of several images each line begins with the file. Refuses an image\n"
+     "whose stack would not be right.\n"},
     {"run",
      "profile run IMAGE [--session FILE]\n"
      "\n"
      "Runs the main code, all globals unset at first, and prints each global: index, kind,\n"
      "value. Only arithmetic, comparisons, branches and globals can be run.\n"
-     "With the session in which the image was compiled, their names too.\n"},
+     "\n"
+     "  --session FILE      the session in which the image was compiled: their names too\n"},
     {"frames",
      "profile frames SIZE IMAGE [-o DIR]\n"
      "\n"
      "Counts the frames of SIZE bytes, 16 to 1024, and the bytes that are left.\n"
-     "With -o writes each to DIR: frame-0000, frame-0001, ..\n"},
-    {"chin", "profile chin IMAGE [-o OUT]\n\nTranslates an image into the chin unit's form.\n"},
-    {"unchin", "profile unchin OUT [-o IMAGE]\n\nTranslates the chin unit's form back into an image.\n"},
-    {"load", "profile load SEED [-o TREE]\n\nWrites the test tree of a seed, 0 to 4294967295: always the same for the same seed.\n"},
+     "\n"
+     "  -o, --output DIR    write each into this directory: frame-0000, frame-0001, ..\n"
+     "                      It is made where it is not there, and may have no frames yet\n"},
+    {"chin",
+     "profile chin IMAGE [-o OUT]\n"
+     "\n"
+     "Translates an image into the chin unit's form.\n"
+     "\n"
+     "  -o, --output OUT    where this goes\n"},
+    {"unchin",
+     "profile unchin OUT [-o IMAGE]\n"
+     "\n"
+     "Translates the chin unit's form back into an image.\n"
+     "\n"
+     "  -o, --output IMAGE  where the image goes\n"},
+    {"load",
+     "profile load SEED [-o TREE]\n"
+     "\n"
+     "Writes the test tree of a seed, 0 to 4294967295: always the same for the same seed.\n"
+     "\n"
+     "  -o, --output TREE   where the tree goes\n"},
+    {"explain",
+     "profile explain [NUMBER]\n"
+     "\n"
+     "Says what the number of an error means, as 20 of error[20], and what to do; without\n"
+     "a number lists all.\n"},
+    {"help", "profile help [SUBCOMMAND]\n\nSays what the subcommands are, or more of one of them.\n"},
 };
 
-/* Prints the help of a subcommand, or of the whole where it is null. */
+/* Prints the help of a subcommand, and what all take; or of the whole, where it is null or has no help of its own. */
 int print_help(const char *command) {
-    const char *text = whole;
     for (size_t k = 0; command != NULL && k < sizeof texts / sizeof texts[0]; k++) {
         if (strcmp(texts[k].command, command) == 0) {
-            text = texts[k].text;
+            printf("%s%s%s", texts[k].text, strstr(texts[k].text, "\n  -") == NULL ? "\n" : "", common);
+            return finish_stdout();
         }
     }
-    fputs(text, stdout);
+    fputs(whole, stdout);
+    return finish_stdout();
+}
+
+/* Prints the version. */
+int print_version(void) {
+    puts("profile " MONKEY_VERSION);
     return finish_stdout();
 }

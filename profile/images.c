@@ -1,12 +1,16 @@
 /*
  * The subcommands on images, and the tree of a seed.
  */
+#define _XOPEN_SOURCE 700
+#include <dirent.h>
 #include <errno.h>
 #include <stdio.h>
 #include <stdlib.h>
 #include <string.h>
 
 #include "profile.h"
+
+enum { IMAGE_TAG = 0x50, CHIN_TAG = 0x58 };
 
 static uint8_t image[IMAGE_ROOM];
 static size_t image_length;
@@ -23,9 +27,23 @@ static int read_image(const char *path) {
     return read_input(path, image, sizeof image, &image_length);
 }
 
-/* Says why an image was refused: a chunk, or an offset. */
+/* Refuses an output that is the image; else reads that. */
+static int read_other(const struct arguments *a) {
+    char *written[] = {(char *)a->output};
+    int status = check_places(a->command, written, 1, a->operands, a->count);
+    return status == DONE ? read_image(a->operands[0]) : status;
+}
+
+/* Says why an image was refused: a chunk, an offset, or that it is something else. */
 static int refuse_image(const char *path, uint64_t answer) {
-    return monkey_number(answer) == MONKEY_BAD_HEIGHTS ? refuse_chunk(path, answer) : refuse_at_offset(path, answer, "image");
+    switch (monkey_number(answer)) {
+    case MONKEY_BAD_HEIGHTS:
+        return refuse_chunk(path, answer);
+    case MONKEY_BAD_IMAGE:
+        return refuse_for(path, answer, word_of(MONKEY_BAD_IMAGE), mistaken(image, image_length, IMAGE_TAG), "image");
+    default:
+        return refuse_at_offset(path, answer, "image");
+    }
 }
 
 /* Reads a decimal number up to a limit; whether the word is one. */
@@ -36,29 +54,98 @@ static int read_number(const char *word, unsigned long long limit, unsigned long
     return word[0] >= '0' && word[0] <= '9' && *end == 0 && errno == 0 && *number <= limit;
 }
 
-/* profile list */
-int run_list(const struct arguments *a) {
-    int status = read_image(a->operands[0]);
+/* Does one thing with each image, and answers the worst status; of several it notes how many could not be done. */
+static int each_image(const struct arguments *a, int (*one)(const struct arguments *, const char *)) {
+    size_t failed = 0;
+    int worst = DONE;
+    for (size_t k = 0; k < a->count && !ferror(stdout); k++) {
+        int status = one(a, a->operands[k]);
+        failed += status != DONE;
+        worst = status > worst ? status : worst;
+    }
+    if (!ferror(stdout)) {
+        note_failed(a, failed);
+    }
+    return worst;
+}
+
+/* Where listings go: standard output, or memory until all are there. */
+static FILE *listings;
+
+/* Lists an image, of several behind a line with its name. */
+static int list_image(const struct arguments *a, const char *path) {
+    static const char *between = "";
+    int status = read_image(path);
     if (status != DONE) {
         return status;
     }
     uint64_t answer = monkey_list_image(image, image_length, listing, sizeof listing);
-    return monkey_number(answer) == 0 ? write_output(a->output, listing, monkey_value(answer)) : refuse_image(a->operands[0], answer);
+    if (monkey_number(answer) != 0) {
+        return refuse_image(path, answer);
+    }
+    if (a->count > 1) {
+        fprintf(listings, "%s%s:\n", between, shown_path(path));
+        between = "\n";
+    }
+    fwrite(listing, 1, monkey_value(answer), listings);
+    return listings == stdout ? finish_stdout() : DONE;
 }
 
-/* profile check */
-int run_check(const struct arguments *a) {
+/* profile list */
+int run_list(const struct arguments *a) {
+    char *text = NULL;
+    size_t length = 0;
+    char *written[] = {(char *)a->output};
+    int status = check_places(a->command, written, 1, a->operands, a->count);
+    if (status != DONE) {
+        return status;
+    }
+    listings = a->output == NULL ? stdout : open_memstream(&text, &length);
+    if (listings == NULL) {
+        return file_error("memory");
+    }
+    status = each_image(a, list_image);
+    if (listings == stdout) {
+        return status;
+    }
+    int failed = ferror(listings);
+    if (fclose(listings) != 0 || failed) {
+        status = file_error("memory");
+    }
+    if (status == DONE) {
+        status = write_output(a->output, (const uint8_t *)text, length);
+    }
+    free(text);
+    return status;
+}
+
+/* Proposes heights for the image and has them checked: the answer that refuses, or the number of chunks. */
+static uint64_t measure(void) {
+    uint64_t answer = monkey_propose_heights(image, image_length, heights, MONKEY_HEIGHTS_LIMIT);
+    if (monkey_number(answer) != 0) {
+        return answer;
+    }
+    return monkey_check_heights(image, image_length, heights, monkey_value(answer), greatest, MONKEY_CHUNKS_LIMIT);
+}
+
+/* Says of an image whether it decodes, its stack passes, and what its code names is there. */
+static int check_image(const struct arguments *a, const char *path) {
+    (void)a;
     uint8_t none;
-    int status = read_image(a->operands[0]);
+    int status = read_image(path);
     if (status != DONE) {
         return status;
     }
     uint64_t answer = monkey_list_image(image, image_length, &none, 0);
-    if (monkey_number(answer) != MONKEY_OUTPUT_SHORT) { /* a sound image has a listing, and no room for it */
-        return refuse_image(a->operands[0], answer);
+    if (monkey_number(answer) != MONKEY_OUTPUT_SHORT) { /* one that decodes has a listing, and no room for it */
+        return refuse_for(path, answer, "does not decode", mistaken(image, image_length, IMAGE_TAG), "image");
     }
-    printf("%s: sound, %u bytes\n", shown_path(a->operands[0]), (unsigned)image_length);
-    return finish_stdout();
+    return report_check(path, image, image_length, measure());
+}
+
+/* profile check */
+int run_check(const struct arguments *a) {
+    return each_image(a, check_image);
 }
 
 /* The pool index of the next function at or behind a constant of a sound image; its offset and index are moved past it. */
@@ -73,27 +160,38 @@ static unsigned next_function(size_t *at, unsigned *index) {
     }
 }
 
-/* profile depth */
-int run_depth(const struct arguments *a) {
-    int status = read_image(a->operands[0]);
+/* Prints the depth of a chunk: of several images its own first. */
+static void print_depth(const struct arguments *a, const char *path, const char *chunk, unsigned depth) {
+    if (a->count > 1) {
+        printf("%s: ", shown_path(path));
+    }
+    printf("%s %u\n", chunk, depth);
+}
+
+/* Prints the depths of an image. */
+static int measure_image(const struct arguments *a, const char *path) {
+    char chunk[32];
+    int status = read_image(path);
     if (status != DONE) {
         return status;
     }
-    uint64_t answer = monkey_propose_heights(image, image_length, heights, MONKEY_HEIGHTS_LIMIT);
-    if (monkey_number(answer) == 0) {
-        answer = monkey_check_heights(image, image_length, heights, monkey_value(answer), greatest, MONKEY_CHUNKS_LIMIT);
-    }
+    uint64_t answer = measure();
     if (monkey_number(answer) != 0) {
-        return refuse_image(a->operands[0], answer);
+        return refuse_image(path, answer);
     }
     size_t at = 3 + (size_t)image[1] * 256 + image[2] + 3;
     unsigned index = 0;
-    printf("main %u\n", (unsigned)greatest[0]);
+    print_depth(a, path, "main", (unsigned)greatest[0]);
     for (uint32_t k = 1; k < monkey_value(answer); k++) {
-        unsigned function = next_function(&at, &index);
-        printf("function %u %u\n", function, (unsigned)greatest[k]);
+        snprintf(chunk, sizeof chunk, "function %u", next_function(&at, &index));
+        print_depth(a, path, chunk, (unsigned)greatest[k]);
     }
     return finish_stdout();
+}
+
+/* profile depth */
+int run_depth(const struct arguments *a) {
+    return each_image(a, measure_image);
 }
 
 /* Reads the session whose names are shown; the compiler judges it, on a script without statements. */
@@ -101,7 +199,7 @@ static int read_names(const struct arguments *a) {
     static const uint8_t nothing[] = {0x10, 0, 0};
     static uint8_t code[MONKEY_CODE_SIZE];
     static uint32_t table[MONKEY_TABLE_SIZE];
-    int status = read_session(a->session, session, 0);
+    int status = read_session(a->session, session);
     if (status != DONE) {
         return status;
     }
@@ -144,6 +242,9 @@ int run_run(const struct arguments *a) {
     if (monkey_number(answer) == 0) {
         answer = monkey_run(image, image_length, heights, monkey_value(answer), work, MONKEY_WORK_SIZE, globals, sizeof globals);
     }
+    if (monkey_number(answer) >= MONKEY_NOT_RUNNABLE) {
+        return refuse_trial(a->operands[0], answer, image, a->session == NULL ? NULL : session);
+    }
     if (monkey_number(answer) != 0) {
         return refuse_image(a->operands[0], answer);
     }
@@ -155,15 +256,51 @@ int run_run(const struct arguments *a) {
     return finish_stdout();
 }
 
-/* Writes each frame to a file of its own: frame-0000, frame-0001, .. */
+/* Refuses a directory that has frames: those of two images would be mixed. */
+static int refuse_frames(const struct arguments *a) {
+    int found = 0;
+    struct dirent *e;
+    DIR *entries = opendir(a->output);
+    if (entries == NULL) {
+        return file_error(a->output);
+    }
+    while (!found && (e = readdir(entries)) != NULL) {
+        found = strncmp(e->d_name, "frame-", 6) == 0;
+    }
+    closedir(entries);
+    return found ? usage_error(a->command, "there are frames already in ", a->output) : DONE;
+}
+
+/* Judges where frames are to be written: into a new directory, or one that has none. */
+static int check_frames(const struct arguments *a) {
+    if (a->output == NULL) {
+        return DONE;
+    }
+    if (strcmp(a->output, "-") == 0) {
+        return usage_error(a->command, "frames need a directory: name one with -o", "");
+    }
+    if (is_there(a->output) && !is_directory(a->output)) {
+        return usage_error(a->command, "frames need a directory, and this is none: ", a->output);
+    }
+    return is_there(a->output) ? refuse_frames(a) : DONE;
+}
+
+/* Writes each frame to a file of its own, frame-0000, frame-0001, .., all or none. */
 static int write_frames(const char *directory, size_t size) {
     char name[32];
-    int status = ensure_directory(directory);
+    int status = begin_files(image_length / size + 2, 0);
+    if (status == DONE && !is_there(directory)) {
+        status = prepare_directory(directory);
+    }
     for (size_t at = 0; at < image_length && status == DONE; at += size) {
         size_t length = image_length - at < size ? image_length - at : size;
         snprintf(name, sizeof name, "frame-%04u", (unsigned)(at / size));
-        status = write_within(directory, name, image + at, length);
+        status = prepare_within(directory, name, image + at, length);
     }
+    if (status == DONE) {
+        status = commit_files();
+    }
+    drop_files();
     return status;
 }
 
@@ -173,7 +310,10 @@ int run_frames(const struct arguments *a) {
     if (!read_number(a->operands[0], SIZE_MAX, &size)) {
         return usage_error(a->command, "no size in bytes: ", a->operands[0]);
     }
-    int status = read_image(a->operands[1]);
+    int status = check_frames(a);
+    if (status == DONE) {
+        status = read_image(a->operands[1]);
+    }
     if (status != DONE) {
         return status;
     }
@@ -192,24 +332,27 @@ int run_frames(const struct arguments *a) {
     return finish_stdout();
 }
 
-/* Translates an image by one of the two functions. */
-static int translate(const struct arguments *a, uint64_t (*turn)(const uint8_t *, size_t, uint8_t *, size_t)) {
-    int status = read_image(a->operands[0]);
+/* Translates what begins with a tag by one of the two functions. */
+static int translate(const struct arguments *a, uint8_t tag, uint64_t (*turn)(const uint8_t *, size_t, uint8_t *, size_t)) {
+    int status = read_other(a);
     if (status != DONE) {
         return status;
     }
     uint64_t answer = turn(image, image_length, turned, sizeof turned);
+    if (monkey_number(answer) == MONKEY_BAD_IMAGE) {
+        return refuse_for(a->operands[0], answer, word_of(MONKEY_BAD_IMAGE), mistaken(image, image_length, tag), "image");
+    }
     return monkey_number(answer) == 0 ? write_binary(a->output, turned, monkey_value(answer)) : refuse_image(a->operands[0], answer);
 }
 
 /* profile chin */
 int run_chin(const struct arguments *a) {
-    return translate(a, monkey_to_chin);
+    return translate(a, IMAGE_TAG, monkey_to_chin);
 }
 
 /* profile unchin */
 int run_unchin(const struct arguments *a) {
-    return translate(a, monkey_from_chin);
+    return translate(a, CHIN_TAG, monkey_from_chin);
 }
 
 /* profile load */

@@ -9,7 +9,7 @@
 #include "profile.h"
 
 /* Whether a field's content is fields. */
-static int has_fields(uint8_t tag) {
+int has_fields(uint8_t tag) {
     return tag < 0x20 || (tag >= 0x21 && tag <= 0x25) || (tag >= 0x29 && tag <= 0x2c) || tag == 0x31;
 }
 
@@ -33,17 +33,17 @@ static size_t marks_before(const uint8_t *tree, size_t length, size_t offset) {
 }
 
 /* Whether a byte is a letter or `_`. */
-static int is_letter(uint8_t b) {
+int is_letter(uint8_t b) {
     return (b >= 'a' && b <= 'z') || (b >= 'A' && b <= 'Z') || b == '_';
 }
 
 /* Whether a byte is a digit. */
-static int is_digit(uint8_t b) {
+int is_digit(uint8_t b) {
     return b >= '0' && b <= '9';
 }
 
 /* The end of the token that begins at an offset. */
-static size_t token_end(const uint8_t *text, size_t length, size_t at) {
+size_t token_end(const uint8_t *text, size_t length, size_t at) {
     size_t end = at + 1;
     if (is_letter(text[at])) {
         while (end < length && is_letter(text[end])) {

@@ -6,6 +6,7 @@
 
 #include <stddef.h>
 #include <stdint.h>
+#include <sys/types.h>
 
 #include "monkey.h"
 
@@ -21,57 +22,142 @@ enum { TREE_ROOM = MONKEY_TREE_LIMIT + 1, IMAGE_ROOM = MONKEY_IMAGE_LIMIT + 1, T
 /* The options and operands of a subcommand. */
 struct arguments {
     const char *command;
-    const char *output;   /* -o, or null */
+    const char *output;   /* --output, or null */
     const char *session;  /* --session, or null */
     const char *words;    /* --words, or null */
     int tree;             /* --tree */
+    int together;         /* --together */
+    int quiet;            /* --quiet: errors alone on standard error */
     char **operands;
     size_t count;
 };
 
-/* A file that is written beside its target, to be renamed over it. */
-struct pending {
-    char *target;
-    char *temporary;
-    int durable; /* to the disk before the rename, and the rename too */
-};
-
-/* files.c: each says what failed, and answers DONE or FAILED */
+/* files.c: those that answer no more than whether they could leave the error to be said */
+int hold_descriptors(void);
 int read_descriptor(const char *path, int descriptor, uint8_t *buffer, size_t room, size_t *length);
-int open_alone(const char *path);
 int read_input(const char *path, uint8_t *buffer, size_t room, size_t *length);
-int prepare_file(struct pending *file, const char *path, const uint8_t *bytes, size_t length, int durable);
-int commit_file(struct pending *file);
-void drop_file(struct pending *file);
+int write_all(int descriptor, const uint8_t *bytes, size_t length);
+mode_t permitted(mode_t asked);
+int take_after(int descriptor, const char *path, mode_t fresh);
+int is_stream(const char *path);
+int write_through(const char *path, const uint8_t *bytes, size_t length);
 int write_output(const char *path, const uint8_t *bytes, size_t length);
 int write_binary(const char *path, const uint8_t *bytes, size_t length);
-int write_within(const char *directory, const char *name, const uint8_t *bytes, size_t length);
-int ensure_directory(const char *path);
-int is_directory(const char *path);
-int same_file(const char *left, const char *right);
+int refuse_terminal(const char *path);
 int finish_stdout(void);
+
+/* writing.c: files are begun, prepared, committed, and dropped in any case; each says what failed, and answers DONE or FAILED */
+int begin_files(size_t most, int to_disk);
+int prepare_directory(const char *path);
+int prepare_file(const char *path, const uint8_t *bytes, size_t length, int is_session);
+int prepare_within(const char *directory, const char *name, const uint8_t *bytes, size_t length);
+int commit_files(void);
+void drop_files(void);
+void remove_temporaries(void);
+
+/* signals.c */
+void catch_signals(void);
+void hold_signals(void);
+void release_signals(void);
+
+/* paths.c: a path in memory of its own is null where there is no memory */
+int is_directory(const char *path);
+int is_there(const char *path);
+char *directory_of(const char *path);
+char *path_with(const char *path, const char *end);
+char *path_within(const char *directory, const char *name);
+char *follow_links(const char *path);
+char *directory_target(const char *path);
+int descriptor_of(const char *path);
+int is_standard_input(const char *path);
+int check_places(const char *command, char *const *written, size_t writes, char *const *inputs, size_t reads);
 
 /* report.c */
 int usage_error(const char *command, const char *what, const char *word);
+int unknown_error(const char *command, const char *what, const char *word, const char *nearest);
+void note(const struct arguments *a, const char *what, const char *path);
+void note_failed(const struct arguments *a, size_t failed);
 int file_error(const char *path);
+int refuse_for(const char *path, uint64_t answer, const char *why, const char *more, const char *of);
 int refuse_at_offset(const char *path, uint64_t answer, const char *of);
-int refuse_in_text(const char *path, uint64_t answer, const uint8_t *text, size_t length, size_t place);
 int refuse_plainly(const char *path, uint64_t answer);
 int refuse_chunk(const char *path, uint64_t answer);
+int refuse_stack(const char *path, uint64_t answer, const char *why, const char *names);
+int refuse_names(const char *path, const char *names);
+
+/* An error at a place of a text; a note on another place, or null. */
+struct message {
+    const char *path;
+    const uint8_t *text;
+    size_t length, place;
+    char reason[400];
+    const char *note;
+    size_t noted;
+};
+
+/* source.c */
+int say_error(const char *path, unsigned number, const char *reason);
+int say_message(const struct message *m, unsigned number);
 void position_of(const uint8_t *text, size_t length, size_t place, unsigned *line, unsigned *column);
+
+/* numbers.c */
+const char *word_of(unsigned number);
+
+/* reasons.c: why a text is refused by its number and place, and where, in words */
+void find_reason(struct message *m, uint64_t answer);
+
+/* kinds.c */
+const char *mistaken(const uint8_t *bytes, size_t length, uint8_t tag);
+
+/* undefined.c */
+void find_tree_reason(struct message *m, uint64_t answer, const uint8_t *session, const uint8_t *tree, size_t tree_length);
+void explain_undefined(char *reason, size_t room, const uint8_t *session, const uint8_t *tree, size_t offset);
+
+/* shown.c */
+size_t character(const uint8_t *at, size_t left);
+const char *shown(const char *text);
 const char *shown_path(const char *path);
 
+/* A word, and the nearest to it of those that were considered, or null. */
+struct nearest {
+    const char *word;
+    size_t length;
+    const char *best;
+    size_t distance;
+};
+
+/* nearest.c */
+struct nearest nearest_to(const char *word);
+void consider(struct nearest *n, const char *candidate);
+
 /* places.c */
+int has_fields(uint8_t tag);
+int is_letter(uint8_t b);
+int is_digit(uint8_t b);
+size_t token_end(const uint8_t *text, size_t length, size_t at);
 size_t place_in_text(const uint8_t *tree, size_t tree_length, size_t offset, const uint8_t *text, size_t text_length);
 
+/* check.c */
+int report_check(const char *path, const uint8_t *image, size_t length, uint64_t stack);
+
+/* trial.c */
+int refuse_trial(const char *path, uint64_t answer, const uint8_t *image, const uint8_t *session);
+
 /* session.c */
-int read_session(const char *path, uint8_t *session, int replaced);
+int find_session(const char *path);
+int read_session(const char *path, uint8_t *session);
 int open_session(const struct arguments *a, uint8_t *session, int replaced);
-int save_session(const char *path, const uint8_t *session, struct pending *file);
 const uint8_t *global_name(const uint8_t *session, size_t index, size_t *length);
+
+/* lock.c */
+char *lock_of(const char *session);
+int take_lock(const struct arguments *a);
+void remove_lock(void);
+void release_lock(void);
 
 /* help.c */
 int print_help(const char *command);
+int print_version(void);
 
 /* The subcommands: each answers an exit status. */
 int run_compile(const struct arguments *a);
@@ -84,5 +170,6 @@ int run_frames(const struct arguments *a);
 int run_chin(const struct arguments *a);
 int run_unchin(const struct arguments *a);
 int run_load(const struct arguments *a);
+int run_explain(const struct arguments *a);
 
 #endif

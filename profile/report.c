@@ -1,5 +1,5 @@
 /*
- * What is said of refusals and failures: one line each, on standard error.
+ * What is said of refusals, but those of texts, and of failures: one line each, on standard error.
  */
 #include <errno.h>
 #include <stdio.h>
@@ -7,29 +7,42 @@
 
 #include "profile.h"
 
-/* The words of the numbers, as docs/FORMAT.md has them. */
-static const char *const words[] = {
-    "no refusal", "short buffer", "no session", "bad tree", "tree too deep", "undefined name", "operator that is none here", "macro",
-    "too many parameters or arguments", "too many locals", "too many captures", "too many globals", "pool full", "code full", "functions nested too deep",
-    "output short", "bad instruction", "bad image", "few records", "bad words", "no script", "integer too large", "branch without a value",
-    "frame size is not 16 to 1024", "no such frame", "bad heights", "bad jump", "not runnable", "wrong operand, overflow or zero divisor", "global not yet set",
-};
-
-/* The word of a number. */
-static const char *word_of(uint32_t number) {
-    return number < sizeof words / sizeof words[0] ? words[number] : "unknown number";
-}
-
-/* How a path is shown: standard input by its name. */
-const char *shown_path(const char *path) {
-    return strcmp(path, "-") == 0 ? "standard input" : path;
+/* Says how a command was called wrongly, and where its help is. */
+static int say_usage(const char *command, const char *what, const char *word, const char *hint) {
+    const char *space = command == NULL ? "" : " ";
+    const char *name = command == NULL ? "" : command;
+    fprintf(stderr, "profile%s%s: %s%s%s: see profile%s%s --help\n", space, name, what, word, hint, space, name);
+    return FAILED;
 }
 
 /* Says that a command was not called as it should be. */
 int usage_error(const char *command, const char *what, const char *word) {
-    fprintf(stderr, "profile%s%s: %s%s: see profile%s%s --help\n", command == NULL ? "" : " ", command == NULL ? "" : command, what, word, command == NULL ? "" : " ",
-            command == NULL ? "" : command);
-    return FAILED;
+    return say_usage(command, what, shown(word), "");
+}
+
+/* Says that a word is none of those that can stand there, and which of these is near to it, if one is. */
+int unknown_error(const char *command, const char *what, const char *word, const char *nearest) {
+    char hint[64] = "";
+    if (nearest != NULL) {
+        snprintf(hint, sizeof hint, ", did you mean %s?", nearest);
+    }
+    return say_usage(command, what, word[0] == 0 ? "''" : shown(word), hint);
+}
+
+/* Says what is no error, on a file where one is given; --quiet keeps it from being said. */
+void note(const struct arguments *a, const char *what, const char *path) {
+    if (!a->quiet) {
+        fprintf(stderr, "profile: %s%s\n", what, path == NULL ? "" : shown_path(path));
+    }
+}
+
+/* Notes how many of several files could not be done. */
+void note_failed(const struct arguments *a, size_t failed) {
+    char what[128];
+    if (failed > 0 && a->count > 1) {
+        snprintf(what, sizeof what, "%s: %zu of %zu files refused or not read", a->command, failed, a->count);
+        note(a, what, NULL);
+    }
 }
 
 /* Says that a file could not be read or written, and why. */
@@ -39,45 +52,49 @@ int file_error(const char *path) {
     return FAILED;
 }
 
+/* Says a refusal whose place is an offset of what is named, for a reason, of which there may be more to say. */
+int refuse_for(const char *path, uint64_t answer, const char *why, const char *more, const char *of) {
+    char reason[512];
+    snprintf(reason, sizeof reason, "%s%s, at offset %u of the %s", why, more, (unsigned)monkey_value(answer), of);
+    return say_error(path, monkey_number(answer), reason);
+}
+
 /* Says a refusal whose place is an offset of what is named. */
 int refuse_at_offset(const char *path, uint64_t answer, const char *of) {
-    fprintf(stderr, "profile: %s: refused %u (%s) at offset %u of the %s\n", shown_path(path), (unsigned)monkey_number(answer), word_of(monkey_number(answer)),
-            (unsigned)monkey_value(answer), of);
-    return REFUSED;
+    return refuse_for(path, answer, word_of(monkey_number(answer)), "", of);
 }
 
 /* Says a refusal that has no place. */
 int refuse_plainly(const char *path, uint64_t answer) {
-    fprintf(stderr, "profile: %s: refused %u (%s)\n", shown_path(path), (unsigned)monkey_number(answer), word_of(monkey_number(answer)));
-    return REFUSED;
+    return say_error(path, monkey_number(answer), word_of(monkey_number(answer)));
 }
 
-/* Says a refusal whose place is a chunk. */
-int refuse_chunk(const char *path, uint64_t answer) {
+/* Says that the stack of a chunk fails; before and behind it what else there is to say. */
+static int refuse_chunk_and(const char *path, uint64_t answer, const char *first, const char *rest) {
+    char reason[600], place[32] = "main";
     unsigned chunk = (unsigned)monkey_value(answer);
-    fprintf(stderr, "profile: %s: refused %u (%s) in ", shown_path(path), (unsigned)monkey_number(answer), word_of(monkey_number(answer)));
-    if (chunk == 0) {
-        fprintf(stderr, "main\n");
-    } else {
-        fprintf(stderr, "function %u\n", chunk - 1);
+    if (chunk > 0) {
+        snprintf(place, sizeof place, "function %u", chunk - 1);
     }
-    return REFUSED;
+    snprintf(reason, sizeof reason, "%sthe stack fails in %s%s", first, place, rest);
+    return say_error(path, monkey_number(answer), reason);
 }
 
-/* The line and the column of an offset in a text, both from 1. */
-void position_of(const uint8_t *text, size_t length, size_t place, unsigned *line, unsigned *column) {
-    *line = 1;
-    *column = 1;
-    for (size_t i = 0; i < place && i < length; i++) {
-        *column = text[i] == '\n' ? 1 : *column + 1;
-        *line += text[i] == '\n';
-    }
+/* Says that the stack of a chunk fails. */
+int refuse_chunk(const char *path, uint64_t answer) {
+    return refuse_chunk_and(path, answer, "", "");
 }
 
-/* Says a refusal at an offset of a text. */
-int refuse_in_text(const char *path, uint64_t answer, const uint8_t *text, size_t length, size_t place) {
-    unsigned line, column;
-    position_of(text, length, place, &line, &column);
-    fprintf(stderr, "profile: %s: refused %u (%s) at line %u, column %u\n", shown_path(path), (unsigned)monkey_number(answer), word_of(monkey_number(answer)), line, column);
-    return REFUSED;
+/* Says that an image decodes and its stack fails, why, and what is said of the names in its code. */
+int refuse_stack(const char *path, uint64_t answer, const char *why, const char *names) {
+    char rest[512];
+    snprintf(rest, sizeof rest, "%s; %s", why, names);
+    return refuse_chunk_and(path, answer, "decodes; ", rest);
+}
+
+/* Says that an image decodes and its stack passes, but its code names what is not there. */
+int refuse_names(const char *path, const char *names) {
+    char reason[256];
+    snprintf(reason, sizeof reason, "decodes; the stack passes; %s", names);
+    return say_error(path, 0, reason);
 }

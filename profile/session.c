@@ -7,6 +7,7 @@
 #include <stdio.h>
 #include <stdlib.h>
 #include <string.h>
+#include <sys/stat.h>
 #include <unistd.h>
 
 #include "profile.h"
@@ -34,18 +35,32 @@ static int make_with_words(const char *list, uint8_t *session) {
     return monkey_number(answer) == 0 ? DONE : refuse_plainly("--words", answer);
 }
 
-/* Reads a session file, alone if it is to be replaced. One that has not the length of a session is none. */
-int read_session(const char *path, uint8_t *session, int replaced) {
+/* Whether a session file is there: 1, or 0; -1, which it says, where that cannot be known or what is there is no regular file. */
+int find_session(const char *path) {
+    struct stat s;
+    if (strcmp(path, "-") != 0 && stat(path, &s) != 0) {
+        return errno == ENOENT ? 0 : (file_error(path), -1);
+    }
+    if (strcmp(path, "-") == 0 || !S_ISREG(s.st_mode)) {
+        fprintf(stderr, "profile: %s: not a regular file, as a session is\n", shown_path(path));
+        return -1;
+    }
+    return 1;
+}
+
+/* Reads a session file. One that has not the length of a session is none. */
+int read_session(const char *path, uint8_t *session) {
     static uint8_t bytes[MONKEY_SESSION_SIZE + 1];
     size_t length = 0;
-    int descriptor = replaced ? open_alone(path) : open(path, O_RDONLY);
+    if (find_session(path) < 0) {
+        return FAILED;
+    }
+    int descriptor = open(path, O_RDONLY | O_NONBLOCK);
     if (descriptor < 0) {
         return file_error(path);
     }
     int status = read_descriptor(path, descriptor, bytes, sizeof bytes, &length);
-    if (!replaced) { /* else it stays open: closing it would let another command have it */
-        close(descriptor);
-    }
+    close(descriptor);
     if (status != DONE) {
         return status;
     }
@@ -56,14 +71,8 @@ int read_session(const char *path, uint8_t *session, int replaced) {
     return DONE;
 }
 
-/* Makes or reads the session of a command, which replaces its file or does not. */
-int open_session(const struct arguments *a, uint8_t *session, int replaced) {
-    if (a->session != NULL && (access(a->session, F_OK) == 0 || errno != ENOENT)) {
-        if (a->words != NULL) {
-            return usage_error(a->command, "--words is for a new session, and there is ", a->session);
-        }
-        return read_session(a->session, session, replaced);
-    }
+/* Makes the session of a command that has no file of one. */
+static int make_session(const struct arguments *a, uint8_t *session) {
     if (a->words != NULL) {
         return make_with_words(a->words, session);
     }
@@ -71,9 +80,26 @@ int open_session(const struct arguments *a, uint8_t *session, int replaced) {
     return DONE;
 }
 
-/* Writes a session beside its file, and to the disk; commit_file renames it. */
-int save_session(const char *path, const uint8_t *session, struct pending *file) {
-    return prepare_file(file, path, session, MONKEY_SESSION_SIZE, 1);
+/* Makes or reads the session of a command; one whose file is to be replaced is locked before it is known whether it is there. */
+int open_session(const struct arguments *a, uint8_t *session, int replaced) {
+    if (a->session == NULL) {
+        return make_session(a, session);
+    }
+    int there = find_session(a->session);
+    if (there >= 0 && replaced) {
+        int status = take_lock(a);
+        if (status != DONE) {
+            return status;
+        }
+        there = find_session(a->session);
+    }
+    if (there < 0) {
+        return FAILED;
+    }
+    if (there && a->words != NULL) {
+        return usage_error(a->command, "--words is for a new session, and there is ", a->session);
+    }
+    return there ? read_session(a->session, session) : make_session(a, session);
 }
 
 /* The name of a global in a session that the compiler accepted; null where it has none of this index. */

@@ -16,12 +16,15 @@ use Rattle.definition.specs.Output.{output_answer}
 use Rattle.definition.specs.Valid.{AreBytes}
 use Rattle.definition.specs.declared.reason.Refusal.{Refusal}
 use Rattle.definition.specs.Answer.{Answer}
-use Rattle.std.specs.Prelude.{Ok, Err}
+use Rattle.std.specs.Prelude.{Result, Ok, Err}
 use Rattle.definition.proofs.Numbers.{each, below}
 use Rattle.definition.proofs.Places.{Within, made_within, made-words_within, call_within_limit}
 use Rattle.definition.proofs.ListingLength.{list_within}
 use Rattle.text.specs.Script.{read_text, answer_of as readAnswer}
 use Rattle.text.proofs.Small.{ReadWithin, read_within}
+use Rattle.text.specs.Next.{token_at}
+use Rattle.text.proofs.Told.{ToldWithin, told_within}
+use Rattle.capi.specs.Token.{numbers_answer}
 use Rattle.load.specs.Load.{tree_of}
 use Rattle.load.proofs.Theorems.{tree_short}
 use Rattle.bytecode.specs.declared.Form.{Form}
@@ -147,3 +150,15 @@ read_fits lent text = go (read_within lent text)
     go : {a : Answer} → ReadWithin a → Fits a
     go (ReadWithin.wrote h) = record { number = omega arith; value = omega arith }
     go (ReadWithin.refused h k) = record { number = omega arith; value = omega arith }
+
+-- the answer to an offset of a text
+pub token-fits : (text : Bytes) (at room : ℕ) → Fits (numbers_answer (token_at text at) room)
+token-fits text at room = go (told_within text at)
+  where
+    three_fits : (b : Bool) → Fits (pick b (Ok 3) (Err (refusal output_short 0)))
+    three_fits true = record { number = omega arith; value = omega arith }
+    three_fits false = record { number = omega arith; value = omega arith }
+
+    go : {r : Result (List ℕ) Refusal} → ToldWithin r → Fits (numbers_answer r room)
+    go ToldWithin.numbers = three_fits (leb 3 room)
+    go (ToldWithin.refused h k) = record { number = omega arith; value = omega arith }

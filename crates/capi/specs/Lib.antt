@@ -4,3 +4,4 @@ pub mod Turned
 pub mod Heights
 pub mod Trial
 pub mod Named
+pub mod Token

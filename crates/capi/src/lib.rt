@@ -1,7 +1,7 @@
 // What a C program links: each function answers one 64-bit number. include/monkey.h declares them.
 #![tactic(auto)]
 
-ghost use Rattle.std.specs.Prelude.{◌≡◌, ◌<◌};
+ghost use Rattle.std.specs.Prelude.{◌≡◌, ◌<◌, length};
 ghost use Rattle.compiler.specs.Stage.{lent_of};
 ghost use Rattle.capi.specs.Packed.{Fits, Packs, MakesPacked, WordsPacked, CompilesPacked, ListsPacked, LoadsPacked, ReadsPacked};
 ghost use Rattle.chin.specs.Chin.{to_chin, from_chin};
@@ -10,8 +10,11 @@ ghost use Rattle.capi.specs.Turned.{TurnsPacked};
 ghost use Rattle.capi.specs.Heights.{ChecksPacked, ProposesPacked};
 ghost use Rattle.capi.specs.Framed.{pair_answer, refusal_answer, CountsPacked, PlacesPacked, RefusesPacked};
 ghost use Rattle.capi.specs.Trial.{RunsPacked};
+ghost use Rattle.capi.specs.Token.{numbers_answer, numbers_into, TokenPacked};
+ghost use Rattle.text.specs.Next.{three_of};
 
-use definition::Refusal;
+use definition::{Reason, Refusal, refused};
+use text::NextToken;
 
 // What the numbers of a half are below: 2 to the 32nd.
 const HALF_BOUND: u64 = 4294967296;
@@ -208,5 +211,28 @@ pub extern "C" fn monkey_read_text(text: &[u8], output: &mut [u8]) -> u64
     ensures { ReadsPacked text.now output.old result output.new }
 {
     let answer = text::read_text(text, output);
+    pack(answer)
+}
+
+// Writes a token's start, length and kind at the front of a list: how many numbers; or why there is no token, or 15.
+fn put_token(next: Result<NextToken, Refusal>, numbers: &mut [u32]) -> Result<usize, Refusal>
+    ensures answer { result ≡ numbers_answer (three_of next) (length numbers.old) }
+    ensures output { numbers.new ≡ numbers_into (three_of next) numbers.old }
+{
+    let token = next?;
+    if numbers.len() < 3 {
+        return refused(Reason::OutputShort, 0);
+    }
+    numbers[..3].copy_from_slice(&[token.start as u32, token.len as u32, token.kind.number()]);
+    Ok(3)
+}
+
+// Finds the token that is next from an offset of a text on: 3, and its start, length and kind stand at the front of the list; or 20 or 21
+// and the place in the text, or 15, and the list stays.
+#[unsafe(no_mangle)]
+pub extern "C" fn monkey_next_token(text: &[u8], at: usize, token: &mut [u32]) -> u64
+    ensures { TokenPacked text.now at token.old result token.new }
+{
+    let answer = put_token(text::next_token(text, at), token);
     pack(answer)
 }

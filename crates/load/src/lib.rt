@@ -230,10 +230,12 @@ fn put_branch(out: &mut [u8], below: usize, draws: &mut Draws) -> usize
     requires { (0 < below) × (39 ≤ length out.old) }
     ensures { Wrote (list.branch below (length out.old) draws.old.state) result draws.new.state out.old out.new }
 {
-    if draws.draw(2) == 0 {
-        return put_node(out, tag::BLOCK, &[Yielding], below - 1, draws);
-    }
-    put_node(out, tag::BLOCK, &[Statement, Yielding], below - 1, draws)
+    let row: &[Item] = if draws.draw(2) == 0 {
+        &[Yielding]
+    } else {
+        &[Statement, Yielding]
+    };
+    put_node(out, tag::BLOCK, row, below - 1, draws)
 }
 
 // The ExprStmt that a branch ends with.
@@ -252,22 +254,12 @@ fn put_program(out: &mut [u8], draws: &mut Draws) -> usize
 {
     let with_c = draws.draw(4) != 0;
     let n = 1 + draws.draw(8);
-    if with_c {
-        return put_node(
-            out,
-            tag::PROGRAM,
-            &PROGRAM_WITH_C[..3 + n],
-            STATEMENT_LEVELS,
-            draws,
-        );
-    }
-    put_node(
-        out,
-        tag::PROGRAM,
-        &PROGRAM[..2 + n],
-        STATEMENT_LEVELS,
-        draws,
-    )
+    let row = if with_c {
+        &PROGRAM_WITH_C[..3 + n]
+    } else {
+        &PROGRAM[..2 + n]
+    };
+    put_node(out, tag::PROGRAM, row, STATEMENT_LEVELS, draws)
 }
 
 // Writes the tree of a seed to the output; or refuses, 15, where it is too short, and leaves it as it was.

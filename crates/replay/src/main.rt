@@ -67,6 +67,7 @@ fn read_array<R: Read, const N: usize>(reader: &mut R) -> io::Result<[u8; N]> {
 }
 
 // One byte as a number.
+// Kept: three, here and below, each by the pattern of its bytes: one over N would ask that N is at most 8, and shift in a loop.
 fn read_byte<R: Read>(reader: &mut R) -> io::Result<usize> {
     let [low] = read_array::<R, 1>(reader)?;
     Ok(wide(low))

@@ -30,7 +30,7 @@ use Rattle.text.proofs.Turns.{begins}
 use Rattle.definition.specs.declared.reason.Reason.{Reason}
 
 -- what is next stands at or before the limit
-data Early : Next → Type 0 where
+pub data Early : Next → Type 0 where
   found : {start end : ℕ} {t : Token} → start ≤ text_limit → Early (Next.found start end t)
   large : {start : ℕ} {t : Token} → start ≤ text_limit → Early (Next.large start t)
   broken : {start : ℕ} → start ≤ text_limit → Early (Next.broken start)
@@ -52,7 +52,7 @@ module _ (byte : ℕ → ℕ) (n : ℕ) where
         chosen Early (both (either (eqb k assign) (eqb k bang)) (both (ltb (start + 1) n) (eqb (byte (start + 1)) 61))) (λ _. early_ending start (start + 2) h (Early.found h)) (λ _. chosen Early (eqb k no_mark) (λ _. Early.broken h) (λ _. Early.found h)),
       )
 
-  early_next : (at : ℕ) → at ≤ text_limit → Early (next_at byte n at)
+  pub early_next : (at : ℕ) → at ≤ text_limit → Early (next_at byte n at)
   unfolding next_at
   early_next at h =
       let left = smaller n text_limit - at in

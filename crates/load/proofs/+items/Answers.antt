@@ -9,16 +9,16 @@ use Rattle.load.proofs.Laws.{draw-wrote, wrote_as}
 use Rattle.load.proofs.Rows.{field-wrote, empty_block, block_is, branch-high, expression-low, expression-high, statement-high, yielding-high}
 use Rattle.load.proofs.Items.{no_items, behind_first, items-wrote, taken_need, taken_cost, taken-wrote, call_times, pairs_times, parameters-wrote}
 use Rattle.load.specs.declared.row.Item.TheVariants.{Expression, Statement}
-use Rattle.load.proofs.+items.Goals.{put_item-in-Statement, put_item-in_default}
+use Rattle.load.proofs.+items.Goals.{put_item-in-Statement, put_item-in_default, put_branch-then-draw-eq0, put_branch-else-draw-eq0}
 use Rattle.load.proofs.+items.Goals as goal
 
-pub put_branch-returns-then-draw-eq0 : goal.put_branch-returns-then-draw-eq0
-put_branch-returns-then-draw-eq0 t c =
-    branch-high c.args.below _ c.args.draws.now.state {k = 0} (omega (arith, c.requires.0)) (sym c.if-draw-eq0.true ∙ c.draw.ensures.is) c.draw.ensures.state c.put_node.ensures
-
 pub put_branch-returns : goal.put_branch-returns
-put_branch-returns t c =
-    branch-high c.args.below _ c.args.draws.now.state {k = 1} (omega (arith, c.requires.0)) (omega (arith, c.if-draw-eq0.false, c.draw.ensures.small, c.draw.ensures.is)) c.draw.ensures.state c.put_node-2.ensures
+put_branch-returns t c = elim c.if-draw-eq0.branch [
+  | put_branch-then-draw-eq0 w ↦
+      branch-high c.args.below _ c.args.draws.now.state {k = 0} (omega (arith, c.requires.0)) (sym w.if-draw-eq0.true ∙ c.draw.ensures.is) c.draw.ensures.state (rw w.row-is at c.put_node.ensures)
+  | put_branch-else-draw-eq0 w ↦
+      branch-high c.args.below _ c.args.draws.now.state {k = 1} (omega (arith, c.requires.0)) (omega (arith, w.if-draw-eq0.false, c.draw.ensures.small, c.draw.ensures.is)) c.draw.ensures.state (rw w.row-is at c.put_node.ensures)
+]
 
 pub put_expression-returns-then-below-eq0 : goal.put_expression-returns-then-below-eq0
 put_expression-returns-then-below-eq0 t c = expression-low _ _ _ c.if-below-eq0.true c.draw.ensures.is c.draw.ensures.state c.put_leaf.ensures

@@ -6,17 +6,15 @@ use Rattle.load.specs.Load.{tree_most, definitions, a_statement}
 use Rattle.load.proofs.Laws.{draw-wrote, wrote_as}
 use Rattle.load.proofs.Items.{with_c, without_c}
 use Rattle.load.proofs.put_program.Goals as goal
-
-pub returns-then-with_c : goal.returns-then-with_c
-returns-then-with_c c =
-    let k = c.draw-with_c.result in
-    draw-wrote (λ k s. bind (draw 8 s) (λ n. field_of tag_program (definitions k ++ times (suc n) (a_statement 10)) tree_most)) 4 _ c.draw-with_c.ensures.is c.draw-with_c.ensures.state
-    (draw-wrote (λ n. field_of tag_program (definitions k ++ times (suc n) (a_statement 10)) tree_most) 8 _ c.draw-n.ensures.is c.draw-n.ensures.state
-    (wrote_as (λ i. field_of tag_program (with_c k c.draw-n.result (omega (arith, c.if-with_c.true)) c.draw-n.ensures.small i) (c.requires i) c.draw-n.new.self.state) c.put_node.ensures))
+use Rattle.load.proofs.put_program.Goals.{then-with_c, else-with_c}
 
 pub returns : goal.returns
 returns c =
     let k = c.draw-with_c.result in
+    let n = c.draw-n.result in
     draw-wrote (λ k s. bind (draw 8 s) (λ n. field_of tag_program (definitions k ++ times (suc n) (a_statement 10)) tree_most)) 4 _ c.draw-with_c.ensures.is c.draw-with_c.ensures.state
     (draw-wrote (λ n. field_of tag_program (definitions k ++ times (suc n) (a_statement 10)) tree_most) 8 _ c.draw-n.ensures.is c.draw-n.ensures.state
-    (wrote_as (λ i. field_of tag_program (without_c k c.draw-n.result (omega (arith, c.if-with_c.false)) c.draw-n.ensures.small i) (c.requires i) c.draw-n.new.self.state) c.put_node-2.ensures))
+    (elim c.if-with_c.branch [
+      | then-with_c w ↦ wrote_as (λ i. field_of tag_program (with_c k n (omega (arith, w.if-with_c.true)) c.draw-n.ensures.small i) (c.requires i) c.draw-n.new.self.state) (rw w.row-is at c.put_node.ensures)
+      | else-with_c w ↦ wrote_as (λ i. field_of tag_program (without_c k n (omega (arith, w.if-with_c.false)) c.draw-n.ensures.small i) (c.requires i) c.draw-n.new.self.state) (rw w.row-is at c.put_node.ensures)
+    ]))
