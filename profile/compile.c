@@ -331,22 +331,21 @@ static void print_name(const uint8_t *name, size_t length) {
 }
 
 /* Prints where a name stands: line and column, or the offset in the tree. */
-static void print_place(const struct arguments *a, const struct script *script, size_t offset) {
+static void print_place(const struct arguments *a, struct walk *w, size_t offset) {
     unsigned line, column;
     if (a->tree) {
         printf("offset %u: ", (unsigned)offset);
         return;
     }
-    size_t place = place_in_text(tree, tree_length, offset, script->bytes, script->length);
-    position_of(script->bytes, script->length, place, &line, &column);
+    position_of(w->text, w->text_length, place_in_text(w, offset), &line, &column);
     printf("line %u, column %u: ", line, column);
 }
 
 /* Prints how one name was resolved. */
-static void print_record(const struct arguments *a, const struct script *script, const struct monkey_name *n) {
+static void print_record(const struct arguments *a, struct walk *w, const struct monkey_name *n) {
     static const char *const kinds[] = {"global", "local", "built-in word", "captured variable", "the function itself"};
     const uint8_t *field = tree + n->offset; /* tag, length in two bytes, name */
-    print_place(a, script, n->offset);
+    print_place(a, w, n->offset);
     print_name(field + 3, (size_t)field[1] * 256 + field[2]);
     printf(" is %s", kinds[n->kind]);
     if (n->kind != MONKEY_FUNCTION) {
@@ -378,8 +377,9 @@ static int print_names(const struct arguments *a, const struct script *script) {
     }
     size_t count = monkey_names_count(answer);
     qsort(names, count, sizeof names[0], by_offset);
+    struct walk w = begin_walk(tree, tree_length, script->bytes, script->length);
     for (size_t k = 0; k < count; k++) {
-        print_record(a, script, &names[k]);
+        print_record(a, &w, &names[k]);
     }
     return finish_stdout();
 }

@@ -285,17 +285,17 @@ static int check_frames(const struct arguments *a) {
     return is_there(a->output) ? refuse_frames(a) : DONE;
 }
 
-/* Writes each frame to a file of its own, frame-0000, frame-0001, .., all or none. */
-static int write_frames(const char *directory, size_t size) {
+/* Writes each of the frames that were counted to a file of its own, frame-0000, frame-0001, .., all or none. */
+static int write_frames(const char *directory, size_t size, size_t count) {
     char name[32];
-    int status = begin_files(image_length / size + 2, 0);
+    int status = begin_files(count + 1, 0);
     if (status == DONE && !is_there(directory)) {
         status = prepare_directory(directory);
     }
-    for (size_t at = 0; at < image_length && status == DONE; at += size) {
-        size_t length = image_length - at < size ? image_length - at : size;
-        snprintf(name, sizeof name, "frame-%04u", (unsigned)(at / size));
-        status = prepare_within(directory, name, image + at, length);
+    for (size_t k = 0; k < count && status == DONE; k++) {
+        uint64_t frame = monkey_frame(image, image_length, size, k);
+        snprintf(name, sizeof name, "frame-%04u", (unsigned)k);
+        status = prepare_within(directory, name, image + monkey_frame_offset(frame), monkey_frame_length(frame));
     }
     if (status == DONE) {
         status = commit_files();
@@ -324,7 +324,8 @@ int run_frames(const struct arguments *a) {
     if (monkey_number(answer) != 0) {
         return refuse_image(a->operands[1], answer);
     }
-    status = a->output == NULL ? DONE : write_frames(a->output, (size_t)size);
+    size_t count = monkey_whole(answer) + (monkey_rest(answer) != 0);
+    status = a->output == NULL ? DONE : write_frames(a->output, (size_t)size, count);
     if (status != DONE) {
         return status;
     }

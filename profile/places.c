@@ -1,11 +1,10 @@
 /*
- * Where the text of a script has what stands at an offset of its tree.
+ * The tokens of a text, which the library finds, and where among them stands what is at an offset of its tree.
  *
- * Tree and text have the same marks in the same order: a Let and its name, Return, Identifier, If, Function, the names of its parameters, Integer, Boolean and String in
- * the tree; the words let, return, if, fn, true, false, names, integers and strings in the text. A field has the place of the first mark at or behind its offset.
+ * Tree and text have the same marks in the same order: a Let and its name, Return, Identifier, If, Function, the names of its parameters,
+ * Integer, Boolean and String in the tree; the words of the language but else, names, integers and strings in the text. A field has the
+ * place of the first mark at or behind its offset.
  */
-#include <string.h>
-
 #include "profile.h"
 
 /* Whether a field's content is fields. */
@@ -18,69 +17,60 @@ static int is_mark(uint8_t tag) {
     return tag == 0x13 || tag == 0x14 || tag == 0x20 || tag == 0x23 || tag == 0x24 || (tag >= 0x26 && tag <= 0x28) || tag == 0x30;
 }
 
-/* How many marks a tree has before an offset. A function's own name, the field behind its head, has none. */
-static size_t marks_before(const uint8_t *tree, size_t length, size_t offset) {
-    size_t marks = 0;
-    size_t at = 0;
-    int own_name = 0;
-    while (at + 3 <= length && at < offset) {
-        uint8_t tag = tree[at];
-        marks += is_mark(tag) && !own_name;
-        own_name = tag == 0x24;
-        at += 3 + (has_fields(tag) ? 0 : (size_t)tree[at + 1] * 256 + tree[at + 2]);
-    }
-    return marks;
-}
-
-/* Whether a byte is a letter or `_`. */
-int is_letter(uint8_t b) {
-    return (b >= 'a' && b <= 'z') || (b >= 'A' && b <= 'Z') || b == '_';
-}
-
 /* Whether a byte is a digit. */
 int is_digit(uint8_t b) {
     return b >= '0' && b <= '9';
 }
 
-/* The end of the token that begins at an offset. */
-size_t token_end(const uint8_t *text, size_t length, size_t at) {
-    size_t end = at + 1;
-    if (is_letter(text[at])) {
-        while (end < length && is_letter(text[end])) {
-            end++;
+/*
+ * The token that is next from an offset of a text on; where there is none, an empty one at that offset, of the kind that ends a text. An
+ * integer above the limit is one too: the library tells where it stands, and its digits where it ends.
+ */
+struct token next_token(const uint8_t *text, size_t length, size_t at) {
+    uint32_t found[MONKEY_TOKEN_SIZE] = {0, 0, MONKEY_TOKEN_ENDED};
+    struct token t = {at, at, MONKEY_TOKEN_ENDED};
+    uint64_t answer = monkey_next_token(text, length, at, found, MONKEY_TOKEN_SIZE);
+    if (monkey_number(answer) == MONKEY_LARGE_INTEGER) {
+        t.kind = MONKEY_TOKEN_INTEGER;
+        t.at = monkey_value(answer);
+        t.end = t.at + 1;
+        while (t.end < length && is_digit(text[t.end])) {
+            t.end++;
         }
-    } else if (is_digit(text[at])) {
-        while (end < length && is_digit(text[end])) {
-            end++;
-        }
-    } else if (text[at] == '"') {
-        while (end < length && text[end] != '"') {
-            end++;
-        }
-        end++;
+    } else if (found[2] != MONKEY_TOKEN_ENDED) {
+        t.kind = found[2];
+        t.at = found[0];
+        t.end = t.at + found[1];
     }
-    return end;
+    return t;
 }
 
-/* Whether a token is a mark: a word but else, an integer or a string. */
-static int is_marked_token(const uint8_t *text, size_t at, size_t end) {
-    int other = end - at == 4 && memcmp(text + at, "else", 4) == 0;
-    return (is_letter(text[at]) && !other) || is_digit(text[at]) || text[at] == '"';
+/* Goes on to the next token that is a mark: the kinds up to fn. */
+static void next_mark(struct walk *w) {
+    do {
+        w->mark = next_token(w->text, w->text_length, w->mark.end);
+    } while (w->mark.kind > MONKEY_TOKEN_FN && w->mark.kind != MONKEY_TOKEN_ENDED);
 }
 
-/* The offset in a text of what stands at an offset of its tree; the text's length, if there is none. */
-size_t place_in_text(const uint8_t *tree, size_t tree_length, size_t offset, const uint8_t *text, size_t text_length) {
-    size_t left = marks_before(tree, tree_length, offset);
-    size_t at = 0;
-    while (at < text_length) {
-        size_t end = token_end(text, text_length, at);
-        if (is_marked_token(text, at, end)) {
-            if (left == 0) {
-                return at;
-            }
-            left--;
+/* Begins a walk over a tree and the text that it was read from, both at their first mark. */
+struct walk begin_walk(const uint8_t *tree, size_t tree_length, const uint8_t *text, size_t text_length) {
+    struct walk w = {tree, text, tree_length, text_length, 0, 0, {0, 0, MONKEY_TOKEN_ENDED}};
+    next_mark(&w);
+    return w;
+}
+
+/*
+ * Walks on to an offset of the tree, which is not before the last one: the offset in the text of what stands there; the text's length, if
+ * nothing does. A function's own name, the field behind its head, has no mark.
+ */
+size_t place_in_text(struct walk *w, size_t offset) {
+    while (w->at + 3 <= w->tree_length && w->at < offset) {
+        const uint8_t *field = w->tree + w->at;
+        if (is_mark(*field) && !w->own_name) {
+            next_mark(w);
         }
-        at = end;
+        w->own_name = *field == 0x24;
+        w->at += 3 + (has_fields(*field) ? 0 : (size_t)field[1] * 256 + field[2]);
     }
-    return text_length;
+    return w->mark.kind == MONKEY_TOKEN_ENDED ? w->text_length : w->mark.at;
 }

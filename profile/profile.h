@@ -130,12 +130,27 @@ struct nearest {
 struct nearest nearest_to(const char *word);
 void consider(struct nearest *n, const char *candidate);
 
+/* A token of a text: where it begins and ends, and its kind. */
+struct token {
+    size_t at, end;
+    uint32_t kind;
+};
+
+/* A walk over a tree and the tokens of its text: the field that is next, whether it is a function's own name, and the text's next mark. */
+struct walk {
+    const uint8_t *tree, *text;
+    size_t tree_length, text_length;
+    size_t at;
+    int own_name;
+    struct token mark;
+};
+
 /* places.c */
 int has_fields(uint8_t tag);
-int is_letter(uint8_t b);
 int is_digit(uint8_t b);
-size_t token_end(const uint8_t *text, size_t length, size_t at);
-size_t place_in_text(const uint8_t *tree, size_t tree_length, size_t offset, const uint8_t *text, size_t text_length);
+struct token next_token(const uint8_t *text, size_t length, size_t at);
+struct walk begin_walk(const uint8_t *tree, size_t tree_length, const uint8_t *text, size_t text_length);
+size_t place_in_text(struct walk *w, size_t offset);
 
 /* check.c */
 int report_check(const char *path, const uint8_t *image, size_t length, uint64_t stack);

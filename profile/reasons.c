@@ -1,6 +1,7 @@
 /*
- * Why a text is no script, in words. The library has said that it is none, and where: only what stands at that place and just before it is
- * looked at, and which brackets are open there. A reason is a guess about what was meant; that there is an error, and its place, is none.
+ * Why a text is no script, in words. The library has said that it is none, and where: only the tokens at that place and just before it are
+ * looked at, and which brackets are open there; bytes, only where no token is. A reason is a guess about what was meant; that there is an
+ * error, and its place, is none.
  */
 #include <stdio.h>
 #include <string.h>
@@ -34,55 +35,52 @@ static int stands(const struct message *m, size_t at, const char *text) {
     return at <= m->length && length <= m->length - at && memcmp(m->text + at, text, length) == 0;
 }
 
-/* Whether a byte is a blank. */
-static int is_blank(uint8_t b) {
-    return b == ' ' || b == '\t' || b == '\n' || b == '\r';
-}
+/* The token before the place, but for blanks, and the one at it, each empty if there is none. */
+static struct token before, here;
 
-/* The end of what stands before an offset, without the blanks between. */
-static size_t end_before(const struct message *m, size_t at) {
-    while (at > 0 && is_blank(m->text[at - 1])) {
-        at--;
+/* Finds them: behind each token before the place begins another, or the place. */
+static void look_around(const struct message *m) {
+    before = (struct token){0, 0, MONKEY_TOKEN_ENDED};
+    here = next_token(m->text, m->length, 0);
+    while (here.kind != MONKEY_TOKEN_ENDED && here.at < m->place) {
+        before = here;
+        here = next_token(m->text, m->length, before.end);
     }
-    return at;
 }
 
-/* The byte that stands before the place, but for blanks; 0, if there is none. */
-static uint8_t last_before(const struct message *m) {
-    size_t end = end_before(m, m->place);
-    return end == 0 ? 0 : m->text[end - 1];
-}
-
-/* The end of the token at the place: a mark of two bytes as a whole. */
-static size_t end_of_token(const struct message *m) {
-    int two = stands(m, m->place, "==") || stands(m, m->place, "!=");
-    size_t end = two ? m->place + 2 : token_end(m->text, m->length, m->place);
-    return end < m->length ? end : m->length;
-}
-
-/* Writes the token from one offset to another, of a long one the beginning. */
-static const char *token_text(const struct message *m, size_t from, size_t end) {
+/* Writes the token at the place, of a long one the beginning. */
+static const char *token_text(const struct message *m) {
     char kept[TOKEN_SHOWN + 3];
-    size_t length = end - from < TOKEN_SHOWN ? end - from : TOKEN_SHOWN;
-    memcpy(kept, m->text + from, length);
-    strcpy(kept + length, length < end - from ? ".." : "");
+    size_t whole = here.end - here.at, length = whole < TOKEN_SHOWN ? whole : TOKEN_SHOWN;
+    memcpy(kept, m->text + here.at, length);
+    strcpy(kept + length, length < whole ? ".." : "");
     return shown(kept);
 }
 
-/* Whether the word before the place is this one. */
-static int is_behind(const struct message *m, const char *word) {
-    size_t end = end_before(m, m->place), length = strlen(word);
-    return end >= length && stands(m, end - length, word) && (end == length || !is_letter(m->text[end - length - 1]));
+/* Whether a token is a word: one of the language, or a name. */
+static int is_word(uint32_t kind) {
+    return kind <= MONKEY_TOKEN_FN ? kind != MONKEY_TOKEN_INTEGER && kind != MONKEY_TOKEN_STRING : kind == MONKEY_TOKEN_ELSE;
 }
 
-/* Finds the innermost bracket that is open at an offset: whether one is. */
-static int find_bracket(struct message *m, size_t end) {
+/* Whether a token opens a bracket. */
+static int opens(uint32_t kind) {
+    return kind >= MONKEY_TOKEN_OPEN_BRACE && kind <= MONKEY_TOKEN_OPEN_BRACKET;
+}
+
+/* Whether a token closes a bracket. */
+static int closes(uint32_t kind) {
+    return kind >= MONKEY_TOKEN_CLOSE_PAREN && kind <= MONKEY_TOKEN_CLOSE_BRACE;
+}
+
+/* Finds the innermost bracket that is open at the place: whether one is. */
+static int find_bracket(struct message *m) {
     static size_t open[TEXT_LIMIT + 1];
     size_t count = 0;
-    for (size_t at = 0; at < end && at < TEXT_LIMIT; at = token_end(m->text, m->length, at)) {
-        if (strchr("([{", m->text[at]) != NULL && m->text[at] != 0) {
-            open[count++] = at;
-        } else if (strchr(")]}", m->text[at]) != NULL && m->text[at] != 0 && count > 0) {
+    struct token t = next_token(m->text, m->length, 0);
+    for (; t.kind != MONKEY_TOKEN_ENDED && t.at < m->place; t = next_token(m->text, m->length, t.end)) {
+        if (opens(t.kind)) {
+            open[count++] = t.at;
+        } else if (closes(t.kind) && count > 0) {
             count--;
         }
     }
@@ -96,13 +94,40 @@ static int find_bracket(struct message *m, size_t end) {
 
 /* Finds the last string before the place that goes over the end of a line: it may be the one that was not closed. */
 static void note_string(struct message *m) {
-    for (size_t at = 0, end; at < m->place; at = end) {
-        end = token_end(m->text, m->length, at);
-        if (m->text[at] == '"' && memchr(m->text + at, '\n', end - at) != NULL) {
+    struct token t = next_token(m->text, m->length, 0);
+    for (; t.kind != MONKEY_TOKEN_ENDED && t.at < m->place; t = next_token(m->text, m->length, t.end)) {
+        if (t.kind == MONKEY_TOKEN_STRING && memchr(m->text + t.at, '\n', t.end - t.at) != NULL) {
             m->note = "this string goes on in another line";
-            m->noted = at;
+            m->noted = t.at;
         }
     }
+}
+
+/* Whether a byte is a letter or `_`. */
+static int is_letter(uint8_t b) {
+    return (b >= 'a' && b <= 'z') || (b >= 'A' && b <= 'Z') || b == '_';
+}
+
+/* How many letters stand at the place. */
+static size_t letters(const struct message *m) {
+    size_t count = 0;
+    while (is_letter(byte_at(m, m->place + count))) {
+        count++;
+    }
+    return count;
+}
+
+/* Whether no token is at the place because of the length of the text: what stands there ends too far behind. A string there is closed. */
+static int is_past_limit(const struct message *m) {
+    uint32_t found[MONKEY_TOKEN_SIZE];
+    if (m->length <= TEXT_LIMIT || (here.kind != MONKEY_TOKEN_ENDED && here.end <= TEXT_LIMIT)) {
+        return 0;
+    }
+    if (m->place >= TEXT_LIMIT || m->text[m->place] == '"' || m->place + letters(m) > TEXT_LIMIT) {
+        return 1;
+    }
+    uint64_t alone = monkey_next_token(m->text + m->place, m->length - m->place, 0, found, MONKEY_TOKEN_SIZE);
+    return monkey_number(alone) != MONKEY_BAD_SCRIPT;
 }
 
 /* A string without its end, or a text that is too long. */
@@ -111,11 +136,8 @@ static int is_long(struct message *m) {
         note_string(m);
         return SAY(m, "a string without its closing quote");
     }
-    size_t end = m->place < m->length ? token_end(m->text, m->length, m->place) : m->place;
-    if (m->length <= TEXT_LIMIT || (m->place < TEXT_LIMIT && end <= TEXT_LIMIT)) {
-        return 0;
-    }
-    return SAY(m, "a script has at most %d bytes, and this has %s%zu", TEXT_LIMIT, m->length >= TEXT_ROOM ? "at least " : "", m->length);
+    const char *least = m->length >= TEXT_ROOM ? "at least " : "";
+    return is_past_limit(m) && SAY(m, "a script has at most %d bytes, and this has %s%zu", TEXT_LIMIT, least, m->length);
 }
 
 /* The text ends. The place is then moved to the end of what was last. */
@@ -123,8 +145,8 @@ static int is_early(struct message *m) {
     if (m->place < m->length) {
         return 0;
     }
-    m->place = end_before(m, m->length);
-    if (!find_bracket(m, m->length)) {
+    m->place = before.end;
+    if (!find_bracket(m)) {
         return SAY(m, "the script ends where more was wanted");
     }
     unsigned line, column;
@@ -159,19 +181,17 @@ static int is_foreign(struct message *m) {
 /* A comment. */
 static int is_comment(struct message *m) {
     size_t at = m->place;
-    uint8_t before = at == 0 ? 0 : m->text[at - 1], b = byte_at(m, at), next = byte_at(m, at + 1);
-    int slashes = b == '/' && (before == '/' || next == '/' || next == '*');
-    return b == '#' || slashes || (b == '*' && before == '/') ? SAY(m, "comments are not part of the language") : 0;
+    int behind_slash = before.kind == MONKEY_TOKEN_SLASH && before.end == at;
+    int slashes = stands(m, at, "//") || stands(m, at, "/*") || (behind_slash && (stands(m, at, "/") || stands(m, at, "*")));
+    return slashes || stands(m, at, "#") ? SAY(m, "comments are not part of the language") : 0;
 }
 
 /* A name that is too long, or has a digit. */
 static int is_no_name(struct message *m) {
-    size_t end = end_of_token(m);
-    uint8_t b = byte_at(m, m->place);
-    if (is_letter(b) && end - m->place > NAME_LIMIT) {
-        return SAY(m, "names have at most %d letters, and this has %zu", NAME_LIMIT, end - m->place);
+    if (letters(m) > NAME_LIMIT) {
+        return SAY(m, "names have at most %d letters, and this has %zu", NAME_LIMIT, letters(m));
     }
-    if (is_digit(b) && m->place > 0 && is_letter(m->text[m->place - 1])) {
+    if (is_digit(byte_at(m, m->place)) && is_word(before.kind) && before.end == m->place) {
         return SAY(m, "a digit behind a name: names have letters and _ alone");
     }
     return 0;
@@ -180,7 +200,7 @@ static int is_no_name(struct message *m) {
 /* A fraction, a quote of another kind, an operator that the language lacks. */
 static int is_lacked(struct message *m) {
     uint8_t b = byte_at(m, m->place);
-    if (b == '.' && is_digit(byte_at(m, m->place + 1)) && (m->place == 0 || !is_letter(m->text[m->place - 1]))) {
+    if (b == '.' && is_digit(byte_at(m, m->place + 1)) && !(is_word(before.kind) && before.end == m->place)) {
         return SAY(m, "numbers are integers: there are no fractions");
     }
     if (b == '\'' || b == '`') {
@@ -199,39 +219,40 @@ static int is_lacked(struct message *m) {
 
 /* What cannot stand behind what is before it: a word of the language, a comma, the beginning of a statement. */
 static int is_misplaced(struct message *m) {
-    const char *token = token_text(m, m->place, end_of_token(m));
-    uint8_t b = byte_at(m, m->place), before = last_before(m);
-    if (is_behind(m, "let")) {
+    const char *token = token_text(m);
+    switch (before.kind) {
+    case MONKEY_TOKEN_LET:
         return SAY(m, "unexpected '%s': behind let stands a name", token);
-    }
-    if (is_behind(m, "fn") && is_letter(b)) {
-        return SAY(m, "unexpected '%s': a function has no name of its own: let %s = fn(..) { .. }", token, token);
-    }
-    if (is_behind(m, "if") || is_behind(m, "fn")) {
+    case MONKEY_TOKEN_FN:
+        if (is_word(here.kind)) {
+            return SAY(m, "unexpected '%s': a function has no name of its own: let %s = fn(..) { .. }", token, token);
+        }
         return SAY(m, "unexpected '%s': behind if and fn stands (", token);
-    }
-    if (is_behind(m, "else")) {
+    case MONKEY_TOKEN_IF:
+        return SAY(m, "unexpected '%s': behind if and fn stands (", token);
+    case MONKEY_TOKEN_ELSE:
         return SAY(m, "unexpected '%s': behind else stands a block, { .. }", token);
+    case MONKEY_TOKEN_COMMA:
+        return closes(here.kind) && SAY(m, "unexpected '%s' behind a comma: nothing stands behind the last comma", token);
+    case MONKEY_TOKEN_ENDED:
+    case MONKEY_TOKEN_SEMICOLON:
+    case MONKEY_TOKEN_OPEN_BRACE:
+        return here.kind == MONKEY_TOKEN_SEMICOLON && SAY(m, "unexpected ';': there is no statement before it");
+    default:
+        break;
     }
-    if (before == ',' && (b == ']' || b == '}' || b == ')')) {
-        return SAY(m, "unexpected '%s' behind a comma: nothing stands behind the last comma", token);
-    }
-    if (b == ';' && (before == 0 || before == ';' || before == '{')) {
-        return SAY(m, "unexpected ';': there is no statement before it");
-    }
-    if (b == '=' && byte_at(m, m->place + 1) != '=' && (is_letter(before) || before == ')' || before == ']')) {
-        return SAY(m, "unexpected '=': a definition is let NAME = .., a comparison ==; nothing else is assigned");
-    }
-    return 0;
+    int named = is_word(before.kind) || before.kind == MONKEY_TOKEN_CLOSE_PAREN || before.kind == MONKEY_TOKEN_CLOSE_BRACKET;
+    return here.kind == MONKEY_TOKEN_ASSIGN && named &&
+           SAY(m, "unexpected '=': a definition is let NAME = .., a comparison ==; nothing else is assigned");
 }
 
 /* A bracket that closes another one than is open. */
 static int is_crossed(struct message *m) {
     uint8_t b = byte_at(m, m->place);
-    if (b != ')' && b != ']' && b != '}') {
+    if (!closes(here.kind)) {
         return 0;
     }
-    if (!find_bracket(m, m->place)) {
+    if (!find_bracket(m)) {
         return SAY(m, "unexpected '%c': no bracket is open", b);
     }
     uint8_t open = m->text[m->noted], pair = open == '(' ? ')' : open == '[' ? ']' : '}';
@@ -241,20 +262,15 @@ static int is_crossed(struct message *m) {
 
 /* Anything else. */
 static void name_token(struct message *m) {
-    static const char *const words[] = {"let", "return", "true", "false", "if", "else", "fn"};
-    const char *token = token_text(m, m->place, end_of_token(m));
-    uint8_t b = byte_at(m, m->place);
-    const char *kind = b == '"' ? "string " : is_digit(b) ? "integer " : is_letter(b) ? "name " : "";
-    for (size_t k = 0; k < sizeof words / sizeof words[0]; k++) {
-        kind = strcmp(words[k], token) == 0 ? "word " : kind;
-    }
-    const char *quote = b == '"' ? "" : "'";
-    snprintf(m->reason, sizeof m->reason, "unexpected %s%s%s%s", kind, quote, token, quote);
+    const char *kind = here.kind == MONKEY_TOKEN_STRING ? "string " : here.kind == MONKEY_TOKEN_INTEGER ? "integer " :
+                       here.kind == MONKEY_TOKEN_NAME ? "name " : is_word(here.kind) ? "word " : "";
+    const char *quote = here.kind == MONKEY_TOKEN_STRING ? "" : "'";
+    snprintf(m->reason, sizeof m->reason, "unexpected %s%s%s%s", kind, quote, token_text(m), quote);
 }
 
 /* The reason of a large integer. */
 static void explain_integer(struct message *m) {
-    const char *lowest = last_before(m) == '-' && stands(m, m->place, "9223372036854775808") && !is_digit(byte_at(m, m->place + 19))
+    const char *lowest = before.kind == MONKEY_TOKEN_MINUS && stands(m, m->place, "9223372036854775808") && !is_digit(byte_at(m, m->place + 19))
                              ? "; -9223372036854775808 has no text form: write -9223372036854775807 - 1" : "";
     snprintf(m->reason, sizeof m->reason, "integers are at most 9223372036854775807%s", lowest);
 }
@@ -265,11 +281,12 @@ static void find_statement(struct message *m, unsigned number) {
     static size_t ends[TEXT_LIMIT + 2];
     size_t count = 1, depth = 0;
     ends[0] = 0;
-    for (size_t at = 0; at < m->length; at = token_end(m->text, m->length, at)) {
-        depth += m->text[at] == '(' || m->text[at] == '[' || m->text[at] == '{';
-        depth -= m->text[at] == ')' || m->text[at] == ']' || m->text[at] == '}';
-        if (m->text[at] == ';' && depth == 0) {
-            ends[count++] = at + 1;
+    struct token t = next_token(m->text, m->length, 0);
+    for (; t.kind != MONKEY_TOKEN_ENDED; t = next_token(m->text, m->length, t.end)) {
+        depth += (size_t)opens(t.kind);
+        depth -= (size_t)closes(t.kind);
+        if (t.kind == MONKEY_TOKEN_SEMICOLON && depth == 0) {
+            ends[count++] = t.end;
         }
     }
     size_t low = 0, high = count; /* what ends at low is taken; what ends at high is not, or is the whole */
@@ -279,10 +296,7 @@ static void find_statement(struct message *m, unsigned number) {
         low = refused ? low : middle;
         high = refused ? middle : high;
     }
-    m->place = ends[low];
-    while (is_blank(byte_at(m, m->place))) {
-        m->place++;
-    }
+    m->place = next_token(m->text, m->length, ends[low]).at;
 }
 
 /* Says why a text is no script: by the first of these that has something to say. */
@@ -300,6 +314,7 @@ static void explain_script(struct message *m) {
 void find_reason(struct message *m, uint64_t answer) {
     m->place = monkey_value(answer);
     m->note = NULL;
+    look_around(m);
     switch (monkey_number(answer)) {
     case MONKEY_BAD_SCRIPT:
         explain_script(m);

@@ -84,14 +84,16 @@ void explain_undefined(char *reason, size_t room, const uint8_t *session, const 
 
 /* Finds the reason of a text whose tree is refused, and the place. */
 void find_tree_reason(struct message *m, uint64_t answer, const uint8_t *session, const uint8_t *tree, size_t tree_length) {
-    m->place = place_in_text(tree, tree_length, monkey_value(answer), m->text, m->length);
+    struct walk w = begin_walk(tree, tree_length, m->text, m->length);
+    m->place = place_in_text(&w, monkey_value(answer));
     if (monkey_number(answer) != MONKEY_UNDEFINED) {
         snprintf(m->reason, sizeof m->reason, "%s", word_of(monkey_number(answer)));
         return;
     }
     explain_undefined(m->reason, sizeof m->reason, session, tree, monkey_value(answer));
-    size_t end = token_end(m->text, m->length, m->place), said = strlen(m->reason);
-    if (end < m->length && is_digit(m->text[end])) {
+    struct token behind = next_token(m->text, m->length, w.mark.end);
+    if (behind.kind == MONKEY_TOKEN_INTEGER && behind.at == w.mark.end) {
+        size_t said = strlen(m->reason);
         snprintf(m->reason + said, sizeof m->reason - said, ": names have no digits, so one that follows is an integer of its own");
     }
 }
