@@ -191,7 +191,7 @@ static int is_no_name(struct message *m) {
     if (letters(m) > NAME_LIMIT) {
         return SAY(m, "names have at most %d letters, and this has %zu", NAME_LIMIT, letters(m));
     }
-    if (is_digit(byte_at(m, m->place)) && is_word(before.kind) && before.end == m->place) {
+    if (here.kind == MONKEY_TOKEN_INTEGER && is_word(before.kind) && before.end == m->place) {
         return SAY(m, "a digit behind a name: names have letters and _ alone");
     }
     return 0;
