@@ -1,0 +1,7 @@
+mod Scan
+mod ReadScan
+mod Turns
+mod Writes
+mod Blanks
+pub mod Alike
+pub mod Outputs
