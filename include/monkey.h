@@ -270,6 +270,14 @@ static inline uint32_t monkey_run_steps(uint64_t answer) { return (uint32_t)answ
  */
 uint64_t monkey_read_text(const uint8_t *text, size_t text_length, uint8_t *output, size_t output_length);
 
+/*
+ * Writes the shape of a tree: its bytes, with 0 for the content of each integer, boolean and string. The answer is its length, which is the tree's own, and the shape
+ * stands at the front of the output, whose other bytes stay as they were. Two trees that are not refused here are alike exactly when their shapes are equal: then
+ * compile calls on them at the same point of equal sessions, with buffers equally long, give images of one length, or the same refusal. Tree and output do not overlap.
+ *   Refused, and the output is as it was: 3 or 4 and the place in the tree; then 15 at 0, where the output is shorter than the tree.
+ */
+uint64_t monkey_write_shape(const uint8_t *tree, size_t tree_length, uint8_t *output, size_t output_length);
+
 /* The kinds of tokens. */
 enum monkey_token {
     MONKEY_TOKEN_LET = 0,            /* the seven words: let return true false if fn else */

@@ -1,5 +1,5 @@
 -- Every answer fits its two halves, and its number has them.
-use Prim.Native.Nat.{ℕ, ◌+◌, ◌*◌, ◌<◌}
+use Prim.Native.Nat.{ℕ, ◌+◌, ◌*◌, ◌/◌, ◌%◌, ◌<◌}
 use native.Mathlib.Omega.{arith}
 use mathlib.Core.Bool.{Bool, true, false}
 use mathlib.Core.Path.{◌≡◌, refl, sym, ap, subst, ◌∙◌}
@@ -34,6 +34,9 @@ use Rattle.chin.proofs.Fits.{chin_numbers, translate_within}
 use Rattle.heights.specs.Pass.{heights_answer}
 use Rattle.heights.specs.Proposal.{proposal_answer}
 use Rattle.heights.proofs.Bounds.{heights_numbers, heights_within, proposal_within}
+use Rattle.definition.specs.Tree.{read_tree}
+use Rattle.shape.specs.Promise.{answer_of as shapeAnswer}
+use Rattle.shape.proofs.Within.{shape_numbers, shape_within}
 use Rattle.capi.specs.Packed.{half_bound, packed, of_halves, unpacked, Fits, Packs, Told}
 use Rattle.definition.specs.declared.reason.Reason.{Reason}
 use Rattle.definition.specs.declared.reason.Reason.TheVariants.{ShortBuffer, NoSession, BadTree, TooDeep, Undefined, Operator, Macro, TooMany, Locals, Captures, Globals, Pool, Code, Nesting, OutputShort, BadInstruction, BadImage, FewRecords, BadWords, BadScript, LargeInteger, NoValue, BadSize, NoFrame, BadHeights, BadJump, NotRunnable, Operand, Unset}
@@ -83,6 +86,9 @@ load_fits seed room = go (leb (length (tree_of seed)) room)
     go : (b : Bool) → Fits (pick b (Ok (length (tree_of seed))) (Err (refusal output_short 0)))
     go true = record { number = omega arith; value = omega (arith, tree_short seed) }
     go false = record { number = omega arith; value = omega arith }
+
+pub shape-fits : (tree : Bytes) (room : ℕ) → Fits (shapeAnswer (read_tree tree) tree room)
+shape-fits tree room = within_fits shape_numbers tt (omega arith) (omega arith) (shape_within tree room)
 
 pub turn-fits : (f : Form) (b : Bytes) → AreBytes b → (room : ℕ) → Fits (answer_of (translate f (other_form f) (jump_of f) b) room)
 turn-fits f b a room = within_fits chin_numbers tt (omega arith) (omega arith) (translate_within f b a room)
@@ -142,6 +148,10 @@ call-told tree l a = told (call tree l).answer
 -- the answer from its number
 pub packs_back : {a : Answer} {r : ℕ} → Told a → Packs a r → unpacked r ≡ a
 packs_back t p = (λ i. of_halves (p.number i) (p.value i)) ∙ t.back
+
+-- where the high half is 0 it is a length: the low half
+pub packs_wrote : {a : Answer} {r : ℕ} → Packs a r → r / half_bound ≡ 0 → a ≡ Ok (r % half_bound)
+packs_wrote {a} {r} p z = sym (packs_back (told a) p) ∙ (λ i. of_halves (z i) (r % half_bound))
 
 -- the answer to a text
 pub read_fits : (lent : ℕ) (text : Bytes) → Fits (readAnswer (read_text lent text))

@@ -5,3 +5,4 @@ pub mod Framed
 pub mod Conditions
 pub mod Trial
 pub mod Named
+pub mod Shaped

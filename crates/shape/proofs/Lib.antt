@@ -1,5 +1,6 @@
 mod Scan
 mod ReadScan
+pub mod Within
 mod Turns
 mod Writes
 mod Blanks

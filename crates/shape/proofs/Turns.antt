@@ -11,8 +11,6 @@ use Rattle.definition.specs.Basic.{Bytes, byte_at, pick, both}
 use Rattle.definition.specs.Limit.{tree_limit}
 use Rattle.definition.specs.Field.{bytes}
 use Rattle.definition.specs.Shape.{blanked, shape}
-use Rattle.definition.specs.Syntax.{Stmts}
-use Rattle.definition.specs.Tree.{read_program, read_tree, Parsed}
 use Rattle.definition.proofs.Basic.{pick_true, pick_false}
 use Rattle.definition.proofs.ReadShape.{length-shape}
 use Rattle.shape.specs.Fields.{is_literal, own_end, own_literal}
@@ -22,6 +20,7 @@ use Rattle.shape.specs.declared.heads.Heads.{Heads}
 use Rattle.field.specs.Layout.{after, Whole}
 use Rattle.shape.proofs.Scan.{Scan, own-end, scan-on, literal_leaf}
 use Rattle.shape.proofs.ReadScan.{lits, scan_tree}
+use Rattle.shape.proofs.Within.{read_small}
 
 -- zeros from an offset on: before them, among them, behind them
 zeros_before : (k : ℕ) (l : Bytes) (from i : ℕ) → i < from → byte_at (sets l from (replicate k 0)) i ≡ byte_at l i
@@ -39,15 +38,6 @@ zeros_among (suc k) l from i h g r = go (eqb i from) refl (λ p. zeros_among k (
 zeros_behind : (k : ℕ) (l : Bytes) (from i : ℕ) → from + k ≤ i → byte_at (sets l from (replicate k 0)) i ≡ byte_at l i
 zeros_behind zero l from i h = refl
 zeros_behind (suc k) l from i h = zeros_behind k (set l from 0) (suc from) i (omega arith) ∙ get_or-set_other l from i 0 0 (λ e. omega arith)
-
--- a tree that is read is not too long
-pub read_small : (tree : Bytes) {b : Stmts} {n : ℕ} → read_tree tree ≡ Parsed.parsed b n → length tree ≤ tree_limit
-unfolding read_tree read_program
-read_small tree {b} {n = m} h = go (leb (length tree) tree_limit) refl
-  where
-    go : (c : Bool) → leb (length tree) tree_limit ≡ c → length tree ≤ tree_limit
-    go true e = leb-true _ _ e
-    go false e = let z : ◌≡◌ {A = ℕ} 0 1 = cc in absurd (omega arith)
 
 -- at an offset, with the copy so far: the fields behind it are left, and the literals before it are zero
 pub record Turn (tree : Bytes) (at : ℕ) (out : Bytes) : Type 0 where
