@@ -8,6 +8,7 @@ use mathlib.Core.Logic.{◌↔◌}
 use lib.ListN.{length, take, drop, replicate, take-append-drop}
 use lib.Seq.{take_at, drop_at, length-take-le}
 use Rattle.definition.specs.Basic.{Bytes}
+use Rattle.definition.proofs.Basic.{contrary}
 use Rattle.definition.specs.Shape.{shape}
 use Rattle.definition.specs.Syntax.{Stmts}
 use Rattle.definition.specs.Tree.{read_tree, Parsed}
@@ -18,11 +19,8 @@ use Rattle.shape.proofs.Scan.{literal_leaf}
 use Rattle.shape.proofs.Blanks.{Blanks, blanks-shape}
 
 -- a test that holds and does not
-never : {b : Bool} → b ≡ true → b ≡ false → ⊥
-never {b} p q = let z : true ≡ false = sym p ∙ q in go z
-  where
-    go : true ≡ false → ⊥
-    go e = let z : ◌≡◌ {A = ℕ} 0 1 = cc in omega arith
+pub clash : {A : Type 0} {b : Bool} → b ≡ true → b ≡ false → A
+clash p q = contrary (sym q ∙ p)
 
 -- two parts of equal lists, the first equally long
 cut_first : (a b c d : Bytes) → length a ≡ length b → a ++ c ≡ b ++ d → a ≡ b
@@ -39,26 +37,26 @@ split n x b h = (take_at x b n h, drop_at x b n h)
 blanks-alike : {a b s r : Bytes} → AlikeFields a b → Blanks a s → Blanks b r → s ≡ r
 blanks-alike AlikeFields.ended Blanks.ended Blanks.ended = refl
 blanks-alike (AlikeFields.inside t h l e f) (Blanks.inside _ _ _ _ p) (Blanks.inside _ _ _ _ q) = ap (λ z. t ∷ h ∷ l ∷ z) (blanks-alike f p q)
-blanks-alike (AlikeFields.inside t h l e f) (Blanks.kept _ _ _ k _ _ _) q = absurd (never k e)
-blanks-alike (AlikeFields.inside t h l e f) (Blanks.literal _ _ _ k _ _ _) q = absurd (never k e)
-blanks-alike (AlikeFields.inside t h l e f) (Blanks.inside _ _ _ _ _) (Blanks.kept _ _ _ k _ _ _) = absurd (never k e)
-blanks-alike (AlikeFields.inside t h l e f) (Blanks.inside _ _ _ _ _) (Blanks.literal _ _ _ k _ _ _) = absurd (never k e)
+blanks-alike (AlikeFields.inside t h l e f) (Blanks.kept _ _ _ k _ _ _) q = clash k e
+blanks-alike (AlikeFields.inside t h l e f) (Blanks.literal _ _ _ k _ _ _) q = clash k e
+blanks-alike (AlikeFields.inside t h l e f) (Blanks.inside _ _ _ _ _) (Blanks.kept _ _ _ k _ _ _) = clash k e
+blanks-alike (AlikeFields.inside t h l e f) (Blanks.inside _ _ _ _ _) (Blanks.literal _ _ _ k _ _ _) = clash k e
 blanks-alike (AlikeFields.kept {b} {c} t h l x e k n f) (Blanks.kept {s = s} _ _ _ _ _ _ p) (Blanks.kept {s = r} _ _ _ _ _ _ q) =
     let u = split (h * 256 + l) x b n in
     let w = split (h * 256 + l) x c n in
     let z = blanks-alike f (subst (λ y. Blanks y s) u.1 p) (subst (λ y. Blanks y r) w.1 q) in
     λ i. t ∷ h ∷ l ∷ ((u.0 ∙ sym w.0) i ++ z i)
-blanks-alike (AlikeFields.kept t h l x e k n f) (Blanks.inside _ _ _ m _) q = absurd (never e m)
-blanks-alike (AlikeFields.kept t h l x e k n f) (Blanks.literal _ _ _ _ m _ _) q = absurd (never m k)
-blanks-alike (AlikeFields.kept t h l x e k n f) (Blanks.kept _ _ _ _ _ _ _) (Blanks.inside _ _ _ m _) = absurd (never e m)
-blanks-alike (AlikeFields.kept t h l x e k n f) (Blanks.kept _ _ _ _ _ _ _) (Blanks.literal _ _ _ _ m _ _) = absurd (never m k)
+blanks-alike (AlikeFields.kept t h l x e k n f) (Blanks.inside _ _ _ m _) q = clash e m
+blanks-alike (AlikeFields.kept t h l x e k n f) (Blanks.literal _ _ _ _ m _ _) q = clash m k
+blanks-alike (AlikeFields.kept t h l x e k n f) (Blanks.kept _ _ _ _ _ _ _) (Blanks.inside _ _ _ m _) = clash e m
+blanks-alike (AlikeFields.kept t h l x e k n f) (Blanks.kept _ _ _ _ _ _ _) (Blanks.literal _ _ _ _ m _ _) = clash m k
 blanks-alike (AlikeFields.literal {b} {c} t h l x y k n m f) (Blanks.literal {s = s} _ _ _ _ _ _ p) (Blanks.literal {s = r} _ _ _ _ _ _ q) =
     ap (λ z. t ∷ h ∷ l ∷ (replicate (h * 256 + l) 0 ++ z))
     (blanks-alike f (subst (λ y. Blanks y s) (split (h * 256 + l) x b n).1 p) (subst (λ y. Blanks y r) (split (h * 256 + l) y c m).1 q))
-blanks-alike (AlikeFields.literal t h l x y k n m f) (Blanks.inside _ _ _ e _) q = absurd (never (literal_leaf t k) e)
-blanks-alike (AlikeFields.literal t h l x y k n m f) (Blanks.kept _ _ _ _ e _ _) q = absurd (never k e)
-blanks-alike (AlikeFields.literal t h l x y k n m f) (Blanks.literal _ _ _ _ _ _ _) (Blanks.inside _ _ _ e _) = absurd (never (literal_leaf t k) e)
-blanks-alike (AlikeFields.literal t h l x y k n m f) (Blanks.literal _ _ _ _ _ _ _) (Blanks.kept _ _ _ _ e _ _) = absurd (never k e)
+blanks-alike (AlikeFields.literal t h l x y k n m f) (Blanks.inside _ _ _ e _) q = clash (literal_leaf t k) e
+blanks-alike (AlikeFields.literal t h l x y k n m f) (Blanks.kept _ _ _ _ e _ _) q = clash k e
+blanks-alike (AlikeFields.literal t h l x y k n m f) (Blanks.literal _ _ _ _ _ _ _) (Blanks.inside _ _ _ e _) = clash (literal_leaf t k) e
+blanks-alike (AlikeFields.literal t h l x y k n m f) (Blanks.literal _ _ _ _ _ _ _) (Blanks.kept _ _ _ _ e _ _) = clash k e
 
 -- a name or an operator that both have
 kept_both : (t h l : ℕ) (b c : Bytes) → is_leaf t ≡ true → is_literal t ≡ false → h * 256 + l ≤ length b → take (h * 256 + l) b ≡ take (h * 256 + l) c → AlikeFields (drop (h * 256 + l) b) (drop (h * 256 + l) c)
@@ -102,12 +100,12 @@ alike-blanks (Blanks.inside _ _ _ _ _) Blanks.ended e = differ (sym e)
 alike-blanks (Blanks.kept _ _ _ _ _ _ _) Blanks.ended e = differ (sym e)
 alike-blanks (Blanks.literal _ _ _ _ _ _ _) Blanks.ended e = differ (sym e)
 alike-blanks (Blanks.inside t h l k p) (Blanks.inside _ _ _ _ q) e = let w = same_head e in with_head w (AlikeFields.inside t h l k (alike-blanks p q w.rest))
-alike-blanks (Blanks.inside t h l k p) (Blanks.kept _ _ _ j _ _ _) e = absurd (never (sym (ap is_leaf (same_head e).tag) ∙ j) k)
-alike-blanks (Blanks.inside t h l k p) (Blanks.literal _ _ _ j _ _ _) e = absurd (never (sym (ap is_leaf (same_head e).tag) ∙ j) k)
-alike-blanks (Blanks.kept t h l k _ _ _) (Blanks.inside _ _ _ j _) e = absurd (never k (sym (ap is_leaf (same_head e).tag) ∙ j))
-alike-blanks (Blanks.literal t h l k _ _ _) (Blanks.inside _ _ _ j _) e = absurd (never k (sym (ap is_leaf (same_head e).tag) ∙ j))
-alike-blanks (Blanks.kept t h l _ k _ _) (Blanks.literal _ _ _ _ j _ _) e = absurd (never (sym (ap is_literal (same_head e).tag) ∙ j) k)
-alike-blanks (Blanks.literal t h l _ k _ _) (Blanks.kept _ _ _ _ j _ _) e = absurd (never k (sym (ap is_literal (same_head e).tag) ∙ j))
+alike-blanks (Blanks.inside t h l k p) (Blanks.kept _ _ _ j _ _ _) e = clash (sym (ap is_leaf (same_head e).tag) ∙ j) k
+alike-blanks (Blanks.inside t h l k p) (Blanks.literal _ _ _ j _ _ _) e = clash (sym (ap is_leaf (same_head e).tag) ∙ j) k
+alike-blanks (Blanks.kept t h l k _ _ _) (Blanks.inside _ _ _ j _) e = clash k (sym (ap is_leaf (same_head e).tag) ∙ j)
+alike-blanks (Blanks.literal t h l k _ _ _) (Blanks.inside _ _ _ j _) e = clash k (sym (ap is_leaf (same_head e).tag) ∙ j)
+alike-blanks (Blanks.kept t h l _ k _ _) (Blanks.literal _ _ _ _ j _ _) e = clash (sym (ap is_literal (same_head e).tag) ∙ j) k
+alike-blanks (Blanks.literal t h l _ k _ _) (Blanks.kept _ _ _ _ j _ _) e = clash k (sym (ap is_literal (same_head e).tag) ∙ j)
 alike-blanks (Blanks.kept {b} {s} t h l k j n p) (Blanks.kept {b = c} {s = r} _ h' l' _ _ m q) e =
     let w = same_head e in
     let same : h' * 256 + l' ≡ h * 256 + l = λ i. w.high i * 256 + w.low i in
