@@ -3,15 +3,15 @@
 
 ghost use Rattle.std.specs.Prelude.{◌≡◌, ◌<◌, length};
 ghost use Rattle.compiler.specs.Stage.{lent_of};
-ghost use Rattle.capi.specs.Packed.{Fits, Packs, MakesPacked, WordsPacked, CompilesPacked, ListsPacked, LoadsPacked, ReadsPacked};
+ghost use Rattle.exported.specs.Packed.{Fits, Packs, MakesPacked, WordsPacked, CompilesPacked, ListsPacked, LoadsPacked, ReadsPacked};
 ghost use Rattle.chin.specs.Chin.{to_chin, from_chin};
-ghost use Rattle.capi.specs.Named.{NamesPacked};
-ghost use Rattle.capi.specs.Turned.{TurnsPacked};
-ghost use Rattle.capi.specs.Shaped.{ShapesPacked};
-ghost use Rattle.capi.specs.Heights.{ChecksPacked, ProposesPacked};
-ghost use Rattle.capi.specs.Framed.{pair_answer, refusal_answer, CountsPacked, PlacesPacked, RefusesPacked};
-ghost use Rattle.capi.specs.Trial.{RunsPacked};
-ghost use Rattle.capi.specs.Token.{numbers_answer, numbers_into, TokenPacked};
+ghost use Rattle.exported.specs.Named.{NamesPacked};
+ghost use Rattle.exported.specs.Turned.{TurnsPacked};
+ghost use Rattle.exported.specs.Shaped.{ShapesPacked};
+ghost use Rattle.exported.specs.Heights.{ChecksPacked, ProposesPacked};
+ghost use Rattle.exported.specs.Framed.{pair_answer, refusal_answer, CountsPacked, PlacesPacked, RefusesPacked};
+ghost use Rattle.exported.specs.Trial.{RunsPacked};
+ghost use Rattle.exported.specs.Token.{numbers_answer, numbers_into, TokenPacked};
 ghost use Rattle.text.specs.Next.{three_of};
 
 use definition::{Reason, Refusal, refused};

@@ -1,6 +1,6 @@
 -- `capi::monkey_check_heights` meets its contract: the answer of `check_heights`, as one number.
 use Rattle.definition.proofs.Slices.{are_bytes}
-use Rattle.capi.proofs.Fits.{fits_as, packs_as, heights_fits}
+use Rattle.exported.proofs.Fits.{fits_as, packs_as, heights_fits}
 use Rattle.capi.proofs.monkey_check_heights.Goals as goal
 
 pub pack-requires : goal.pack-requires

@@ -1,9 +1,9 @@
 -- `capi::monkey_count_frames` meets its contract: whole frames and rest, as one number.
 use borrow.Author.Rules.{rules}
 use Rattle.definition.proofs.Slices.{are_bytes}
-use Rattle.capi.proofs.Fits.{fits_as}
-use Rattle.capi.proofs.Framed.{counts, packs_counts}
-use Rattle.capi.proofs.Mapped.{said_fits, said_packs}
+use Rattle.exported.proofs.Fits.{fits_as}
+use Rattle.exported.proofs.Framed.{counts, packs_counts}
+use Rattle.exported.proofs.Mapped.{said_fits, said_packs}
 use Rattle.capi.proofs.monkey_count_frames.Goals as goal
 
 pub pair-answer-requires : goal.pair-answer-requires

@@ -1,9 +1,9 @@
 -- `capi::monkey_frame` meets its contract: a frame's offset and length, as one number.
 use borrow.Author.Rules.{rules}
 use Rattle.definition.proofs.Slices.{are_bytes}
-use Rattle.capi.proofs.Fits.{fits_as}
-use Rattle.capi.proofs.Framed.{places, packs_places}
-use Rattle.capi.proofs.Mapped.{said_fits, said_packs}
+use Rattle.exported.proofs.Fits.{fits_as}
+use Rattle.exported.proofs.Framed.{places, packs_places}
+use Rattle.exported.proofs.Mapped.{said_fits, said_packs}
 use Rattle.capi.proofs.monkey_frame.Goals as goal
 
 pub pair-answer-requires : goal.pair-answer-requires

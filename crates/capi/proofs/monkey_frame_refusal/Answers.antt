@@ -1,9 +1,9 @@
 -- `capi::monkey_frame_refusal` meets its contract: a frame's refusal, as one number.
 use mathlib.Core.Path.{ap, ◌∙◌}
 use Rattle.definition.proofs.Slices.{are_bytes}
-use Rattle.capi.specs.Framed.{refusal_answer}
-use Rattle.capi.proofs.Fits.{fits_as, packs_as}
-use Rattle.capi.proofs.Framed.{refusal-fits}
+use Rattle.exported.specs.Framed.{refusal_answer}
+use Rattle.exported.proofs.Fits.{fits_as, packs_as}
+use Rattle.exported.proofs.Framed.{refusal-fits}
 use Rattle.capi.proofs.monkey_frame_refusal.Goals as goal
 
 pub pack-requires : goal.pack-requires

@@ -1,9 +1,9 @@
 -- `capi::monkey_run` meets its contract: the answer of the run, as one number.
 use borrow.Author.Rules.{rules}
 use Rattle.definition.proofs.Slices.{are_bytes}
-use Rattle.capi.proofs.Fits.{fits_as}
-use Rattle.capi.proofs.Mapped.{said_fits, said_packs}
-use Rattle.capi.proofs.Trial.{runs, packs_run}
+use Rattle.exported.proofs.Fits.{fits_as}
+use Rattle.exported.proofs.Mapped.{said_fits, said_packs}
+use Rattle.exported.proofs.Trial.{runs, packs_run}
 use Rattle.capi.proofs.monkey_run.Goals as goal
 
 pub pair-answer-requires : goal.pair-answer-requires

@@ -1,7 +1,7 @@
 -- `capi::monkey_to_chin` meets its contract: the answer of `to_chin`, as one number.
 use Rattle.definition.proofs.Slices.{are_bytes}
 use Rattle.bytecode.specs.declared.Form.TheVariants.{Plain}
-use Rattle.capi.proofs.Fits.{fits_as, packs_as, turn-fits}
+use Rattle.exported.proofs.Fits.{fits_as, packs_as, turn-fits}
 use Rattle.capi.proofs.monkey_to_chin.Goals as goal
 
 pub pack-requires : goal.pack-requires

@@ -1,5 +1,5 @@
 -- `capi::monkey_write_shape` meets its contract: the answer of `write_shape`, as one number.
-use Rattle.capi.proofs.Fits.{fits_as, packs_as, shape-fits}
+use Rattle.exported.proofs.Fits.{fits_as, packs_as, shape-fits}
 use Rattle.capi.proofs.monkey_write_shape.Goals as goal
 
 pub pack-requires : goal.pack-requires

@@ -4,7 +4,7 @@ use Rattle.definition.specs.Basic.{Bytes}
 use Rattle.definition.specs.Decode.{read_image}
 use Rattle.heights.specs.Pass.{heights_answer, heights_into}
 use Rattle.heights.specs.Proposal.{proposal_answer, proposal_size}
-use Rattle.capi.specs.Packed.{Packs}
+use Rattle.exported.specs.Packed.{Packs}
 
 -- checking heights: answer and output are the definition's
 pub record ChecksPacked (image : Bytes) (hs o : List ℕ) (r : ℕ) (o' : List ℕ) : Type 0 where

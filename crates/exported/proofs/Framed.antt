@@ -11,9 +11,9 @@ use Rattle.frames.specs.Frames.{count_is, place_is, count_frames, find_frame, fr
 use Rattle.frames.specs.declared.FrameCount.{FrameCount}
 use Rattle.frames.specs.declared.FramePlace.{FramePlace}
 use Rattle.frames.proofs.Small.{SmallRefusal, SmallCount, SmallPlace, count_small, place_small}
-use Rattle.capi.specs.Packed.{half_bound, Fits, Packs}
-use Rattle.capi.specs.Framed.{paired, Pairs, count_answer, place_answer, refusal_answer, CountsPacked, PlacesPacked}
-use Rattle.capi.proofs.Mapped.{IsMapped, Says, says}
+use Rattle.exported.specs.Packed.{half_bound, Fits, Packs}
+use Rattle.exported.specs.Framed.{paired, Pairs, count_answer, place_answer, refusal_answer, CountsPacked, PlacesPacked}
+use Rattle.exported.proofs.Mapped.{IsMapped, Says, says}
 
 -- a refusal of these calls fits
 small_fits : {r : Refusal} → SmallRefusal r → Fits (Err r)

@@ -4,7 +4,7 @@ use native.Mathlib.Omega.{arith}
 use mathlib.Core.Bool.{Bool, true, false}
 use mathlib.Core.Path.{◌≡◌, refl, sym, ap, subst, ◌∙◌}
 use mathlib.Core.List.{List}
-use lib.Dec.{T, ltb, leb}
+use lib.Dec.{T, ltb, leb, eqb}
 use lib.ListN.{length, take}
 use Rattle.definition.specs.Basic.{Bytes, pick}
 use Rattle.definition.specs.Limit.{session_size}
@@ -24,7 +24,7 @@ use Rattle.text.specs.Script.{read_text, answer_of as readAnswer}
 use Rattle.text.proofs.Small.{ReadWithin, read_within}
 use Rattle.text.specs.Next.{token_at}
 use Rattle.text.proofs.Told.{ToldWithin, told_within}
-use Rattle.capi.specs.Token.{numbers_answer}
+use Rattle.exported.specs.Token.{numbers_answer}
 use Rattle.load.specs.Load.{tree_of}
 use Rattle.load.proofs.Theorems.{tree_short}
 use Rattle.bytecode.specs.declared.Form.{Form}
@@ -37,7 +37,7 @@ use Rattle.heights.proofs.Bounds.{heights_numbers, heights_within, proposal_with
 use Rattle.definition.specs.Tree.{read_tree}
 use Rattle.shape.specs.Promise.{answer_of as shapeAnswer}
 use Rattle.shape.proofs.Within.{shape_numbers, shape_within}
-use Rattle.capi.specs.Packed.{half_bound, packed, of_halves, unpacked, Fits, Packs, Told}
+use Rattle.exported.specs.Packed.{half_bound, packed, reason_of, of_halves, unpacked, Fits, Packs, Told}
 use Rattle.definition.specs.declared.reason.Reason.{Reason}
 use Rattle.definition.specs.declared.reason.Reason.TheVariants.{ShortBuffer, NoSession, BadTree, TooDeep, Undefined, Operator, Macro, TooMany, Locals, Captures, Globals, Pool, Code, Nesting, OutputShort, BadInstruction, BadImage, FewRecords, BadWords, BadScript, LargeInteger, NoValue, BadSize, NoFrame, BadHeights, BadJump, NotRunnable, Operand, Unset}
 
@@ -100,7 +100,7 @@ pub proposal_fits : (b : Bytes) → AreBytes b → (room : ℕ) → Fits (propos
 proposal_fits b a room = within_fits list_numbers tt (omega arith) (omega arith) (proposal_within b a room)
 
 -- a refusal is had from its halves: no number is 0, and each is one reason's
-refusal-told : (r : Reason) (p : ℕ) → of_halves (number_of r) p ≡ Err (refusal r p)
+pub refusal-told : (r : Reason) (p : ℕ) → of_halves (number_of r) p ≡ Err (refusal r p)
 refusal-told ShortBuffer p = refl
 refusal-told NoSession p = refl
 refusal-told BadTree p = refl
@@ -130,6 +130,17 @@ refusal-told BadJump p = refl
 refusal-told NotRunnable p = refl
 refusal-told Operand p = refl
 refusal-told Unset p = refl
+
+-- so no number is 0
+pub numbered : (r : Reason) → eqb (number_of r) 0 ≡ false
+numbered r = go (eqb (number_of r) 0) refl
+  where
+    go : (b : Bool) → eqb (number_of r) 0 ≡ b → eqb (number_of r) 0 ≡ false
+    go false e = e
+    go true e =
+        let same : ◌≡◌ {A = Answer} (Ok 0) (Err (refusal r 0)) = sym (ap (λ b. pick b (Ok 0) (Err (refusal (reason_of (number_of r)) 0))) e) ∙ refusal-told r 0 in
+        let w : ◌≡◌ {A = ℕ} 0 1 = cc in
+        absurd (omega arith)
 
 -- and so is every answer
 pub told : (a : Answer) → Told a

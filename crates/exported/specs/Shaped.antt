@@ -3,7 +3,7 @@ use Rattle.std.specs.Prelude.{ℕ, ◌≡◌, length}
 use Rattle.definition.specs.Basic.{Bytes}
 use Rattle.definition.specs.Tree.{read_tree}
 use Rattle.shape.specs.Promise.{answer_of, output_of}
-use Rattle.capi.specs.Packed.{Packs}
+use Rattle.exported.specs.Packed.{Packs}
 
 -- answer and output are those of `write_shape`
 pub record ShapesPacked (tree o : Bytes) (r : ℕ) (o' : Bytes) : Type 0 where

@@ -8,9 +8,9 @@ use Rattle.definition.specs.Basic.{Bytes}
 use Rattle.shape.specs.Alike.{AlikeFields}
 use Rattle.shape.specs.Promise.{WritesShape}
 use Rattle.shape.proofs.Outputs.{outputs-alike}
-use Rattle.capi.specs.Packed.{half_bound}
-use Rattle.capi.specs.Shaped.{ShapesPacked}
-use Rattle.capi.proofs.Fits.{packs_wrote}
+use Rattle.exported.specs.Packed.{half_bound}
+use Rattle.exported.specs.Shaped.{ShapesPacked}
+use Rattle.exported.proofs.Fits.{packs_wrote}
 
 -- an exported call that was not refused, as a call of `write_shape`
 shape_writes : {tree o o' : Bytes} {r : ℕ} → ShapesPacked tree o r o' → r / half_bound ≡ 0 → WritesShape tree o (Ok (r % half_bound)) o'

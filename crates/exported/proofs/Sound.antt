@@ -11,8 +11,8 @@ use Rattle.std.specs.Prelude.{Ok}
 use Rattle.bytecode.specs.Checked.{image_answer}
 use Rattle.listing.specs.CheckThenList.{Outcome, checked, check_then_list}
 use Rattle.listing.proofs.CheckThenList.{check-then-list, sound_is_15}
-use Rattle.capi.specs.Packed.{half_bound, high, sound_number, Packs, ListsPacked}
-use Rattle.capi.proofs.Fits.{packs_as}
+use Rattle.exported.specs.Packed.{half_bound, high, sound_number, Packs, ListsPacked}
+use Rattle.exported.proofs.Fits.{packs_as}
 
 -- answer and output of `monkey_list_image` are those of the two calls that were
 pub lists_checked : {image output after : Bytes} {r : ℕ} → ListsPacked image output r after

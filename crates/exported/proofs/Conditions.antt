@@ -11,7 +11,7 @@ use Rattle.definition.specs.Series.{Call, AllAlike, shapes, Indistinguishable}
 use Rattle.definition.specs.Valid.{AreBytes}
 use Rattle.compiler.specs.Promise.{Compiles, Makes, MakesWords, MadeBy, Ended, Exact, Ran}
 use Rattle.compiler.proofs.Conditions.{compile_condition_1, compile_condition_2, compile_condition_3}
-use Rattle.capi.specs.Packed.{unpacked, MakesPacked, WordsPacked, MadeByPacked, CompilesPacked, RanPacked}
+use Rattle.exported.specs.Packed.{unpacked, MakesPacked, WordsPacked, MadeByPacked, CompilesPacked, RanPacked}
 
 -- what `monkey_compile` promises is what `compile` promises, of the answer that is had from its number
 pub compiles_unpacked : {tree : Bytes} {l : Lent} {r : ℕ} {l' : Lent} → CompilesPacked tree l r l' → Compiles tree l (unpacked r) l'

@@ -12,11 +12,11 @@ use Rattle.trial.specs.Value.{Globals}
 use Rattle.trial.specs.Call.{Outcome, run_outcome, outcome_answer, outcome_into, work_after}
 use Rattle.trial.specs.declared.Ran.{Ran}
 use Rattle.trial.proofs.Bounds.{Small, run_small}
-use Rattle.capi.specs.Packed.{half_bound, Fits, Packs}
-use Rattle.capi.specs.Framed.{Pairs}
-use Rattle.capi.specs.Trial.{ran_answer, RunsPacked}
-use Rattle.capi.proofs.Mapped.{IsMapped, Says, says}
-use Rattle.capi.proofs.Framed.{pairs}
+use Rattle.exported.specs.Packed.{half_bound, Fits, Packs}
+use Rattle.exported.specs.Framed.{Pairs}
+use Rattle.exported.specs.Trial.{ran_answer, RunsPacked}
+use Rattle.exported.proofs.Mapped.{IsMapped, Says, says}
+use Rattle.exported.proofs.Framed.{pairs}
 
 run_fits : (b : Bytes) → AreBytes b → (hs : List ℕ) (work room : ℕ) → Fits (ran_answer (outcome_answer (run_outcome b hs work room)))
 run_fits b a hs work room = go (run_small b a hs work room)

@@ -6,8 +6,8 @@ use Rattle.trial.specs.Value.{Globals}
 use Rattle.trial.specs.Call.{Outcome, run_outcome, outcome_answer, outcome_into, work_after}
 use Rattle.definition.specs.declared.reason.Refusal.{Refusal}
 use Rattle.trial.specs.declared.Ran.{Ran}
-use Rattle.capi.specs.Packed.{half_bound, Packs}
-use Rattle.capi.specs.Framed.{paired, Pairs}
+use Rattle.exported.specs.Packed.{half_bound, Packs}
+use Rattle.exported.specs.Framed.{paired, Pairs}
 
 -- the globals written and the steps in one length
 abbrev pub ran_answer : Result Ran Refusal → Answer

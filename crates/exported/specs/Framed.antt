@@ -6,7 +6,7 @@ use Rattle.definition.specs.Answer.{Answer}
 use Rattle.frames.specs.Frames.{count_is, place_is, count_frames, find_frame, frame_refusal}
 use Rattle.frames.specs.declared.FrameCount.{FrameCount}
 use Rattle.frames.specs.declared.FramePlace.{FramePlace}
-use Rattle.capi.specs.Packed.{half_bound, Packs}
+use Rattle.exported.specs.Packed.{half_bound, Packs}
 
 -- what the two numbers of a pair are below: 2 to the 16th
 abbrev pub quarter_bound : ℕ

@@ -5,7 +5,7 @@ use Rattle.definition.specs.Answer.{Answer}
 use Rattle.definition.specs.Output.{output_answer, output_after}
 use Rattle.definition.specs.declared.reason.Refusal.{Refusal}
 use Rattle.text.specs.Next.{token_at}
-use Rattle.capi.specs.Packed.{Packs}
+use Rattle.exported.specs.Packed.{Packs}
 
 -- how many numbers are written, 15 where there is no room for them; or why there is no token
 abbrev pub numbers_answer : Result (List ℕ) Refusal → ℕ → Answer

@@ -5,9 +5,9 @@ use Rattle.std.specs.Prelude.{Result, Ok, Err, MatchResult}
 use Rattle.std.specs.Result.{IsOkAnd}
 use Rattle.definition.specs.Answer.{Answer}
 use Rattle.definition.specs.declared.reason.Refusal.{Refusal}
-use Rattle.capi.specs.Packed.{Fits, Packs}
-use Rattle.capi.specs.Framed.{pair_answer}
-use Rattle.capi.proofs.Fits.{fits_as, packs_as}
+use Rattle.exported.specs.Packed.{Fits, Packs}
+use Rattle.exported.specs.Framed.{pair_answer}
+use Rattle.exported.proofs.Fits.{fits_as, packs_as}
 
 -- what was answered, and `map`'s answer to a function whose result is as `P` says
 abbrev pub IsMapped : {T : Type 0} → (T → ℕ × ℕ → Type 0) → Result T Refusal → Result (ℕ × ℕ) Refusal → Type 0
