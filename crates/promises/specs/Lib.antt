@@ -1,0 +1,5 @@
+pub mod Alike
+pub mod Mixed
+pub mod Ended
+pub mod Evaluated
+pub mod Monkey
