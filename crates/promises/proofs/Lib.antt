@@ -6,3 +6,14 @@ pub mod Exact
 pub mod Condition3
 pub mod Trusted
 pub mod MonkeyMixed
+pub mod Frames
+pub mod Chin
+pub mod SeriesFrames
+pub mod SeriesChin
+pub mod SeriesHeights
+pub mod Through
+pub mod Evaluates
+pub mod MonkeyFrames
+pub mod MonkeyChin
+pub mod MonkeyHeights
+pub mod MonkeyEvaluates
