@@ -17,3 +17,9 @@ pub mod MonkeyFrames
 pub mod MonkeyChin
 pub mod MonkeyHeights
 pub mod MonkeyEvaluates
+pub mod Number18
+pub mod Number25
+pub mod Number25Run
+pub mod Number26
+pub mod Number27
+pub mod MonkeyNumbers

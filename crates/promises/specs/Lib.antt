@@ -3,3 +3,4 @@ pub mod Mixed
 pub mod Ended
 pub mod Evaluated
 pub mod Monkey
+pub mod Refusals
