@@ -5,18 +5,7 @@
 #include <stdlib.h>
 #include <string.h>
 
-#include "profile.h"
-
-/* A script: the bytes of its file, a text or a tree; its image; the name of that in a directory. */
-struct script {
-    const char *path;
-    uint8_t *bytes;
-    size_t length;
-    uint8_t *image;
-    size_t image_length;
-    char *name;
-    int failed; /* refused or not read */
-};
+#include "script.h"
 
 enum { TREE_TAG = 0x10 };
 
@@ -267,15 +256,9 @@ static size_t count_failed(const struct arguments *a, const struct script *scrip
     return failed;
 }
 
-/* Reads all scripts, then has the session, compiles them, and only then writes, if none was refused. */
-static int compile_all(const struct arguments *a, struct script *scripts) {
-    int status = a->session != NULL && find_session(a->session) < 0 ? FAILED : choose_output(a, scripts);
-    if (status == DONE) {
-        status = check_written(a, scripts);
-    }
-    if (status != DONE) {
-        return status;
-    }
+/* Reads all scripts, then has the session and compiles them; the worst status. */
+int compile_scripts(const struct arguments *a, struct script *scripts) {
+    int status = DONE;
     for (size_t k = 0; k < a->count; k++) {
         int one = read_script(a, a->operands[k], &scripts[k]);
         scripts[k].failed = one != DONE;
@@ -291,11 +274,29 @@ static int compile_all(const struct arguments *a, struct script *scripts) {
     memcpy(first_session, session, sizeof session);
     status = compile_each(a, scripts, status);
     note_failed(a, count_failed(a, scripts));
+    return status;
+}
+
+/* Compiles all scripts, and only then writes, if none was refused and they are alike where that is asked. */
+static int compile_all(const struct arguments *a, struct script *scripts) {
+    if (a->alike && is_together(a)) {
+        return usage_error(a->command, "--alike is for scripts that are compiled each in a session of its own", "");
+    }
+    int status = a->session != NULL && find_session(a->session) < 0 ? FAILED : choose_output(a, scripts);
+    if (status == DONE) {
+        status = check_written(a, scripts);
+    }
+    if (status == DONE) {
+        status = compile_scripts(a, scripts);
+    }
+    if (status == DONE && a->alike) {
+        status = judge_alike(a, scripts);
+    }
     return status == DONE ? write_results(a, scripts) : status;
 }
 
-/* Frees what is known of scripts. */
-static void free_scripts(struct script *scripts, size_t count) {
+/* Frees scripts, and what is known of them. */
+void free_scripts(struct script *scripts, size_t count) {
     for (size_t k = 0; k < count; k++) {
         free(scripts[k].bytes);
         free(scripts[k].image);

@@ -10,6 +10,7 @@ static const char whole[] =
     "profile: compiles profiles of wheelchair controls\n"
     "\n"
     "  profile compile SCRIPT.. [-o IMAGE]   compile scripts to images\n"
+    "  profile alike SCRIPT..                whether scripts differ in values alone\n"
     "  profile names SCRIPT                  how each name of a script was resolved\n"
     "  profile list IMAGE..                  list images as text\n"
     "  profile check IMAGE..                 whether images are sound\n"
@@ -40,7 +41,7 @@ static const struct {
     const char *command, *text;
 } texts[] = {
     {"compile",
-     "profile compile SCRIPT.. [--tree] [--together] [--session FILE]\n"
+     "profile compile SCRIPT.. [--tree] [--alike] [--together] [--session FILE]\n"
      "                [--words WORD,WORD..] [-o IMAGE]\n"
      "\n"
      "Compiles scripts in text form, each in a fresh session.\n"
@@ -53,12 +54,26 @@ static const struct {
      "                      into it: speed.monkey becomes speed.image. A directory that is\n"
      "                      not there is made\n"
      "  --tree              the scripts are trees in bytes, not texts\n"
+     "  --alike             write nothing where the scripts are not alike, and say where\n"
+     "                      they depart: see profile help alike\n"
      "  --together          all scripts in one session: each knows the definitions of\n"
      "                      those before it, and length and contents of its image depend\n"
      "                      on them\n"
      "  --session FILE      go on with the session of this file, all scripts in it, and\n"
      "                      write it anew; a file that is not there is made\n"
      "  --words WORD,..     a fresh session has these built-in words alone ('': none)\n"},
+    {"alike",
+     "profile alike SCRIPT.. [--frames SIZE] [--tree] [--words WORD,WORD..]\n"
+     "\n"
+     "Puts scripts that differ in values alone, so in integers, in true and false, and in\n"
+     "the bytes of strings of one length, into one group, and says of each group how long\n"
+     "its images are, each compiled in a fresh session. Where there are several groups,\n"
+     "the length of an image may name its group: of each smaller one it shows where its\n"
+     "first script departs from the first of the largest, and why; the status is then 1.\n"
+     "\n"
+     "  --frames SIZE       the frames of SIZE bytes, 16 to 1024, of each image too\n"
+     "  --tree              the scripts are trees in bytes, not texts\n"
+     "  --words WORD,..     sessions with these built-in words alone ('': none)\n"},
     {"names",
      "profile names SCRIPT [--tree] [--session FILE] [--words WORD,WORD..]\n"
      "\n"

@@ -47,7 +47,7 @@ static int refuse_image(const char *path, uint64_t answer) {
 }
 
 /* Reads a decimal number up to a limit; whether the word is one. */
-static int read_number(const char *word, unsigned long long limit, unsigned long long *number) {
+int read_number(const char *word, unsigned long long limit, unsigned long long *number) {
     char *end;
     errno = 0;
     *number = strtoull(word, &end, 10);

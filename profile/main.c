@@ -17,7 +17,8 @@ struct command {
 static int run_help(const struct arguments *a);
 
 static const struct command commands[] = {
-    {"compile", run_compile, 1, (size_t)-1, "oswtg"},
+    {"compile", run_compile, 1, (size_t)-1, "oswtga"},
+    {"alike", run_alike, 1, (size_t)-1, "wtf"},
     {"names", run_names, 1, 1, "swt"},
     {"list", run_list, 1, (size_t)-1, "o"},
     {"check", run_check, 1, (size_t)-1, ""},
@@ -45,6 +46,8 @@ static const struct option options[] = {
     {'w', "--words", 1},
     {'t', "--tree", 0},
     {'g', "--together", 0},
+    {'a', "--alike", 0},
+    {'f', "--frames", 1},
     {'q', "-q", 0},
     {'q', "--quiet", 0},
     {'h', "--help", 0},
@@ -117,10 +120,10 @@ static int take_option(const struct command *c, struct arguments *a, char **word
         return no_option(c, word);
     }
     if (!o->valued) {
-        *(o->letter == 't' ? &a->tree : o->letter == 'g' ? &a->together : &a->quiet) = 1;
+        *(o->letter == 't' ? &a->tree : o->letter == 'g' ? &a->together : o->letter == 'a' ? &a->alike : &a->quiet) = 1;
         return DONE;
     }
-    const char **place = o->letter == 'o' ? &a->output : o->letter == 's' ? &a->session : &a->words;
+    const char **place = o->letter == 'o' ? &a->output : o->letter == 's' ? &a->session : o->letter == 'f' ? &a->frames : &a->words;
     if (*place != NULL) {
         return usage_error(c->name, "given twice: ", word);
     }
@@ -197,7 +200,7 @@ int main(int count, char **words) {
     if (asks_help(words + 2, count - 2)) {
         return print_help(c->name);
     }
-    struct arguments a = {c->name, NULL, NULL, NULL, 0, 0, 0, words + 2, 0};
+    struct arguments a = {.command = c->name, .operands = words + 2};
     int status = take_words(c, &a, words + 2, count - 2);
     return status == DONE ? c->run(&a) : status;
 }

@@ -25,8 +25,10 @@ struct arguments {
     const char *output;   /* --output, or null */
     const char *session;  /* --session, or null */
     const char *words;    /* --words, or null */
+    const char *frames;   /* --frames, or null */
     int tree;             /* --tree */
     int together;         /* --together */
+    int alike;            /* --alike */
     int quiet;            /* --quiet: errors alone on standard error */
     char **operands;
     size_t count;
@@ -98,6 +100,7 @@ struct message {
 /* source.c */
 int say_error(const char *path, unsigned number, const char *reason);
 int say_message(const struct message *m, unsigned number);
+void say_place(const struct message *m, const char *head, const char *reason);
 void position_of(const uint8_t *text, size_t length, size_t place, unsigned *line, unsigned *column);
 
 /* numbers.c */
@@ -147,10 +150,14 @@ struct walk {
 
 /* places.c */
 int has_fields(uint8_t tag);
+int is_mark(uint8_t tag);
 int is_digit(uint8_t b);
 struct token next_token(const uint8_t *text, size_t length, size_t at);
 struct walk begin_walk(const uint8_t *tree, size_t tree_length, const uint8_t *text, size_t text_length);
 size_t place_in_text(struct walk *w, size_t offset);
+
+/* images.c */
+int read_number(const char *word, unsigned long long limit, unsigned long long *number);
 
 /* check.c */
 int report_check(const char *path, const uint8_t *image, size_t length, uint64_t stack);
@@ -176,6 +183,7 @@ int print_version(void);
 
 /* The subcommands: each answers an exit status. */
 int run_compile(const struct arguments *a);
+int run_alike(const struct arguments *a);
 int run_names(const struct arguments *a);
 int run_list(const struct arguments *a);
 int run_check(const struct arguments *a);

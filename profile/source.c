@@ -110,6 +110,14 @@ static void print_line(const struct message *m, size_t place, unsigned line, uns
     fprintf(stderr, "      | %s%s%s^%s\n", begin > first ? "  " : "", blanks, red(), plain());
 }
 
+/* Says what stands at a place of a text, which is no error. */
+void say_place(const struct message *m, const char *head, const char *reason) {
+    unsigned line, column;
+    position_of(m->text, m->length, m->place, &line, &column);
+    fprintf(stderr, "%s:%u:%u: %s: %s\n", shown_path(m->path), line, column, head, reason);
+    print_line(m, m->place, line, column);
+}
+
 /* Says an error at a place of a text, and the note on it. */
 int say_message(const struct message *m, unsigned number) {
     unsigned line, column;
