@@ -1,0 +1,129 @@
+#!/usr/bin/env python3
+"""Checks what can be checked of README.md and docs/: tools/check_docs.py prints each false sentence with its line, and ends with 1 if there is one.
+
+- Links and pictures lead to files of the repository, and so do paths that are named (docs/C.md, tools/program, crates/capi).
+- A name between backticks stands in a source: a definition, theorem, function, edit, crate, option or file.
+- A row of docs/THEOREMS.md names a theorem that its file declares.
+- Figures that can be counted: crates, edits that must fail, numbers of refusals, bytes of README.md.
+- No line is longer than 120 characters, but for rows of tables, code and what a program wrote.
+
+Pages that tell of the past (PAST) may name what is gone.
+"""
+import pathlib
+import re
+import sys
+
+ROOT = pathlib.Path(__file__).resolve().parent.parent
+PAST = {"CHANGES.md", "PORT.md", "DESIGN-PASS.md"}
+WRITTEN = "<!-- written by tools/"
+WIDTH = 120
+README_BYTES = 6144
+TOPS = ("docs", "tools", "crates", "examples", "profile", "install", "include", "oracle", "cases", "tests", ".ci")
+SOURCES = (".rt", ".antt", ".edit", ".c", ".h", ".rs", ".py", ".txt", ".toml", ".1", ".3", ".bash", ".zsh", ".fish", "")
+
+
+def sources():
+    """Every file that is read for names: sources, proofs, edits, programs, tools."""
+    for top in TOPS:
+        for path in (ROOT / top).rglob("*"):
+            parts = path.relative_to(ROOT).parts
+            if path.is_file() and top != "docs" and "out" not in parts and "target" not in parts and path.suffix in SOURCES:
+                yield path
+
+
+def words():
+    """Every word of the sources, and the names of their files and folders."""
+    out = set()
+    for path in sources():
+        text = path.read_text(errors="replace")
+        if len(text) < 2_000_000:
+            out.update(re.findall(r"[^\s(){}\[\].,;:`\"'|&<>=+*/\\!?@#%~^$]+(?:'[\w]*)?", text))
+            out.update(re.findall(r"[A-Za-z_][\w]*", text))
+        for part in path.relative_to(ROOT).parts:
+            out.update((part, part.split(".")[0]))
+    return out
+
+
+def pages():
+    return [ROOT / "README.md"] + sorted((ROOT / "docs").glob("*.md"))
+
+
+def prose(path):
+    """The page's lines with their numbers, up to what a program wrote; whether each is code or a row of a table."""
+    fenced = False
+    for number, line in enumerate(path.read_text().split("\n"), 1):
+        if line.startswith(WRITTEN):
+            return
+        if line.startswith("```"):
+            fenced = not fenced
+        yield number, line, fenced or line.startswith(("    ", "```", "\t")), line.startswith("|")
+
+
+def paths_named(line):
+    """Links, and words that look like a path of the repository."""
+    yield from (("link", target) for target in re.findall(r"\]\(([^)#\s]+)\)", line) if "://" not in target)
+    for word in re.findall(r"(?<![\w./-])((?:%s)/[\w./*+-]*)" % "|".join(re.escape(t) for t in TOPS), line):
+        yield "path", word.rstrip(".")
+
+
+def there(path, kind, target):
+    if kind == "link":
+        return (path.parent / target).exists()
+    if (ROOT / target).exists() or any(ROOT.glob(target)):
+        return True
+    # A module is named without its ending, and an out folder is there once something is proved.
+    return any((ROOT / (target + end)).exists() for end in (".antt", ".rt", ".c")) or "/out" in target
+
+
+def names(line):
+    """Names between backticks: one word of letters, digits, _, - and '."""
+    return [word for word in re.findall(r"`([^`]+)`", line) if re.fullmatch(r"[A-Za-z_][\w'-]*", word)]
+
+
+def figures():
+    crates = sum(1 for line in (ROOT / "crates.txt").read_text().split("\n") if re.match(r"\w+( staticlib)?:", line))
+    edits = sum(1 for _ in ROOT.glob("crates/*/must-fail/*.edit"))
+    return {"crates": crates, "edits": edits}
+
+
+def check_theorems(said):
+    page = ROOT / "docs" / "THEOREMS.md"
+    if not page.exists():
+        return
+    for number, line, _, row in prose(page):
+        cells = [cell.strip() for cell in line.split("|")] if row else []
+        if len(cells) < 4 or "/" not in cells[2]:
+            continue
+        files = [ROOT / "crates" / (cells[2].split(" ")[0].split(",")[0] + end) for end in (".antt", "/lib.rt", ".rt")]
+        texts = "\n".join(f.read_text() for f in files if f.exists())
+        folder = ROOT / "crates" / cells[2].split("/")[0]
+        for name in re.findall(r"`([^`]+)`", cells[1]):
+            declared = re.search(r"(?m)^\s*(?:pub |abbrev |unfoldable )*(?:record |data )?%s(?: [^:]*)?:" % re.escape(name), texts)
+            if not declared and not any(re.search(r"(?m)^\s*(?:pub |abbrev |unfoldable )*(?:record |data )?%s(?: [^:]*)?:" % re.escape(name), f.read_text())
+                                        for f in folder.glob("*/*.antt")):
+                said.append(f"docs/THEOREMS.md:{number}: {folder.name} declares no {name}")
+
+
+def main():
+    known, said, counted = words(), [], figures()
+    for path in pages():
+        name = str(path.relative_to(ROOT))
+        for number, line, code, row in prose(path):
+            at = f"{name}:{number}"
+            if len(line) > WIDTH and not code and not row:
+                said.append(f"{at}: {len(line)} characters")
+            if path.name in PAST:
+                continue
+            said += [f"{at}: there is no {target}" for kind, target in paths_named(line) if not there(path, kind, target)]
+            if not code:
+                said += [f"{at}: `{word}` stands in no source" for word in names(line) if word not in known]
+                for what, count in counted.items():
+                    said += [f"{at}: {n} {what}, there are {count}" for n in re.findall(r"\b(?:all|the) (\d+) %s\b" % what, line) if int(n) != count]
+    if (ROOT / "README.md").stat().st_size > README_BYTES:
+        said.append(f"README.md: more than {README_BYTES} bytes")
+    check_theorems(said)
+    print("\n".join(said + [f"docs: {len(said)} false"]))
+    sys.exit(bool(said))
+
+
+main()
