@@ -1,5 +1,5 @@
 #!/usr/bin/env python3
-"""Checks what can be checked of README.md and docs/: tools/check_docs.py prints each false sentence with its line, and ends with 1 if there is one.
+"""Checks what can be checked of README.md, CONTRIBUTING.md and docs/: tools/check_docs.py prints each false sentence with its line, and ends with 1 if there is one.
 
 - Links and pictures lead to files of the repository, and so do paths that are named (docs/C.md, tools/program, crates/capi).
 - A name between backticks stands in a source: a definition, theorem, function, edit, crate, option or file.
@@ -19,7 +19,9 @@ WRITTEN = "<!-- written by tools/"
 WIDTH = 120
 README_BYTES = 6144
 TOPS = ("docs", "tools", "crates", "examples", "profile", "install", "include", "oracle", "cases", "tests", ".ci")
-SOURCES = (".rt", ".antt", ".edit", ".c", ".h", ".rs", ".py", ".txt", ".toml", ".1", ".3", ".bash", ".zsh", ".fish", "")
+# What pages name and no source has: the kit's and the C library's.
+OUTSIDE = {"lem", "ac", "memmove"}
+SOURCES = (".rt", ".monkey", ".antt", ".edit", ".c", ".h", ".rs", ".py", ".txt", ".toml", ".1", ".3", ".bash", ".zsh", ".fish", "")
 
 
 def sources():
@@ -45,7 +47,7 @@ def words():
 
 
 def pages():
-    return [ROOT / "README.md"] + sorted((ROOT / "docs").glob("*.md"))
+    return [ROOT / "README.md", ROOT / "CONTRIBUTING.md"] + sorted((ROOT / "docs").glob("*.md"))
 
 
 def prose(path):
@@ -69,7 +71,8 @@ def paths_named(line):
 def there(path, kind, target):
     if kind == "link":
         return (path.parent / target).exists()
-    if (ROOT / target).exists() or any(ROOT.glob(target)):
+    # CRATE, NAME and the like stand for any.
+    if re.search(r"(^|/)[A-Z]{3,}(\.|/|$)", target) or (ROOT / target).exists() or any(ROOT.glob(target)):
         return True
     # A module is named without its ending, and an out folder is there once something is proved.
     return any((ROOT / (target + end)).exists() for end in (".antt", ".rt", ".c")) or "/out" in target
@@ -77,7 +80,7 @@ def there(path, kind, target):
 
 def names(line):
     """Names between backticks: one word of letters, digits, _, - and '."""
-    return [word for word in re.findall(r"`([^`]+)`", line) if re.fullmatch(r"[A-Za-z_][\w'-]*", word)]
+    return [word for word in re.findall(r"`([^`]+)`", line) if re.fullmatch(r"[A-Za-z_][\w'-]*", word) and word not in OUTSIDE]
 
 
 def figures():
