@@ -89,22 +89,27 @@ def figures():
     return {"crates": crates, "edits": edits}
 
 
+def declares(crate, name):
+    """Whether a file of the crate declares the name: a definition, a theorem, a record, or a function."""
+    pattern = r"(?m)^\s*(?:(?:pub|abbrev|unfoldable|record|data|unsafe|extern|\"C\") )*(?:fn )?%s(?: [^:\n]*)?[:(<]" % re.escape(name)
+    return any(re.search(pattern, path.read_text()) for path in (ROOT / "crates" / crate).rglob("*")
+               if path.suffix in (".antt", ".rt") and "out" not in path.relative_to(ROOT).parts)
+
+
 def check_theorems(said):
+    """A group of names before `(crate)` or `(crate/specs/File)`, and the names of a row whose second cell is a file."""
     page = ROOT / "docs" / "THEOREMS.md"
-    if not page.exists():
-        return
+    crates = {path.name for path in (ROOT / "crates").iterdir()}
     for number, line, _, row in prose(page):
-        cells = [cell.strip() for cell in line.split("|")] if row else []
-        if len(cells) < 4 or "/" not in cells[2]:
-            continue
-        files = [ROOT / "crates" / (cells[2].split(" ")[0].split(",")[0] + end) for end in (".antt", "/lib.rt", ".rt")]
-        texts = "\n".join(f.read_text() for f in files if f.exists())
-        folder = ROOT / "crates" / cells[2].split("/")[0]
-        for name in re.findall(r"`([^`]+)`", cells[1]):
-            declared = re.search(r"(?m)^\s*(?:pub |abbrev |unfoldable )*(?:record |data )?%s(?: [^:]*)?:" % re.escape(name), texts)
-            if not declared and not any(re.search(r"(?m)^\s*(?:pub |abbrev |unfoldable )*(?:record |data )?%s(?: [^:]*)?:" % re.escape(name), f.read_text())
-                                        for f in folder.glob("*/*.antt")):
-                said.append(f"docs/THEOREMS.md:{number}: {folder.name} declares no {name}")
+        cells = line.split("|") if row else []
+        groups = [(names_, place) for cell in cells for names_, place in re.findall(r"((?:`[^`]+`(?:, | and )?)+) \(([^()]*)\)", cell)]
+        if len(cells) == 5 and "/" in cells[2]:
+            groups.append((cells[1], cells[2].strip()))
+        for group, place in groups:
+            places = [part.strip().split("/")[0] for part in place.split(", ") if part.strip().split("/")[0] in crates]
+            for name in re.findall(r"`([^`]+)`", group) if places else []:
+                if not any(declares(crate, name) for crate in places):
+                    said.append(f"docs/THEOREMS.md:{number}: {' and '.join(places)} declares no {name}")
 
 
 def main():
