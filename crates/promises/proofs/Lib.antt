@@ -23,3 +23,15 @@ pub mod Number25Run
 pub mod Number26
 pub mod Number27
 pub mod MonkeyNumbers
+pub mod Endings
+pub mod EndsImage
+pub mod EndsText
+pub mod EndsRun
+pub mod Charged
+pub mod Weights
+pub mod Thirteen
+pub mod Number13
+pub mod EndsSession
+pub mod Condition1
+pub mod Number22
+pub mod MonkeyNumber22

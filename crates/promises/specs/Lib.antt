@@ -4,3 +4,7 @@ pub mod Ended
 pub mod Evaluated
 pub mod Monkey
 pub mod Refusals
+pub mod Ends
+pub mod Charge
+pub mod Branch
+pub mod Condition1
