@@ -90,9 +90,9 @@ scripts_calls AllScripts.none = AllAlike.none
 scripts_calls (AllScripts.more a rest) = AllAlike.more (scripts_call a) (scripts_calls rest)
 
 -- Two series of compile calls on trees of alike scripts, step by step, from sessions of equal words, can't be told apart but by the literals' bytes
-pub scripts-condition-3 : {a b : Bytes} {u v : Words} → MadeBy a u → MadeBy b v → word_list u ≡ word_list v → (cs ds : List Call) → AllScripts cs ds → (xs ys : List Called)
+pub scripts_condition_3 : {a b : Bytes} {u v : Words} → MadeBy a u → MadeBy b v → word_list u ≡ word_list v → (cs ds : List Call) → AllScripts cs ds → (xs ys : List Called)
     → Ran (take session_size a) cs xs → Ran (take session_size b) ds ys → Indistinguishable (field_count u ≡ field_count v) (shapes u cs) xs ys
-scripts-condition-3 m n e cs ds l xs ys x y = compile_condition_3 m n e cs ds (scripts_calls l) xs ys x y
+scripts_condition_3 m n e cs ds l xs ys x y = compile_condition_3 m n e cs ds (scripts_calls l) xs ys x y
 
 -- images of one length, or one refusal
 pub data OneLength : Outcome → Outcome → Type 0 where

@@ -35,3 +35,4 @@ pub mod EndsSession
 pub mod Condition1
 pub mod Number22
 pub mod MonkeyNumber22
+pub mod MonkeyScripts

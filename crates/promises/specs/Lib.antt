@@ -8,3 +8,4 @@ pub mod Ends
 pub mod Charge
 pub mod Branch
 pub mod Condition1
+pub mod Scripts
