@@ -34,7 +34,8 @@ record Filling {B : Type 0} (costs : B → ℕ) (at end : ℕ) (b : B) (n : ℕ)
   ends : n ≡ end
 
 module _ {A B : Type 0} (cost : A → ℕ) (costs : B → ℕ) (nil : B) (cons : A → B → B) (nils : costs nil ≡ 0) (conses : (x : A) (xs : B) → costs (cons x xs) ≤ cost x + costs xs) where
-  costs_many : {f : ℕ → ℕ → Read A} → Costs cost f → (fuel at end : ℕ) → end ≤ tree_limit → Gives (Filling costs at end) (many nil cons f fuel at end)
+  costs_many : {f : ℕ → ℕ → Read A} → Costs cost f → (fuel at end : ℕ) → end ≤ tree_limit
+      → Gives (Filling costs at end) (many nil cons f fuel at end)
   costs_many =
       gives-items {P = From cost} {R = Filling costs} nil cons (λ at end e. record { bytes = omega (arith, nils); ends = e })
       (λ at end x at₁ xs n p q. record { bytes = omega (arith, conses x xs, q.bytes); ends = q.ends })
@@ -63,10 +64,12 @@ module _ {f : ℕ → ℕ → Read Expr} (F : Costs bytes_expr f) where
 
   costs_pairs : (parent fuel at end : ℕ) → end ≤ tree_limit → Gives (Filling bytes_exprs at end) (pairs_of f parent fuel at end)
   unfolding bytes_exprs
-  costs_pairs parent = costs_many (λ (x : Expr × Expr). bytes_expr x.0 + bytes_expr x.1) bytes_exprs Exprs.no_exprs (λ x xs. Exprs.exprs x.0 (Exprs.exprs x.1 xs)) refl (λ _ _. omega arith) (costs_pair parent)
+  costs_pairs parent =
+      costs_many (λ (x : Expr × Expr). bytes_expr x.0 + bytes_expr x.1) bytes_exprs Exprs.no_exprs (λ x xs. Exprs.exprs x.0 (Exprs.exprs x.1 xs)) refl (λ _ _. omega arith) (costs_pair parent)
 
 -- an else, or none
-costs_else : {f : ℕ → ℕ → Read Stmts} → Costs (λ b. 3 + bytes_stmts b) f → (at end : ℕ) → end ≤ tree_limit → Gives (From bytes_else at end) (else_of f at end)
+costs_else : {f : ℕ → ℕ → Read Stmts} → Costs (λ b. 3 + bytes_stmts b) f → (at end : ℕ) → end ≤ tree_limit
+    → Gives (From bytes_else at end) (else_of f at end)
 unfolding bytes_else
 costs_else F at end h =
     gives-pick (eqb at end) (λ _. let l : at + 0 ≤ at = omega arith in Gives.right l)
@@ -74,7 +77,8 @@ costs_else F at end h =
 
 module _ (byte : ℕ → ℕ) where
   costs_name : (least level : ℕ) → Costs three (read_name byte least level)
-  costs_name least level = record { each = λ at end h. gives_head byte (name_head least) at end (record { gives = λ f g. gives-met level at (let l : at + 3 ≤ at + 3 + (head byte at).len = omega arith in Gives.right l) }) }
+  costs_name least level =
+      record { each = λ at end h. gives_head byte (name_head least) at end (record { gives = λ f g. gives-met level at (let l : at + 3 ≤ at + 3 + (head byte at).len = omega arith in Gives.right l) }) }
 
   costs_params : (level : ℕ) → Costs three (read_params byte level)
   costs_params level =
@@ -88,13 +92,16 @@ module _ (byte : ℕ → ℕ) where
       }
 
   costs_operator : (level : ℕ) → Costs three (read_operator byte level)
-  costs_operator level = record { each = λ at end h. gives_head byte operator_head at end (record { gives = λ f g. gives-one_byte byte (λ o. o) 9 plain level at (at + 3) (λ _. omega arith) }) }
+  costs_operator level =
+      record { each = λ at end h. gives_head byte operator_head at end (record { gives = λ f g. gives-one_byte byte (λ o. o) 9 plain level at (at + 3) (λ _. omega arith) }) }
 
   module _ {e : ℕ → ℕ → Read Expr} (E : Costs bytes_expr e) where
     module _ {b : ℕ → ℕ → Read Stmts} (B : Costs (λ b. 3 + bytes_stmts b) b) where
-      costs_expr_body : (x : ExprTag) (level at in₀ n : ℕ) → in₀ ≡ at + 3 → in₀ + n ≤ tree_limit → Gives (From bytes_expr at (in₀ + n)) (expr_body byte x e b level at in₀ n)
+      costs_expr_body : (x : ExprTag) (level at in₀ n : ℕ) → in₀ ≡ at + 3 → in₀ + n ≤ tree_limit
+          → Gives (From bytes_expr at (in₀ + n)) (expr_body byte x e b level at in₀ n)
       unfolding bytes_expr
-      costs_expr_body ExprTag.identifier_tag level at in₀ n i k = let l : at + bytes_expr (Expr.identifier at (bytes byte in₀ n)) ≤ in₀ + n = omega (arith, length-bytes byte in₀ n) in Gives.right l
+      costs_expr_body ExprTag.identifier_tag level at in₀ n i k =
+          let l : at + bytes_expr (Expr.identifier at (bytes byte in₀ n)) ≤ in₀ + n = omega (arith, length-bytes byte in₀ n) in Gives.right l
       costs_expr_body ExprTag.prefix_tag level at in₀ n i k =
           gives-seq (gives-child (costs_operator (level + 1)) at in₀ (in₀ + n) k) (λ o at₁ p. gives-seq (gives-child E at at₁ (in₀ + n) k) (λ x at₂ q.
           costs_last bytes_expr (Expr.prefix at o x) at at₂ (in₀ + n) (omega arith)))
@@ -110,8 +117,10 @@ module _ (byte : ℕ → ℕ) where
       costs_expr_body ExprTag.call_tag level at in₀ n i k =
           gives-seq (gives-child E at in₀ (in₀ + n) k) (λ f at₁ p. gives-seq (costs_exprs E n at₁ (in₀ + n) k) (λ xs at₂ q. let l : at + bytes_expr (Expr.call at f xs) ≤ at₂ = omega (arith, q.bytes) in Gives.right l))
       costs_expr_body ExprTag.integer_tag level at in₀ n i k = let l : at + bytes_expr (Expr.integer at (bytes byte in₀ n)) ≤ in₀ + n = omega arith in Gives.right l
-      costs_expr_body ExprTag.string_tag level at in₀ n i k = let l : at + bytes_expr (Expr.string at (bytes byte in₀ n)) ≤ in₀ + n = omega arith in Gives.right l
-      costs_expr_body ExprTag.array_tag level at in₀ n i k = gives-seq (costs_exprs E n in₀ (in₀ + n) k) (λ xs at₁ p. let l : at + bytes_expr (Expr.array at xs) ≤ at₁ = omega (arith, p.bytes) in Gives.right l)
+      costs_expr_body ExprTag.string_tag level at in₀ n i k =
+          let l : at + bytes_expr (Expr.string at (bytes byte in₀ n)) ≤ in₀ + n = omega arith in Gives.right l
+      costs_expr_body ExprTag.array_tag level at in₀ n i k =
+          gives-seq (costs_exprs E n in₀ (in₀ + n) k) (λ xs at₁ p. let l : at + bytes_expr (Expr.array at xs) ≤ at₁ = omega (arith, p.bytes) in Gives.right l)
       costs_expr_body ExprTag.index_tag level at in₀ n i k =
           gives-seq (gives-child E at in₀ (in₀ + n) k) (λ x at₁ p. gives-seq (gives-child E at at₁ (in₀ + n) k) (λ y at₂ q. costs_last bytes_expr (Expr.index at x y) at at₂ (in₀ + n) (omega arith)))
       costs_expr_body ExprTag.hash_tag level at in₀ n i k = gives-seq (costs_pairs E at n in₀ (in₀ + n) k) (λ xs at₁ p. let l : at + bytes_expr (Expr.hash at xs) ≤ at₁ = omega (arith, p.bytes) in Gives.right l)
@@ -119,10 +128,13 @@ module _ (byte : ℕ → ℕ) where
           gives-seq (gives-child (costs_params (level + 1)) at in₀ (in₀ + n) k) (λ xs at₁ p. gives-seq (gives-child B at at₁ (in₀ + n) k) (λ f at₂ q. costs_last bytes_expr (Expr.macro at) at at₂ (in₀ + n) (omega arith)))
 
     module _ {f : ℕ → ℕ → Read Stmt} (F : Costs bytes_stmt f) where
-      costs_stmt_body : (x : StmtTag) (level at in₀ n : ℕ) → in₀ ≡ at + 3 → in₀ + n ≤ tree_limit → Gives (From bytes_stmt at (in₀ + n)) (stmt_body byte x f e level at in₀ n)
+      costs_stmt_body : (x : StmtTag) (level at in₀ n : ℕ) → in₀ ≡ at + 3 → in₀ + n ≤ tree_limit
+          → Gives (From bytes_stmt at (in₀ + n)) (stmt_body byte x f e level at in₀ n)
       unfolding bytes_stmt
-      costs_stmt_body StmtTag.expr_stmt_tag level at in₀ n i k = gives-seq (gives-child E at in₀ (in₀ + n) k) (λ x at₁ p. costs_last bytes_stmt (Stmt.expr_stmt at x) at at₁ (in₀ + n) (omega arith))
-      costs_stmt_body StmtTag.block_tag level at in₀ n i k = gives-seq (costs_stmts F n in₀ (in₀ + n) k) (λ b at₁ p. let l : at + bytes_stmt (Stmt.block at b) ≤ at₁ = omega (arith, p.bytes) in Gives.right l)
+      costs_stmt_body StmtTag.expr_stmt_tag level at in₀ n i k =
+          gives-seq (gives-child E at in₀ (in₀ + n) k) (λ x at₁ p. costs_last bytes_stmt (Stmt.expr_stmt at x) at at₁ (in₀ + n) (omega arith))
+      costs_stmt_body StmtTag.block_tag level at in₀ n i k =
+          gives-seq (costs_stmts F n in₀ (in₀ + n) k) (λ b at₁ p. let l : at + bytes_stmt (Stmt.block at b) ≤ at₁ = omega (arith, p.bytes) in Gives.right l)
       costs_stmt_body StmtTag.let_tag level at in₀ n i k =
           gives-seq (gives-child (costs_name 1 (level + 1)) at in₀ (in₀ + n) k) (λ x at₁ p. gives-seq (gives-child E at at₁ (in₀ + n) k) (λ v at₂ q.
           costs_last bytes_stmt (Stmt.let_stmt at x v) at at₂ (in₀ + n) (omega arith)))

@@ -1,4 +1,5 @@
--- In condition 3's two series, of plain calls and calls with records, the chin forms of both images of every step are equally long and agree at all but the literals' places.
+-- In condition 3's two series, of plain calls and calls with records, the chin forms of both images of every step are equally long and
+-- agree at all but the literals' places.
 use Prim.Native.Nat.{ℕ}
 use native.Mathlib.Omega.{arith}
 use mathlib.Core.List.{List, map}
@@ -64,7 +65,8 @@ alike (OutcomeLike.accepted {x = a} {y = m} r) (OutcomeLike.accepted {x = b} k) 
 alike (OutcomeLike.refused r) (OutcomeLike.refused _) (Gave.refused e) (Gave.refused f) h = ChinAlike.refused e f
 
 -- from sessions that differ in literals alone
-chin_from : {compared : Type 0} {ts us : List Turn} → AllAlikeTurns ts us → (s t : Bytes) (x y p : Session) → Holds s x → Holds t y → ValidSession p → SessionLike compared x p → SessionLike compared y p
+chin_from : {compared : Type 0} {ts us : List Turn} → AllAlikeTurns ts us → (s t : Bytes) (x y p : Session) → Holds s x → Holds t y
+    → ValidSession p → SessionLike compared x p → SessionLike compared y p
     → ChinStepwise (steps_in (shaped_turns_from p ts)) (called_in (turns s ts)) (called_in (turns t us))
 chin_from AllAlikeTurns.none s t x y p h k v e f = ChinStepwise.done
 chin_from {compared} (AllAlikeTurns.more {t = c} {u = d} a rest) s t x y p h k v e f =
@@ -91,7 +93,8 @@ turns_chin {s} {t} {u} {v} x y e ts us a =
     chin_from {compared = field_count u ≡ field_count v} a s t (begun u) (begun v) (begun u) h (start_holds y) h.valid (like_itself (begun u)) (begun_like u v e)
 
 -- and of plain calls
-pub calls_chin : {s t : Bytes} {u v : Words} → Start s u → Start t v → word_list u ≡ word_list v → (cs ds : List Call) → AllAlike cs ds → ChinStepwise (shapes u cs) (calls s cs) (calls t ds)
+pub calls_chin : {s t : Bytes} {u v : Words} → Start s u → Start t v → word_list u ≡ word_list v → (cs ds : List Call) → AllAlike cs ds
+    → ChinStepwise (shapes u cs) (calls s cs) (calls t ds)
 calls_chin {s} {t} {u} x y e cs ds a =
     subst (λ ps. ChinStepwise ps (calls s cs) (calls t ds)) (plain-shapes u cs)
     (subst₂ (ChinStepwise (steps_in (shaped_turns u (map Turn.plain cs)))) (plain-turns s cs) (plain-turns t ds) (turns_chin x y e (map Turn.plain cs) (map Turn.plain ds) (plain-alike a)))

@@ -24,15 +24,18 @@ module _ (P : Called → Type 0) (refusals : (x : Called) (r : Refusal) → x.an
   others (All.more h hs) = hs
 
   -- the call with records is the plain call, or leaves the session
-  either : (s : Bytes) (c : Call) (rs : List Record) (ts : List Turn) {x : Recorded} {y : Called} → CallAgrees c.tree (lent s c) rs x y → P y → session_after s (lent s c).session ≡ s
+  either : (s : Bytes) (c : Call) (rs : List Record) (ts : List Turn) {x : Recorded} {y : Called} → CallAgrees c.tree (lent s c) rs x y
+      → P y → session_after s (lent s c).session ≡ s
       → All (λ (x : Recorded). P x.called) (turns (session_after s y.lent.session) ts) → All (λ (x : Recorded). P x.called) (turns s ts)
       → All (λ (x : Recorded). P x.called) (x ∷ turns (session_after s x.called.lent.session) ts)
   either s c rs ts (CallAgrees.refused r e) p k f g = All.more p f
   either s c rs ts (CallAgrees.accepted new e _ _) p k f g = All.more p f
-  either s c rs ts (CallAgrees.few _) p k f g = All.more (refusals _ _ refl) (subst (λ t. All (λ (x : Recorded). P x.called) (turns t ts)) (sym k) g)
+  either s c rs ts (CallAgrees.few _) p k f g =
+      All.more (refusals _ _ refl) (subst (λ t. All (λ (x : Recorded). P x.called) (turns t ts)) (sym k) g)
 
   -- from a session that stands as bytes
-  from : (ts : List Turn) (s : Bytes) (z : Session) → Holds s z → ((cs : List Call) → All P (calls s cs)) → All (λ (x : Recorded). P x.called) (turns s ts)
+  from : (ts : List Turn) (s : Bytes) (z : Session) → Holds s z → ((cs : List Call) → All P (calls s cs))
+      → All (λ (x : Recorded). P x.called) (turns s ts)
   from [] s z h f = All.none
   from (Turn.plain c ∷ ts) s z h f = All.more (first (f (c ∷ []))) (from ts _ _ (call_does s z h c).holds (λ cs. others (f (c ∷ cs))))
   from (Turn.with_records c rs ∷ ts) s z h f =
@@ -40,5 +43,6 @@ module _ (P : Called → Type 0) (refusals : (x : Called) (r : Refusal) → x.an
       (from ts _ _ (call_does s z h c).holds (λ cs. others (f (c ∷ cs)))) (from ts s z h f)
 
   -- from a session that was made
-  pub in_turns : {s : Bytes} {w : Words} → Start s w → ((cs : List Call) → All P (calls s cs)) → (ts : List Turn) → All (λ (x : Recorded). P x.called) (turns s ts)
+  pub in_turns : {s : Bytes} {w : Words} → Start s w → ((cs : List Call) → All P (calls s cs)) → (ts : List Turn)
+      → All (λ (x : Recorded). P x.called) (turns s ts)
   in_turns {s} {w} x f ts = from ts s (begun w) (start_holds x) f

@@ -1,4 +1,5 @@
--- Condition 1 of a call of any kind: an answer, or a numbered refusal with its place that leaves session, output and what is lent for records as they were.
+-- Condition 1 of a call of any kind: an answer, or a numbered refusal with its place that leaves session, output and what is lent for
+-- records as they were.
 use Prim.Native.Nat.{ℕ, ◌*◌, ◌/◌}
 use native.Mathlib.Omega.{arith}
 use mathlib.Core.List.{List}
@@ -45,7 +46,8 @@ module _ {tree : Bytes} {l : Lent} {rs : List Record} where
   behind (CallAgrees.few _) = record { room = omega arith; stays = refl; refused = λ _ _. (refl, refl) }
 
   -- its numbers, four for each record
-  pub behind-rows : (xs : List ℕ) → length rs ≡ length xs / 4 → {x : Recorded} {y : Called} → CallAgrees tree l rs x y → Behind 4 xs x.called x.count (named xs x).rows
+  pub behind-rows : (xs : List ℕ) → length rs ≡ length xs / 4 → {x : Recorded} {y : Called} → CallAgrees tree l rs x y
+      → Behind 4 xs x.called x.count (named xs x).rows
   unfolding rows_of
   behind-rows xs m (CallAgrees.refused r e) = record { room = omega arith; stays = refl; refused = λ _ _. (refl, refl) }
   behind-rows xs m (CallAgrees.accepted {c} {n} new e h _) =
@@ -58,17 +60,21 @@ module _ {tree : Bytes} {l : Lent} {rs : List Record} where
   behind-rows xs m (CallAgrees.few _) = record { room = omega arith; stays = refl; refused = λ _ _. (refl, refl) }
 
 -- what the definition's turn gives
-ended_done : (s : Bytes) (c : AnyCall) → AreBytes (take session_size (lent s (call_of c)).session) → EndedAny (lent s (call_of c)) c (done_of c (turn s (turn_of c)))
+ended_done : (s : Bytes) (c : AnyCall) → AreBytes (take session_size (lent s (call_of c)).session)
+    → EndedAny (lent s (call_of c)) c (done_of c (turn s (turn_of c)))
 ended_done s (AnyCall.plain c) a = EndedAny.plain (plain-ended c.tree (lent s c) a)
-ended_done s (AnyCall.records c rs) a = let k = call_agrees c.tree (lent s c) rs in EndedAny.records (call-ended k (plain-ended c.tree (lent s c) a)) (behind k)
+ended_done s (AnyCall.records c rs) a =
+    let k = call_agrees c.tree (lent s c) rs in EndedAny.records (call-ended k (plain-ended c.tree (lent s c) a)) (behind k)
 ended_done s (AnyCall.names c xs) a =
     let k = call_agrees c.tree (lent s c) (blanks (length xs / 4)) in
     EndedAny.names (call-ended k (plain-ended c.tree (lent s c) a)) (behind-rows xs (length-replicate (length xs / 4) _) k)
 
 -- of any calls that give what the definition's turns give
-pub any_condition_1 : {K : Bytes → AnyCall → AnyDone → Type 0} → Gives K → {s : Bytes} {c : AnyCall} {x : AnyDone} → AreBytes (take session_size (lent s (call_of c)).session) → K s c x → EndedAny (lent s (call_of c)) c x
+pub any_condition_1 : {K : Bytes → AnyCall → AnyDone → Type 0} → Gives K → {s : Bytes} {c : AnyCall} {x : AnyDone}
+    → AreBytes (take session_size (lent s (call_of c)).session) → K s c x → EndedAny (lent s (call_of c)) c x
 any_condition_1 g {s} {c} {x} a k = subst (EndedAny (lent s (call_of c)) c) (sym (g s c x k)) (ended_done s c a)
 
 -- Condition 1 of every call that keeps the promise of `compile`, `compile_with_records` or `compile_names`
-pub mixed_condition_1 : {s : Bytes} {c : AnyCall} {x : AnyDone} → AreBytes (take session_size (lent s (call_of c)).session) → Kept s c x → EndedAny (lent s (call_of c)) c x
+pub mixed_condition_1 : {s : Bytes} {c : AnyCall} {x : AnyDone} → AreBytes (take session_size (lent s (call_of c)).session) → Kept s c x
+    → EndedAny (lent s (call_of c)) c x
 mixed_condition_1 a k = any_condition_1 kept_done a k

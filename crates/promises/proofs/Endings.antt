@@ -24,7 +24,8 @@ abbrev pub EndsAs : List ℕ → ℕ → (ℕ → List Buffer) → List Buffer �
 EndsAs numbers places buffers works a = Ended numbers places buffers works (high a) (low a)
 
 -- then its number does
-pub packed_ends : {numbers : List ℕ} {places : ℕ} {buffers : ℕ → List Buffer} {works : List Buffer} {a : Answer} {r : ℕ} → Packs a r → EndsAs numbers places buffers works a → Ends numbers places buffers works r
+pub packed_ends : {numbers : List ℕ} {places : ℕ} {buffers : ℕ → List Buffer} {works : List Buffer} {a : Answer} {r : ℕ} → Packs a r
+    → EndsAs numbers places buffers works a → Ends numbers places buffers works r
 packed_ends {numbers} {places} {buffers} {works} k e = subst₂ (Ended numbers places buffers works) (sym k.number) (sym k.value) e
 
 -- a number that is not 1
@@ -37,7 +38,8 @@ not_one numbers h n t e = let l = ltb→lt 1 n (of_each later numbers h n t) in 
 
 module _ (numbers : List ℕ) (h : T (each later numbers)) (places : ℕ) where
   -- a refusal of a call that leaves its output
-  pub kept : {o : List ℕ} (q : Refusal) → T (is_one_of numbers (number_of q.reason)) → q.place ≤ places → EndsAs numbers places (output o o) [] (Err q)
+  pub kept : {o : List ℕ} (q : Refusal) → T (is_one_of numbers (number_of q.reason)) → q.place ≤ places
+      → EndsAs numbers places (output o o) [] (Err q)
   kept q t p = Ended.refused t (not_one numbers h (number_of q.reason) t) p (All.more (record { same = refl }) All.none) All.none
 
   -- one of a call that has none
@@ -45,13 +47,17 @@ module _ (numbers : List ℕ) (h : T (each later numbers)) (places : ℕ) where
   bare q t p = Ended.refused t (not_one numbers h (number_of q.reason) t) p All.none All.none
 
   -- bytes or numbers that are written where there is room, else 15
-  pub wrote : T (is_one_of numbers (number_of output_short)) → (new o : List ℕ) → EndsAs numbers places (output o (output_after new o)) [] (output_answer new (length o))
+  pub wrote : T (is_one_of numbers (number_of output_short)) → (new o : List ℕ)
+      → EndsAs numbers places (output o (output_after new o)) [] (output_answer new (length o))
   wrote t new o = go (leb (length new) (length o)) refl
     where
-      go : (b : Bool) → leb (length new) (length o) ≡ b → EndsAs numbers places (output o (pick b (over new o) o)) [] (pick b (Ok (length new)) (Err (refusal output_short 0)))
-      go true e = Ended.answered refl (All.more (record { room = leb-true (length new) (length o) e; behind = drop-append_seam new (drop (length new) o) }) All.none) All.none
+      go : (b : Bool) → leb (length new) (length o) ≡ b
+          → EndsAs numbers places (output o (pick b (over new o) o)) [] (pick b (Ok (length new)) (Err (refusal output_short 0)))
+      go true e =
+          Ended.answered refl (All.more (record { room = leb-true (length new) (length o) e; behind = drop-append_seam new (drop (length new) o) }) All.none) All.none
       go false e = kept (refusal output_short 0) t (omega arith)
 
   -- an output that equals another
-  pub kept_as : {o o₁ o₂ : List ℕ} (a : Answer) → o₂ ≡ o₁ → EndsAs numbers places (output o o₁) [] a → EndsAs numbers places (output o o₂) [] a
+  pub kept_as : {o o₁ o₂ : List ℕ} (a : Answer) → o₂ ≡ o₁ → EndsAs numbers places (output o o₁) [] a
+      → EndsAs numbers places (output o o₂) [] a
   kept_as {o} a e k = subst (λ x. EndsAs numbers places (output o x) [] a) (sym e) k

@@ -1,5 +1,5 @@
--- Condition 1 of the exported trial run: nine bytes for each global, written at the front of the output; or 1, 17, 25, 27, 15, 28 or 29 with its place, the output as it was; the work area
--- zeroed, untouched where it is too short.
+-- Condition 1 of the exported trial run: nine bytes for each global, written at the front of the output; or 1, 17, 25, 27, 15, 28 or 29
+-- with its place, the output as it was; the work area zeroed, untouched where it is too short.
 use Prim.Native.Nat.{ℕ, zero, suc, ◌+◌, ◌*◌, ◌%◌, ◌≤◌}
 use native.Mathlib.Omega.{arith}
 use mathlib.Core.Bool.{Bool, true, false}
@@ -55,8 +55,10 @@ stop_later (StopNumber.operand e) = subst (λ k. T (is_one_of later (number_of k
 stop_later (StopNumber.unset e) = subst (λ k. T (is_one_of later (number_of k))) (sym e) tt
 
 module _ (hs : List ℕ) (room : ℕ) where
-  room_numbered : (m : Image) {ns : List ℕ} → judged hs m m.pool ≡ Verdict.tops ns → refused_with hs m ≡ none → Numbered room (room_outcome m room)
-  room_numbered m e r = chosen (Numbered room) (leb (9 * named_globals m.code) room) (λ l. go (trial m) refl (leb-true (9 * named_globals m.code) room l)) (λ _. Numbered.refused {q = refusal output_short 0} tt)
+  room_numbered : (m : Image) {ns : List ℕ} → judged hs m m.pool ≡ Verdict.tops ns → refused_with hs m ≡ none
+      → Numbered room (room_outcome m room)
+  room_numbered m e r =
+      chosen (Numbered room) (leb (9 * named_globals m.code) room) (λ l. go (trial m) refl (leb-true (9 * named_globals m.code) room l)) (λ _. Numbered.refused {q = refusal output_short 0} tt)
     where
       go : (t : Trial) → trial m ≡ t → 9 * named_globals m.code ≤ room → Numbered room (trial_outcome (named_globals m.code) t)
       go (Trial.ran g k) q h = Numbered.ran h
@@ -66,7 +68,8 @@ module _ (hs : List ℕ) (room : ℕ) where
   image_numbered (malformed p) = Numbered.refused {q = refusal bad_image p} tt
   image_numbered (decoded m n) = by (judged hs m m.pool) refl
     where
-      taken : {ns : List ℕ} → judged hs m m.pool ≡ Verdict.tops ns → (o : Option ℕ) → refused_with hs m ≡ o → Numbered room (taken_outcome o m room)
+      taken : {ns : List ℕ} → judged hs m m.pool ≡ Verdict.tops ns → (o : Option ℕ) → refused_with hs m ≡ o
+          → Numbered room (taken_outcome o m room)
       taken e (some p) r = Numbered.refused {q = refusal Number.not_runnable (3 + p)} tt
       taken e none r = room_numbered m e r
 
@@ -85,14 +88,18 @@ cell_long (some null) = ap suc (bytes_long 8 0)
 shown_long : (n : ℕ) (g : Globals) → length (shown n g) ≡ 9 * n
 unfolding shown
 shown_long zero g = refl
-shown_long (suc n) g = length-append (shown n g) (cell_of (get_or g n none)) ∙ (let e = shown_long n g in let f = cell_long (get_or g n none) in omega arith)
+shown_long (suc n) g =
+    length-append (shown n g) (cell_of (get_or g n none)) ∙ (let e = shown_long n g in let f = cell_long (get_or g n none) in omega arith)
 
 -- `monkey_run`
-pub ends_run : {image : Bytes} {hs w w' : List ℕ} {o o' : Bytes} {r : ℕ} → AreBytes image → RunsPacked image hs w o r w' o' → Ends run_numbers 65536 (shown_globals o o') (buffer work_size w w' ∷ []) r
+pub ends_run : {image : Bytes} {hs w w' : List ℕ} {o o' : Bytes} {r : ℕ} → AreBytes image → RunsPacked image hs w o r w' o'
+    → Ends run_numbers 65536 (shown_globals o o') (buffer work_size w w' ∷ []) r
 ends_run {image} {hs} {w} {w'} {o} {o'} {r} a k =
     subst₂ (λ x y. Ends run_numbers 65536 (shown_globals o x) (buffer work_size w y ∷ []) r) (sym k.output) (sym k.work) (go (ltb (length w) work_size) refl (run_small image a hs (length w) (length o)) k.answer k.parts)
   where
-    by : (x : Outcome) → Numbered (length o) x → Small x → work_size ≤ length w → Packs (ran_answer (outcome_answer x)) r → ((n : ℕ) (g : Globals) (i : ℕ) → x ≡ Outcome.ran n g i → Pairs n i (r % half_bound)) → Ends run_numbers 65536 (shown_globals o (outcome_into x o)) (buffer work_size w (cleared work_size w) ∷ []) r
+    by : (x : Outcome) → Numbered (length o) x → Small x → work_size ≤ length w → Packs (ran_answer (outcome_answer x)) r
+        → ((n : ℕ) (g : Globals) (i : ℕ) → x ≡ Outcome.ran n g i → Pairs n i (r % half_bound))
+        → Ends run_numbers 65536 (shown_globals o (outcome_into x o)) (buffer work_size w (cleared work_size w) ∷ []) r
     by (Outcome.ran n g i) (Numbered.ran h) s l k p =
         let new = shown n g in
         let b : drop (9 * n) (over new o) ≡ drop (9 * n) o = ap (λ j. drop j (over new o)) (sym (shown_long n g)) ∙ drop-append_seam new (drop (length new) o) ∙ ap (λ j. drop j o) (shown_long n g) in
@@ -102,7 +109,9 @@ ends_run {image} {hs} {w} {w'} {o} {o'} {r} a k =
         Ended.refused (subst (λ n. T (is_one_of run_numbers n)) (sym k.number) (among later run_numbers tt (number_of q.reason) t)) (λ f. not_one later tt (number_of q.reason) t (sym k.number ∙ f)) (subst (λ v. v ≤ 65536) (sym k.value) m)
         (All.more (record { same = refl }) All.none) (All.more (record { room = l; zeros = refl }) All.none)
 
-    go : (b : Bool) → ltb (length w) work_size ≡ b → Small (pick b (Outcome.refused (refusal short_buffer 0)) (image_outcome (read_image image) hs (length o))) → Packs (ran_answer (outcome_answer (pick b (Outcome.refused (refusal short_buffer 0)) (image_outcome (read_image image) hs (length o))))) r
+    go : (b : Bool) → ltb (length w) work_size ≡ b
+        → Small (pick b (Outcome.refused (refusal short_buffer 0)) (image_outcome (read_image image) hs (length o)))
+        → Packs (ran_answer (outcome_answer (pick b (Outcome.refused (refusal short_buffer 0)) (image_outcome (read_image image) hs (length o))))) r
         → ((n : ℕ) (g : Globals) (i : ℕ) → pick b (Outcome.refused (refusal short_buffer 0)) (image_outcome (read_image image) hs (length o)) ≡ Outcome.ran n g i → Pairs n i (r % half_bound))
         → Ends run_numbers 65536 (shown_globals o (outcome_into (pick b (Outcome.refused (refusal short_buffer 0)) (image_outcome (read_image image) hs (length o))) o)) (buffer work_size w (pick b w (cleared work_size w)) ∷ []) r
     go true e s k p =

@@ -1,4 +1,5 @@
--- Condition 1 of the exported calls that read a text: the tree, or a token's three numbers, written at the front of the output; or 20, 21, 4 or 15 with its place, the output as it was.
+-- Condition 1 of the exported calls that read a text: the tree, or a token's three numbers, written at the front of the output; or 20, 21,
+-- 4 or 15 with its place, the output as it was.
 use Prim.Native.Nat.{ℕ, zero, suc, ◌≤◌}
 use native.Mathlib.Omega.{arith}
 use mathlib.Core.List.{List, [], ◌∷◌}
@@ -76,7 +77,8 @@ module _ (lent : ℕ) where
 
   reading : (text : Bytes) → Reading lent (read_text lent text)
   unfolding read_text
-  reading text = verdict_reading (scan_text text) (tail_ends (byte_at text) (length text) (suc (length text)) 0) (read_row (scan_text text).tokens)
+  reading text =
+      verdict_reading (scan_text text) (tail_ends (byte_at text) (length text) (suc (length text)) 0) (read_row (scan_text text).tokens)
 
 -- `monkey_read_text`
 pub ends_read_text : {text o o' : Bytes} {r : ℕ} → ReadsPacked text o r o' → Ends text_numbers text_limit (output o o') [] r
@@ -84,8 +86,10 @@ ends_read_text {text} {o} k =
     let x = read_text (length o) text in
     packed_ends k.answer (kept_as text_numbers tt text_limit (answer_of x) k.output (go x (reading (length o) text) (read_within (length o) text)))
   where
-    go : (x : Outcome) → Reading (length o) x → ReadWithin (answer_of x) → EndsAs text_numbers text_limit (output o (output_of x o)) [] (answer_of x)
-    go (tree b) (Reading.wrote h) w = Ended.answered refl (All.more (record { room = h; behind = drop-append_seam b (drop (length b) o) }) All.none) All.none
+    go : (x : Outcome) → Reading (length o) x → ReadWithin (answer_of x)
+        → EndsAs text_numbers text_limit (output o (output_of x o)) [] (answer_of x)
+    go (tree b) (Reading.wrote h) w =
+        Ended.answered refl (All.more (record { room = h; behind = drop-append_seam b (drop (length b) o) }) All.none) All.none
     go (refused q) (Reading.stopped t) (ReadWithin.refused n p) = kept text_numbers tt text_limit q t p
 
 -- what is told of an offset: numbers, or a refusal with one of the two
@@ -102,14 +106,17 @@ next_tells (finished end) = Tells.numbers
 
 token_tells : (text : Bytes) (at : ℕ) → Tells (token_at text at)
 unfolding token_at
-token_tells text at = chosen Tells (leb at (end_of text)) (λ _. next_tells (next_at (byte_at text) (length text) at)) (λ _. Tells.refuses tt)
+token_tells text at =
+    chosen Tells (leb at (end_of text)) (λ _. next_tells (next_at (byte_at text) (length text) at)) (λ _. Tells.refuses tt)
 
 -- `monkey_next_token`
-pub ends_next_token : {text : Bytes} {at : ℕ} {o o' : List ℕ} {r : ℕ} → TokenPacked text at o r o' → Ends token_numbers text_limit (output o o') [] r
+pub ends_next_token : {text : Bytes} {at : ℕ} {o o' : List ℕ} {r : ℕ} → TokenPacked text at o r o'
+    → Ends token_numbers text_limit (output o o') [] r
 ends_next_token {text} {at} {o} k =
     let x = token_at text at in
     packed_ends k.answer (kept_as token_numbers tt text_limit (numbers_answer x (length o)) k.output (go x (token_tells text at) (told_within text at)))
   where
-    go : (x : Answered (List ℕ) Refusal) → Tells x → ToldWithin x → EndsAs token_numbers text_limit (output o (numbers_into x o)) [] (numbers_answer x (length o))
+    go : (x : Answered (List ℕ) Refusal) → Tells x → ToldWithin x
+        → EndsAs token_numbers text_limit (output o (numbers_into x o)) [] (numbers_answer x (length o))
     go (Ok ns) t w = written_or_15 token_numbers tt text_limit tt ns o
     go (Err q) (Tells.refuses t) (ToldWithin.refused n p) = kept token_numbers tt text_limit q t p

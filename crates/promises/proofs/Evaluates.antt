@@ -49,10 +49,13 @@ pub record Accepted (a : Bytes) (w : Words) (c : Call) (n : ℕ) (x : Called) : 
   pub reads : read_image (take n x.lent.output) ≡ decoded image (length (image_bytes image))
 
 -- it is the definition's image
-pub accepted : {a : Bytes} {w : Words} → Start a w → (c : Call) {n : ℕ} → (call c.tree (lent a c)).answer ≡ Ok n → Accepted a w c n (call c.tree (lent a c))
-accepted {a} {w} h c {n} e = go (compile (begun w) (request (lent a c) c.tree)).outcome refl (call_does a (begun w) (start_holds h) c).gave e
+pub accepted : {a : Bytes} {w : Words} → Start a w → (c : Call) {n : ℕ} → (call c.tree (lent a c)).answer ≡ Ok n
+    → Accepted a w c n (call c.tree (lent a c))
+accepted {a} {w} h c {n} e =
+    go (compile (begun w) (request (lent a c) c.tree)).outcome refl (call_does a (begun w) (start_holds h) c).gave e
   where
-    go : (y : Compile.Outcome) → (compile (begun w) (request (lent a c) c.tree)).outcome ≡ y → {x : Called} → Gave y x → x.answer ≡ Ok n → Accepted a w c n x
+    go : (y : Compile.Outcome) → (compile (begun w) (request (lent a c) c.tree)).outcome ≡ y → {x : Called} → Gave y x → x.answer ≡ Ok n
+        → Accepted a w c n x
     go (Compile.Outcome.accepted m) q {x} (Gave.accepted b t g) e =
         let z : length (image_bytes m) ≡ n = cc in
         let v = (compile-valid (begun w) (start_holds h).valid (request (lent a c) c.tree)).image m q in
@@ -67,7 +70,8 @@ pub record Ends (tree : Bytes) (x : Outcome) : Type 0 where
   pub evaluates : trial_end run ≡ tree_end (read_tree tree)
 
 -- of the definition's calls
-pub call_ends : {a : Bytes} {w : Words} → Start a w → (c : Call) {n : ℕ} → (call c.tree (lent a c)).answer ≡ Ok n → (hs : List ℕ) (work room : ℕ)
+pub call_ends : {a : Bytes} {w : Words} → Start a w → (c : Call) {n : ℕ} → (call c.tree (lent a c)).answer ≡ Ok n
+    → (hs : List ℕ) (work room : ℕ)
     → Later (run_outcome (take n (call c.tree (lent a c)).lent.output) hs work room) → Ends c.tree (run_outcome (take n (call c.tree (lent a c)).lent.output) hs work room)
 call_ends {a} {w} h c {n} e hs work room l =
     let k = accepted h c e in
@@ -77,33 +81,40 @@ call_ends {a} {w} h c {n} e hs work room l =
     record { count = named_globals m.code; run = trial m; is = t.is; evaluates = call_agrees w (request (lent a c) c.tree) k.outcome (all_runnable m.pool m.code (λ i p q. s.runs q)) }
 
 -- of a call that wrote what the definition's plain call writes
-pub real_ends : {a : Bytes} {w : Words} → Start a w → (c : Call) {n : ℕ} {l' : Lent} → (call c.tree (lent a c)).answer ≡ Ok n → l' ≡ (call c.tree (lent a c)).lent → (hs : List ℕ) (work room : ℕ)
+pub real_ends : {a : Bytes} {w : Words} → Start a w → (c : Call) {n : ℕ} {l' : Lent} → (call c.tree (lent a c)).answer ≡ Ok n
+    → l' ≡ (call c.tree (lent a c)).lent → (hs : List ℕ) (work room : ℕ)
     → Later (run_outcome (take n l'.output) hs work room) → Ends c.tree (run_outcome (take n l'.output) hs work room)
 real_ends {a} h c {n} e p hs work room =
     subst (λ (l : Lent). Later (run_outcome (take n l.output) hs work room) → Ends c.tree (run_outcome (take n l.output) hs work room)) (sym p) (call_ends h c e hs work room)
 
 -- as an answer and an output
-shows : (tree o : Bytes) {x : Outcome} (n : ℕ) (t : Trial) → x ≡ trial_outcome n t → trial_end t ≡ tree_end (read_tree tree) → {r : Result Ran Refusal} {o' : Bytes} → r ≡ outcome_answer x → o' ≡ outcome_into x o → EvaluatedAs tree o r o'
-shows tree o n (Trial.ran g k) q e f d = subst₂ (EvaluatedAs tree o) (sym (f ∙ ap outcome_answer q)) (sym (d ∙ ap (λ x. outcome_into x o) q)) (EvaluatedAs.globals (sym e))
-shows tree o n (Trial.stopped k p) q e f d = subst₂ (EvaluatedAs tree o) (sym (f ∙ ap outcome_answer q)) (sym (d ∙ ap (λ x. outcome_into x o) q)) (EvaluatedAs.stop (sym e))
+shows : (tree o : Bytes) {x : Outcome} (n : ℕ) (t : Trial) → x ≡ trial_outcome n t → trial_end t ≡ tree_end (read_tree tree)
+    → {r : Result Ran Refusal} {o' : Bytes} → r ≡ outcome_answer x → o' ≡ outcome_into x o → EvaluatedAs tree o r o'
+shows tree o n (Trial.ran g k) q e f d =
+    subst₂ (EvaluatedAs tree o) (sym (f ∙ ap outcome_answer q)) (sym (d ∙ ap (λ x. outcome_into x o) q)) (EvaluatedAs.globals (sym e))
+shows tree o n (Trial.stopped k p) q e f d =
+    subst₂ (EvaluatedAs tree o) (sym (f ∙ ap outcome_answer q)) (sym (d ∙ ap (λ x. outcome_into x o) q)) (EvaluatedAs.stop (sym e))
 
 -- a plain call, and one with records or numbers, that was accepted wrote what the plain call writes
-pub done_plain : (s : Bytes) (c : AnyCall) {n : ℕ} → (turn s (turn_of c)).called.answer ≡ Ok n → (turn s (turn_of c)).called ≡ call (call_of c).tree (lent s (call_of c))
+pub done_plain : (s : Bytes) (c : AnyCall) {n : ℕ} → (turn s (turn_of c)).called.answer ≡ Ok n
+    → (turn s (turn_of c)).called ≡ call (call_of c).tree (lent s (call_of c))
 done_plain s (AnyCall.plain c) e = refl
 done_plain s (AnyCall.records c rs) {n} e = accepted_plain c.tree (lent s c) rs n e
 done_plain s (AnyCall.names c xs) {n} e = accepted_plain c.tree (lent s c) (blanks (length xs / 4)) n e
 
 -- what calls that give what the definition's turns give wrote
-pub any_ends : {K : Bytes → AnyCall → AnyDone → Type 0} → Gives K → {a : Bytes} {w : Words} → Start a w → (c : AnyCall) {x : AnyDone} → K a c x → (n : ℕ) → (called_of x).answer ≡ Ok n → (hs : List ℕ) (work room : ℕ)
+pub any_ends : {K : Bytes → AnyCall → AnyDone → Type 0} → Gives K → {a : Bytes} {w : Words} → Start a w → (c : AnyCall) {x : AnyDone}
+    → K a c x → (n : ℕ) → (called_of x).answer ≡ Ok n → (hs : List ℕ) (work room : ℕ)
     → Later (run_outcome (take n (called_of x).lent.output) hs work room) → Ends (call_of c).tree (run_outcome (take n (called_of x).lent.output) hs work room)
 any_ends g {a} h c {x} k n e hs work room =
     let d : called_of x ≡ (turn a (turn_of c)).called = ap called_of (g a c x k) ∙ called_done c (turn a (turn_of c)) in
     let p : called_of x ≡ call (call_of c).tree (lent a (call_of c)) = d ∙ done_plain a c (sym (ap (λ (y : Called). y.answer) d) ∙ e) in
     real_ends h (call_of c) (sym (ap (λ (y : Called). y.answer) p) ∙ e) (ap (λ (y : Called). y.lent) p) hs work room
 
--- a first call in a session that was made, of any kind, accepted the tree; a call that keeps the promise of `run`, on its image, any heights, work area and output, is refused with none
--- of 1, 17, 25, 27 and 15
-pub compile_evaluates : {a : Bytes} {w : Words} → MadeBy a w → (c : AnyCall) {x : AnyDone} → Kept (take session_size a) c x → (n : ℕ) → (called_of x).answer ≡ Ok n
+-- a first call in a session that was made, of any kind, accepted the tree; a call that keeps the promise of `run`, on its image, any
+-- heights, work area and output, is refused with none of 1, 17, 25, 27 and 15
+pub compile_evaluates : {a : Bytes} {w : Words} → MadeBy a w → (c : AnyCall) {x : AnyDone} → Kept (take session_size a) c x → (n : ℕ)
+    → (called_of x).answer ≡ Ok n
     → (hs work : List ℕ) (o : Bytes) {r : Result Ran Refusal} {o' : Bytes} → r ≡ outcome_answer (run_outcome (take n (called_of x).lent.output) hs (length work) (length o))
     → o' ≡ outcome_into (run_outcome (take n (called_of x).lent.output) hs (length work) (length o)) o
     → NotUpTo15 r → EvaluatedAs (call_of c).tree o r o'

@@ -1,4 +1,5 @@
--- Condition 2 of a call of any kind: image, session and records are the definition's, and a tree is refused exactly when the definition refuses it, with its number and place.
+-- Condition 2 of a call of any kind: image, session and records are the definition's, and a tree is refused exactly when the definition
+-- refuses it, with its number and place.
 use Prim.Native.Nat.{ℕ, ◌*◌, ◌/◌}
 use native.Mathlib.Omega.{arith}
 use mathlib.Core.Bool.{true, false}
@@ -41,25 +42,31 @@ module _ (tree : Bytes) (l : Lent) (rs : List Record) where
   -- what the call is, by the two tests
   pub when_short : enough (request l tree) ≡ false → call_records tree l rs ≡ unrecorded rs (record { answer = Err (refusal Number.short_buffer 0); lent = l })
   unfolding call_records
-  when_short e = pick_false (in_session_records l rs tree (read_session (take session_size l.session))) (unrecorded rs (record { answer = Err (refusal Number.short_buffer 0); lent = l })) e
+  when_short e =
+      pick_false (in_session_records l rs tree (read_session (take session_size l.session))) (unrecorded rs (record { answer = Err (refusal Number.short_buffer 0); lent = l })) e
 
   -- where all that is lent is long enough
-  pub when_enough : enough (request l tree) ≡ true → call_records tree l rs ≡ in_session_records l rs tree (read_session (take session_size l.session))
+  pub when_enough : enough (request l tree) ≡ true
+      → call_records tree l rs ≡ in_session_records l rs tree (read_session (take session_size l.session))
   unfolding call_records
-  when_enough e = pick_true (in_session_records l rs tree (read_session (take session_size l.session))) (unrecorded rs (record { answer = Err (refusal Number.short_buffer 0); lent = l })) e
+  when_enough e =
+      pick_true (in_session_records l rs tree (read_session (take session_size l.session))) (unrecorded rs (record { answer = Err (refusal Number.short_buffer 0); lent = l })) e
 
   -- a refusal that is not 18 is the plain call's
-  as-plain : {x : Recorded} {y : Called} → CallAgrees tree l rs x y → (n : Reason) → (number_of Number.few_records ≡ number_of n → ⊥) → x.called.answer ≡ Err (refusal n 0) → y.answer ≡ Err (refusal n 0)
+  as-plain : {x : Recorded} {y : Called} → CallAgrees tree l rs x y → (n : Reason) → (number_of Number.few_records ≡ number_of n → ⊥)
+      → x.called.answer ≡ Err (refusal n 0) → y.answer ≡ Err (refusal n 0)
   as-plain (CallAgrees.refused r e) n k f = f
   as-plain (CallAgrees.accepted new e _ _) n k f = f
-  as-plain (CallAgrees.few _) n k f = let z : refusal Number.few_records 0 ≡ refusal n 0 = cc in absurd (k (ap (λ (r : Refusal). number_of r.reason) z))
+  as-plain (CallAgrees.few _) n k f =
+      let z : refusal Number.few_records 0 ≡ refusal n 0 = cc in absurd (k (ap (λ (r : Refusal). number_of r.reason) z))
 
   -- in a session
   module _ (written : List Record → Type 0) (gives : (t : Traced) → call_records tree l rs ≡ recorded l rs t → written t.records) (z : Session) where
     abbrev next : Traced
     next = compile_records (length rs) z (request l tree)
 
-    exact : call_records tree l rs ≡ recorded l rs next → (o : Outcome) → next.step.outcome ≡ o → {x : Called} → x ≡ answered l next.step.session o → (call_records tree l rs).count ≡ length next.records
+    exact : call_records tree l rs ≡ recorded l rs next → (o : Outcome) → next.step.outcome ≡ o → {x : Called}
+        → x ≡ answered l next.step.session o → (call_records tree l rs).count ≡ length next.records
         → ExactRecordsIn tree (length rs) z l x (call_records tree l rs).count written
     exact g (Outcome.accepted m) e {x} q c =
         record {
@@ -83,13 +90,15 @@ module _ (tree : Bytes) (l : Lent) (rs : List Record) where
         again : {p : Refusal} → ◌≡◌ {A = Answer} (Err r) (Err p) → r ≡ p
         again e = cc
 
-    exact_in : (n : ℕ) → enough (request l tree) ≡ true → read_session (take session_size l.session) ≡ decoded z n → ExactRecordsIn tree (length rs) z l (call_records tree l rs).called (call_records tree l rs).count written
+    exact_in : (n : ℕ) → enough (request l tree) ≡ true → read_session (take session_size l.session) ≡ decoded z n
+        → ExactRecordsIn tree (length rs) z l (call_records tree l rs).called (call_records tree l rs).count written
     exact_in n big reads =
         let g : call_records tree l rs ≡ recorded l rs next = when_enough big ∙ ap (in_session_records l rs tree) reads in
         exact g next.step.outcome refl (ap (λ (x : Recorded). x.called) g) (ap (λ (x : Recorded). x.count) g)
 
   -- on any bytes
-  exact_records : AreBytes (take session_size l.session) → (written : List Record → Type 0) → ((t : Traced) → call_records tree l rs ≡ recorded l rs t → written t.records)
+  exact_records : AreBytes (take session_size l.session) → (written : List Record → Type 0)
+      → ((t : Traced) → call_records tree l rs ≡ recorded l rs t → written t.records)
       → ExactRecords tree (length rs) l (call_records tree l rs).called (call_records tree l rs).count written
   exact_records a written gives =
       let p = plain_exact tree l a in
@@ -101,11 +110,13 @@ module _ (tree : Bytes) (l : Lent) (rs : List Record) where
       }
 
   -- the records written stand at the front
-  at_front : (t : Traced) → call_records tree l rs ≡ recorded l rs t → take (call_records tree l rs).count (call_records tree l rs).records ≡ t.records
+  at_front : (t : Traced) → call_records tree l rs ≡ recorded l rs t
+      → take (call_records tree l rs).count (call_records tree l rs).records ≡ t.records
   at_front t e = subst (λ (x : Recorded). take x.count x.records ≡ t.records) (sym e) (take-append_seam t.records _)
 
 -- what the definition's turn gives
-exact_done : (s : Bytes) (c : AnyCall) → AreBytes (take session_size (lent s (call_of c)).session) → ExactAny (lent s (call_of c)) c (done_of c (turn s (turn_of c)))
+exact_done : (s : Bytes) (c : AnyCall) → AreBytes (take session_size (lent s (call_of c)).session)
+    → ExactAny (lent s (call_of c)) c (done_of c (turn s (turn_of c)))
 exact_done s (AnyCall.plain c) a = ExactAny.plain (plain_exact c.tree (lent s c) a)
 exact_done s (AnyCall.records c rs) a =
     let x = call_records c.tree (lent s c) rs in
@@ -119,9 +130,11 @@ exact_done s (AnyCall.names c xs) a =
     (λ t e. rows_front xs x.count x.records t.records (ap (λ (x : Recorded). x.count) e) (at_front c.tree (lent s c) rs t e))))
 
 -- of any calls that give what the definition's turns give
-pub any_condition_2 : {K : Bytes → AnyCall → AnyDone → Type 0} → Gives K → {s : Bytes} {c : AnyCall} {x : AnyDone} → AreBytes (take session_size (lent s (call_of c)).session) → K s c x → ExactAny (lent s (call_of c)) c x
+pub any_condition_2 : {K : Bytes → AnyCall → AnyDone → Type 0} → Gives K → {s : Bytes} {c : AnyCall} {x : AnyDone}
+    → AreBytes (take session_size (lent s (call_of c)).session) → K s c x → ExactAny (lent s (call_of c)) c x
 any_condition_2 g {s} {c} {x} a k = subst (ExactAny (lent s (call_of c)) c) (sym (g s c x k)) (exact_done s c a)
 
 -- Condition 2 of every call that keeps the promise of `compile`, `compile_with_records` or `compile_names`
-pub mixed_condition_2 : {s : Bytes} {c : AnyCall} {x : AnyDone} → AreBytes (take session_size (lent s (call_of c)).session) → Kept s c x → ExactAny (lent s (call_of c)) c x
+pub mixed_condition_2 : {s : Bytes} {c : AnyCall} {x : AnyDone} → AreBytes (take session_size (lent s (call_of c)).session) → Kept s c x
+    → ExactAny (lent s (call_of c)) c x
 mixed_condition_2 a k = any_condition_2 kept_done a k

@@ -1,4 +1,5 @@
--- In condition 3's two series, of plain calls and calls with records, both images of every step have equal counts, rests and frame lengths at one frame size.
+-- In condition 3's two series, of plain calls and calls with records, both images of every step have equal counts, rests and frame lengths
+-- at one frame size.
 use mathlib.Core.List.{List, map}
 use mathlib.Core.Path.{◌≡◌, subst₂}
 use Rattle.definition.specs.Basic.{Bytes}
@@ -20,15 +21,20 @@ trusted_sound : {x : Called} → TrustedCall x → Sound x
 trusted_sound t = record { reads = λ n e. ((t.wrote n e).image, (t.wrote n e).reads) }
 
 -- every step
-pub each_frames : {compared : Type 0} {ps : List Traced} {xs ys : List Recorded} → IndistinguishableTurns compared ps xs ys → All (λ (x : Recorded). TrustedCall x.called) xs → All (λ (y : Recorded). TrustedCall y.called) ys
+pub each_frames : {compared : Type 0} {ps : List Traced} {xs ys : List Recorded} → IndistinguishableTurns compared ps xs ys
+    → All (λ (x : Recorded). TrustedCall x.called) xs → All (λ (y : Recorded). TrustedCall y.called) ys
     → Stepwise FramesAlike (called_in xs) (called_in ys)
 each_frames IndistinguishableTurns.done All.none All.none = Stepwise.done
-each_frames (IndistinguishableTurns.step s rest) (All.more t ts) (All.more u us) = Stepwise.step (answers_alike s.called.answer (trusted_sound t) (trusted_sound u)) (each_frames rest ts us)
+each_frames (IndistinguishableTurns.step s rest) (All.more t ts) (All.more u us) =
+    Stepwise.step (answers_alike s.called.answer (trusted_sound t) (trusted_sound u)) (each_frames rest ts us)
 
 -- two series of turns from sessions of equal words
-pub turns_frames : {s t : Bytes} {u v : Words} → Start s u → Start t v → word_list u ≡ word_list v → (ts us : List Turn) → AllAlikeTurns ts us → Stepwise FramesAlike (called_in (turns s ts)) (called_in (turns t us))
+pub turns_frames : {s t : Bytes} {u v : Words} → Start s u → Start t v → word_list u ≡ word_list v → (ts us : List Turn)
+    → AllAlikeTurns ts us → Stepwise FramesAlike (called_in (turns s ts)) (called_in (turns t us))
 turns_frames x y e ts us alike = each_frames (condition_3_records x y e ts us alike) (trusted_turns x ts) (trusted_turns y us)
 
 -- and of plain calls
-pub calls_frames : {s t : Bytes} {u v : Words} → Start s u → Start t v → word_list u ≡ word_list v → (cs ds : List Call) → AllAlike cs ds → Stepwise FramesAlike (calls s cs) (calls t ds)
-calls_frames {s} {t} x y e cs ds alike = subst₂ (Stepwise FramesAlike) (plain-turns s cs) (plain-turns t ds) (turns_frames x y e (map Turn.plain cs) (map Turn.plain ds) (plain-alike alike))
+pub calls_frames : {s t : Bytes} {u v : Words} → Start s u → Start t v → word_list u ≡ word_list v → (cs ds : List Call) → AllAlike cs ds
+    → Stepwise FramesAlike (calls s cs) (calls t ds)
+calls_frames {s} {t} x y e cs ds alike =
+    subst₂ (Stepwise FramesAlike) (plain-turns s cs) (plain-turns t ds) (turns_frames x y e (map Turn.plain cs) (map Turn.plain ds) (plain-alike alike))

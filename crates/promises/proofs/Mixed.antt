@@ -52,7 +52,8 @@ ran_mixed Ran.none = RanBy.none
 ran_mixed (Ran.more p q) = RanBy.more (Kept.plain p) (ran_mixed q)
 
 -- so a series of them
-pub ran_done : {K : Bytes → AnyCall → AnyDone → Type 0} → Gives K → {s : Bytes} {cs : List AnyCall} {xs : List AnyDone} → RanBy K s cs xs → xs ≡ dones s cs
+pub ran_done : {K : Bytes → AnyCall → AnyDone → Type 0} → Gives K → {s : Bytes} {cs : List AnyCall} {xs : List AnyDone} → RanBy K s cs xs
+    → xs ≡ dones s cs
 ran_done g RanBy.none = refl
 ran_done g (RanBy.more {s} {c} {x} {cs} p q) =
     λ i. g s c x p i ∷ (ran_done g q ∙ ap (λ (y : Called). dones (session_after s y.lent.session) cs) (ap called_of (g s c x p) ∙ called_done c (turn s (turn_of c)))) i
@@ -60,19 +61,24 @@ ran_done g (RanBy.more {s} {c} {x} {cs} p q) =
 -- answers and lent memory are the turns'
 pub dones_called : (s : Bytes) (cs : List AnyCall) → map called_of (dones s cs) ≡ called_in (turns s (map turn_of cs))
 dones_called s [] = refl
-dones_called s (c ∷ cs) = λ i. called_done c (turn s (turn_of c)) i ∷ dones_called (session_after s (turn s (turn_of c)).called.lent.session) cs i
+dones_called s (c ∷ cs) =
+    λ i. called_done c (turn s (turn_of c)) i ∷ dones_called (session_after s (turn s (turn_of c)).called.lent.session) cs i
 
 -- so those of a series that ran
-pub ran_called : {K : Bytes → AnyCall → AnyDone → Type 0} → Gives K → {s : Bytes} {cs : List AnyCall} {xs : List AnyDone} → RanBy K s cs xs → map called_of xs ≡ called_in (turns s (map turn_of cs))
+pub ran_called : {K : Bytes → AnyCall → AnyDone → Type 0} → Gives K → {s : Bytes} {cs : List AnyCall} {xs : List AnyDone} → RanBy K s cs xs
+    → map called_of xs ≡ called_in (turns s (map turn_of cs))
 ran_called g {s} {cs} r = ap (map called_of) (ran_done g r) ∙ dones_called s cs
 
 -- what holds of every turn holds of every call
-pub all_done : (P : Called → Type 0) (s : Bytes) (cs : List AnyCall) → All (λ (x : Recorded). P x.called) (turns s (map turn_of cs)) → All (λ (x : AnyDone). P (called_of x)) (dones s cs)
+pub all_done : (P : Called → Type 0) (s : Bytes) (cs : List AnyCall) → All (λ (x : Recorded). P x.called) (turns s (map turn_of cs))
+    → All (λ (x : AnyDone). P (called_of x)) (dones s cs)
 all_done P s [] h = All.none
-all_done P s (c ∷ cs) (All.more h hs) = All.more (subst P (sym (called_done c (turn s (turn_of c)))) h) (all_done P (session_after s (turn s (turn_of c)).called.lent.session) cs hs)
+all_done P s (c ∷ cs) (All.more h hs) =
+    All.more (subst P (sym (called_done c (turn s (turn_of c)))) h) (all_done P (session_after s (turn s (turn_of c)).called.lent.session) cs hs)
 
 -- and of every call of a series that ran
-pub all_ran : {K : Bytes → AnyCall → AnyDone → Type 0} → Gives K → (P : Called → Type 0) {s : Bytes} {cs : List AnyCall} {xs : List AnyDone} → RanBy K s cs xs → All (λ (x : Recorded). P x.called) (turns s (map turn_of cs))
+pub all_ran : {K : Bytes → AnyCall → AnyDone → Type 0} → Gives K → (P : Called → Type 0) {s : Bytes} {cs : List AnyCall} {xs : List AnyDone}
+    → RanBy K s cs xs → All (λ (x : Recorded). P x.called) (turns s (map turn_of cs))
     → All (λ (x : AnyDone). P (called_of x)) xs
 all_ran g P {s} {cs} r h = subst (All (λ (x : AnyDone). P (called_of x))) (sym (ran_done g r)) (all_done P s cs h)
 
@@ -95,20 +101,23 @@ rows-length [] = refl
 rows-length (r ∷ rs) = let h = rows-length rs in omega arith
 
 -- they stand at the front
-pub rows_front : (xs : List ℕ) (n : ℕ) (rs new : List Record) → n ≡ length new → take n rs ≡ new → take (4 * n) (rows_of (take n rs) ++ drop (4 * n) xs) ≡ rows_of new
+pub rows_front : (xs : List ℕ) (n : ℕ) (rs new : List Record) → n ≡ length new → take n rs ≡ new
+    → take (4 * n) (rows_of (take n rs) ++ drop (4 * n) xs) ≡ rows_of new
 rows_front xs n rs new e h =
     let l : length (rows_of (take n rs)) ≡ 4 * n = ap (λ (l : List Record). length (rows_of l)) h ∙ rows-length new ∙ ap (λ k. 4 * k) (sym e) in
     take_at (rows_of (take n rs)) (drop (4 * n) xs) (4 * n) l ∙ ap rows_of h
 
 -- one step
-same_done : {compared : Type 0} {p : Traced} {c d : AnyCall} (x y : Recorded) → AlikeAny c d → SameTurn compared p x y → SameDone compared p (done_of c x) (done_of d y)
+same_done : {compared : Type 0} {p : Traced} {c d : AnyCall} (x y : Recorded) → AlikeAny c d → SameTurn compared p x y
+    → SameDone compared p (done_of c x) (done_of d y)
 same_done x y (AlikeAny.plain a) h = SameDone.plain h.called
 same_done x y (AlikeAny.records a e) h = SameDone.records h.called h.counts.0 h.counts.1 h.records.0 h.records.1
 same_done {p = p} x y (AlikeAny.names {xs = xs} {ys} a e) h =
     SameDone.names h.called h.counts.0 h.counts.1 (rows_front xs x.count x.records p.records h.counts.0 h.records.0) (rows_front ys y.count y.records p.records h.counts.1 h.records.1)
 
 -- all steps
-pub same_dones : {compared : Type 0} {ps : List Traced} {cs ds : List AnyCall} → AllAlikeAny cs ds → (s t : Bytes) → IndistinguishableTurns compared ps (turns s (map turn_of cs)) (turns t (map turn_of ds))
+pub same_dones : {compared : Type 0} {ps : List Traced} {cs ds : List AnyCall} → AllAlikeAny cs ds → (s t : Bytes)
+    → IndistinguishableTurns compared ps (turns s (map turn_of cs)) (turns t (map turn_of ds))
     → IndistinguishableMixed compared ps (dones s cs) (dones t ds)
 same_dones AllAlikeAny.none s t IndistinguishableTurns.done = IndistinguishableMixed.done
 same_dones (AllAlikeAny.more {c = c} {d} a rest) s t (IndistinguishableTurns.step h hs) =

@@ -1,5 +1,5 @@
--- Of exported calls: at every step of condition 3's two series `monkey_to_chin` answers one number of both images, with outputs equally long, and what it writes
--- agrees at all but the literals' places.
+-- Of exported calls: at every step of condition 3's two series `monkey_to_chin` answers one number of both images, with outputs equally
+-- long, and what it writes agrees at all but the literals' places.
 use Prim.Native.Nat.{ℕ, ◌/◌, ◌%◌}
 use native.Mathlib.Omega.{arith}
 use mathlib.Core.Bool.{Bool, true, false}
@@ -41,7 +41,8 @@ same_answers (SameGiven.agreeing k) e = let l = agree-length k in λ i. pick (le
 same_answers (SameGiven.refusing r) e = refl
 
 -- and what is written agrees
-front : {m : Mask} {g h : Given} → SameGiven m g h → (o p : Bytes) {o' p' : Bytes} (r : ℕ) → length o ≡ length p → Packs (answer_of g (length o)) r → o' ≡ output_of g o → p' ≡ output_of h p
+front : {m : Mask} {g h : Given} → SameGiven m g h → (o p : Bytes) {o' p' : Bytes} (r : ℕ) → length o ≡ length p
+    → Packs (answer_of g (length o)) r → o' ≡ output_of g o → p' ≡ output_of h p
     → r / half_bound ≡ 0 → Agree m (take (r % half_bound) o') (take (r % half_bound) p')
 front {m} (SameGiven.agreeing {b} {c} k) o p {o'} {p'} r e t f g z = go (leb (length b) (length o)) refl
   where
@@ -77,11 +78,15 @@ each-packed (ChinStepwise.step h rest) = ChinPackedStepwise.step (one h) (each-p
     one (ChinAlike.refused a b) = ChinPacked.refused a b
 
 -- of calls of `monkey_compile`
-pub monkey_chin : {a b : Bytes} {u v : Words} → MadeByPacked a u → MadeByPacked b v → word_list u ≡ word_list v → (cs ds : List Call) → AllAlike cs ds → (xs ys : List Called)
+pub monkey_chin : {a b : Bytes} {u v : Words} → MadeByPacked a u → MadeByPacked b v → word_list u ≡ word_list v → (cs ds : List Call)
+    → AllAlike cs ds → (xs ys : List Called)
     → RanPacked (take session_size a) cs xs → RanPacked (take session_size b) ds ys → ChinPackedStepwise (shapes u cs) xs ys
-monkey_chin m n e cs ds alike xs ys x y = each-packed (compile_chin (made-unpacked m) (made-unpacked n) e cs ds alike xs ys (ran-unpacked x) (ran-unpacked y))
+monkey_chin m n e cs ds alike xs ys x y =
+    each-packed (compile_chin (made-unpacked m) (made-unpacked n) e cs ds alike xs ys (ran-unpacked x) (ran-unpacked y))
 
 -- and of `monkey_compile_names` among them
-pub monkey_mixed_chin : {a b : Bytes} {u v : Words} → MadeByPacked a u → MadeByPacked b v → word_list u ≡ word_list v → (cs ds : List AnyCall) → AllAlikeAny cs ds → (xs ys : List AnyDone)
+pub monkey_mixed_chin : {a b : Bytes} {u v : Words} → MadeByPacked a u → MadeByPacked b v → word_list u ≡ word_list v
+    → (cs ds : List AnyCall) → AllAlikeAny cs ds → (xs ys : List AnyDone)
     → RanMixedPacked (take session_size a) cs xs → RanMixedPacked (take session_size b) ds ys → ChinPackedStepwise (steps_in (shaped_turns u (map turn_of cs))) (map called_of xs) (map called_of ys)
-monkey_mixed_chin m n e cs ds alike xs ys x y = each-packed (any_chin packed_done (made-start (made-unpacked m)) (made-start (made-unpacked n)) e alike x y)
+monkey_mixed_chin m n e cs ds alike xs ys x y =
+    each-packed (any_chin packed_done (made-start (made-unpacked m)) (made-start (made-unpacked n)) e alike x y)

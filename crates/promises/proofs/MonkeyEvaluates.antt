@@ -26,7 +26,8 @@ use Rattle.promises.proofs.MonkeyMixed.{packed_done}
 
 -- a number that is none of these refusals comes from such an outcome
 later_outcome : (o : Outcome) {r : ℕ} → Packs (ran_answer (outcome_answer o)) r → NotUpTo15Packed r → Later o
-later_outcome o p n = record { later = λ q f t. n.later (subst (λ k. T (is_one_of up_to15 k)) (sym (p.number ∙ ap (λ o. high (ran_answer (outcome_answer o))) f)) t) }
+later_outcome o p n =
+    record { later = λ q f t. n.later (subst (λ k. T (is_one_of up_to15 k)) (sym (p.number ∙ ap (λ o. high (ran_answer (outcome_answer o))) f)) t) }
 
 module _ {image : Bytes} {hs w : List ℕ} {o : Bytes} {r : ℕ} {w' : List ℕ} {o' : Bytes} (p : RunsPacked image hs w o r w' o') where
   -- what the run came to
@@ -34,7 +35,8 @@ module _ {image : Bytes} {hs w : List ℕ} {o : Bytes} {r : ℕ} {w' : List ℕ}
   outcome = run_outcome image hs (length w) (length o)
 
   -- as a number and an output
-  shows : (tree : Bytes) (n : ℕ) (t : Trial) → outcome ≡ trial_outcome n t → trial_end t ≡ tree_end (read_tree tree) → EvaluatedPacked tree o r o'
+  shows : (tree : Bytes) (n : ℕ) (t : Trial) → outcome ≡ trial_outcome n t → trial_end t ≡ tree_end (read_tree tree)
+      → EvaluatedPacked tree o r o'
   shows tree n (Trial.ran g k) q e =
       subst (EvaluatedPacked tree o r) (sym (p.output ∙ ap (λ x. outcome_into x o) q))
       (EvaluatedPacked.globals (sym e) (p.answer.number ∙ ap (λ x. high (ran_answer (outcome_answer x))) q) (p.parts n g k q))
@@ -42,9 +44,10 @@ module _ {image : Bytes} {hs w : List ℕ} {o : Bytes} {r : ℕ} {w' : List ℕ}
       subst (EvaluatedPacked tree o r) (sym (p.output ∙ ap (λ x. outcome_into x o) q))
       (EvaluatedPacked.stop {k = k} (sym e) (p.answer.number ∙ ap (λ x. high (ran_answer (outcome_answer x))) q))
 
--- a first call of `monkey_compile` or `monkey_compile_names` in a session that was made accepted the tree; `monkey_run` on its image, any heights, work area and output, gave a number that is
--- none of these refusals
-pub monkey_evaluates : {a : Bytes} {w : Words} → MadeByPacked a w → (c : AnyCall) {x : AnyDone} → KeptPacked (take session_size a) c x → (n : ℕ) → (called_of x).answer ≡ Ok n
+-- a first call of `monkey_compile` or `monkey_compile_names` in a session that was made accepted the tree; `monkey_run` on its image, any
+-- heights, work area and output, gave a number that is none of these refusals
+pub monkey_evaluates : {a : Bytes} {w : Words} → MadeByPacked a w → (c : AnyCall) {x : AnyDone} → KeptPacked (take session_size a) c x
+    → (n : ℕ) → (called_of x).answer ≡ Ok n
     → (hs work : List ℕ) (o : Bytes) {r : ℕ} {work' : List ℕ} {o' : Bytes} → RunsPacked (take n (called_of x).lent.output) hs work o r work' o' → NotUpTo15Packed r → EvaluatedPacked (call_of c).tree o r o'
 monkey_evaluates m c {x} k n e hs work o p later =
     let t = any_ends packed_done (made-start (made-unpacked m)) c k n e hs (length work) (length o) (later_outcome _ p.answer later) in

@@ -1,4 +1,5 @@
--- Of exported calls: at every step of condition 3's two series the three exported calls about frames answer one number of both images, at any size and any frame number.
+-- Of exported calls: at every step of condition 3's two series the three exported calls about frames answer one number of both images, at
+-- any size and any frame number.
 use Prim.Native.Nat.{ℕ}
 use mathlib.Core.List.{List, map}
 use mathlib.Core.Path.{◌≡◌, sym, ap, ◌∙◌}
@@ -44,11 +45,15 @@ each-packed (Stepwise.step h rest) = Stepwise.step (one h) (each-packed rest)
     one (FramesAlike.refused a b) = FramesPacked.refused a b
 
 -- of calls of `monkey_compile`
-pub monkey_frames : {a b : Bytes} {u v : Words} → MadeByPacked a u → MadeByPacked b v → word_list u ≡ word_list v → (cs ds : List Call) → AllAlike cs ds → (xs ys : List Called)
+pub monkey_frames : {a b : Bytes} {u v : Words} → MadeByPacked a u → MadeByPacked b v → word_list u ≡ word_list v → (cs ds : List Call)
+    → AllAlike cs ds → (xs ys : List Called)
     → RanPacked (take session_size a) cs xs → RanPacked (take session_size b) ds ys → Stepwise FramesPacked xs ys
-monkey_frames m n e cs ds alike xs ys x y = each-packed (compile_frames (made-unpacked m) (made-unpacked n) e cs ds alike xs ys (ran-unpacked x) (ran-unpacked y))
+monkey_frames m n e cs ds alike xs ys x y =
+    each-packed (compile_frames (made-unpacked m) (made-unpacked n) e cs ds alike xs ys (ran-unpacked x) (ran-unpacked y))
 
 -- and of `monkey_compile_names` among them
-pub monkey_mixed_frames : {a b : Bytes} {u v : Words} → MadeByPacked a u → MadeByPacked b v → word_list u ≡ word_list v → (cs ds : List AnyCall) → AllAlikeAny cs ds → (xs ys : List AnyDone)
+pub monkey_mixed_frames : {a b : Bytes} {u v : Words} → MadeByPacked a u → MadeByPacked b v → word_list u ≡ word_list v
+    → (cs ds : List AnyCall) → AllAlikeAny cs ds → (xs ys : List AnyDone)
     → RanMixedPacked (take session_size a) cs xs → RanMixedPacked (take session_size b) ds ys → Stepwise FramesPacked (map called_of xs) (map called_of ys)
-monkey_mixed_frames m n e cs ds alike xs ys x y = each-packed (any_frames packed_done (made-start (made-unpacked m)) (made-start (made-unpacked n)) e alike x y)
+monkey_mixed_frames m n e cs ds alike xs ys x y =
+    each-packed (any_frames packed_done (made-start (made-unpacked m)) (made-start (made-unpacked n)) e alike x y)

@@ -1,5 +1,5 @@
--- Of exported calls: every image of a session that `monkey_make_session` or `monkey_make_session_words` made, and that exported compile calls alone have written,
--- passes `monkey_check_heights` when each reached instruction is offered its height.
+-- Of exported calls: every image of a session that `monkey_make_session` or `monkey_make_session_words` made, and that exported compile
+-- calls alone have written, passes `monkey_check_heights` when each reached instruction is offered its height.
 use Prim.Native.Nat.{ℕ}
 use native.Mathlib.Omega.{arith}
 use mathlib.Core.List.{List}
@@ -27,7 +27,8 @@ use Rattle.promises.proofs.SeriesHeights.{compile_heights, any_heights}
 use Rattle.promises.proofs.MonkeyMixed.{packed_done}
 
 -- the greatest heights of a verdict
-verdict_tops : {hs : List ℕ} {m : Image} {cs : List Const} {v : Verdict} {ns : List ℕ} → Right hs m cs v → v ≡ Verdict.tops ns → Tops m cs ns
+verdict_tops : {hs : List ℕ} {m : Image} {cs : List Const} {v : Verdict} {ns : List ℕ} → Right hs m cs v → v ≡ Verdict.tops ns
+    → Tops m cs ns
 verdict_tops {m = m} {cs} {ns = ns} (Right.tops {ns = ks} a t) e = let z : ks ≡ ns = cc in subst (Tops m cs) z t
 verdict_tops {ns = ns} (Right.fails {at} f) e = let z : ◌≡◌ {A = ℕ} 0 1 = cc in absurd (omega arith)
 
@@ -45,7 +46,8 @@ checks_well {b} p hs o =
 
 -- one call
 packed_passes : {x : Called} → CallPasses x → HeightsPacked x
-packed_passes h = record { wrote = λ n e. let p = h.wrote n e in record { image = p.image; reads = p.reads; offers = p.offers; passes = λ hs o. checks_well p hs o } }
+packed_passes h =
+    record { wrote = λ n e. let p = h.wrote n e in record { image = p.image; reads = p.reads; offers = p.offers; passes = λ hs o. checks_well p hs o } }
 
 -- every call
 each : {xs : List Called} → All CallPasses xs → All HeightsPacked xs
@@ -53,14 +55,17 @@ each All.none = All.none
 each (All.more h hs) = All.more (packed_passes h) (each hs)
 
 -- of any kind
-each_mixed : {xs : List AnyDone} → All (λ (x : AnyDone). CallPasses (called_of x)) xs → All (λ (x : AnyDone). HeightsPacked (called_of x)) xs
+each_mixed : {xs : List AnyDone} → All (λ (x : AnyDone). CallPasses (called_of x)) xs
+    → All (λ (x : AnyDone). HeightsPacked (called_of x)) xs
 each_mixed All.none = All.none
 each_mixed (All.more h hs) = All.more (packed_passes h) (each_mixed hs)
 
 -- of calls of `monkey_compile`
-pub monkey_heights : {a : Bytes} {w : Words} → MadeByPacked a w → (cs : List Call) (xs : List Called) → RanPacked (take session_size a) cs xs → All HeightsPacked xs
+pub monkey_heights : {a : Bytes} {w : Words} → MadeByPacked a w → (cs : List Call) (xs : List Called)
+    → RanPacked (take session_size a) cs xs → All HeightsPacked xs
 monkey_heights m cs xs x = each (compile_heights (made-unpacked m) cs xs (ran-unpacked x))
 
 -- and of `monkey_compile_names` among them
-pub monkey_mixed_heights : {a : Bytes} {w : Words} → MadeByPacked a w → (cs : List AnyCall) (xs : List AnyDone) → RanMixedPacked (take session_size a) cs xs → All (λ (x : AnyDone). HeightsPacked (called_of x)) xs
+pub monkey_mixed_heights : {a : Bytes} {w : Words} → MadeByPacked a w → (cs : List AnyCall) (xs : List AnyDone)
+    → RanMixedPacked (take session_size a) cs xs → All (λ (x : AnyDone). HeightsPacked (called_of x)) xs
 monkey_mixed_heights m cs xs x = each_mixed (any_heights packed_done (made-start (made-unpacked m)) x)

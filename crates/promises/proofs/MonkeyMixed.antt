@@ -31,31 +31,40 @@ packed_done s _ _ (KeptPacked.plain p) = λ i. AnyDone.plain (record { answer = 
 packed_done s _ _ (KeptPacked.names p) = λ i. AnyDone.names (record { answer = p.back i; lent = p.lent i }) (p.counted i) (p.rows i)
 
 -- a series of exported plain calls is one of these
-pub ran_mixed-packed : {s : Bytes} {cs : List Call} {xs : List Called} → RanPacked s cs xs → RanMixedPacked s (map AnyCall.plain cs) (map AnyDone.plain xs)
+pub ran_mixed-packed : {s : Bytes} {cs : List Call} {xs : List Called} → RanPacked s cs xs
+    → RanMixedPacked s (map AnyCall.plain cs) (map AnyDone.plain xs)
 ran_mixed-packed RanPacked.none = RanBy.none
 ran_mixed-packed (RanPacked.more p q) = RanBy.more (KeptPacked.plain p) (ran_mixed-packed q)
 
 -- Condition 1: an answer, or a numbered refusal with its place that leaves session, output and records as they were
-pub monkey_mixed_condition_1 : {s : Bytes} {c : AnyCall} {x : AnyDone} → AreBytes (take session_size (lent s (call_of c)).session) → KeptPacked s c x → EndedAny (lent s (call_of c)) c x
+pub monkey_mixed_condition_1 : {s : Bytes} {c : AnyCall} {x : AnyDone} → AreBytes (take session_size (lent s (call_of c)).session)
+    → KeptPacked s c x → EndedAny (lent s (call_of c)) c x
 monkey_mixed_condition_1 a k = any_condition_1 packed_done a k
 
 -- Condition 2: image, session and records are the definition's, and a tree is refused exactly when the definition refuses it
-pub monkey_mixed_condition_2 : {s : Bytes} {c : AnyCall} {x : AnyDone} → AreBytes (take session_size (lent s (call_of c)).session) → KeptPacked s c x → ExactAny (lent s (call_of c)) c x
+pub monkey_mixed_condition_2 : {s : Bytes} {c : AnyCall} {x : AnyDone} → AreBytes (take session_size (lent s (call_of c)).session)
+    → KeptPacked s c x → ExactAny (lent s (call_of c)) c x
 monkey_mixed_condition_2 a k = any_condition_2 packed_done a k
 
--- Condition 3: two series from sessions of equal words, whose calls are of the same kinds and whose lent lengths and shapes are equal, call by call, can't be told apart but by the literals' bytes
-pub monkey_mixed_condition_3 : {a b : Bytes} {u v : Words} → MadeByPacked a u → MadeByPacked b v → word_list u ≡ word_list v → (cs ds : List AnyCall) → AllAlikeAny cs ds → (xs ys : List AnyDone)
+-- Condition 3: two series from sessions of equal words, whose calls are of the same kinds and whose lent lengths and shapes are equal, call
+-- by call, can't be told apart but by the literals' bytes
+pub monkey_mixed_condition_3 : {a b : Bytes} {u v : Words} → MadeByPacked a u → MadeByPacked b v → word_list u ≡ word_list v
+    → (cs ds : List AnyCall) → AllAlikeAny cs ds → (xs ys : List AnyDone)
     → RanMixedPacked (take session_size a) cs xs → RanMixedPacked (take session_size b) ds ys → IndistinguishableMixed (field_count u ≡ field_count v) (shaped_turns u (map turn_of cs)) xs ys
-monkey_mixed_condition_3 m n e cs ds alike xs ys x y = any_condition_3 packed_done (made-start (made-unpacked m)) (made-start (made-unpacked n)) e alike x y
+monkey_mixed_condition_3 m n e cs ds alike xs ys x y =
+    any_condition_3 packed_done (made-start (made-unpacked m)) (made-start (made-unpacked n)) e alike x y
 
 -- P2 of plain calls: each image in the output reads as one that is trusted beside the session which its call left
-pub monkey_trusted : {a : Bytes} {w : Words} → MadeByPacked a w → (cs : List Call) (xs : List Called) → RanPacked (take session_size a) cs xs → All TrustedCall xs
+pub monkey_trusted : {a : Bytes} {w : Words} → MadeByPacked a w → (cs : List Call) (xs : List Called)
+    → RanPacked (take session_size a) cs xs → All TrustedCall xs
 monkey_trusted m cs xs x = compile_trusted (made-unpacked m) cs xs (ran-unpacked x)
 
 -- and of calls with records and without
-pub monkey_mixed_trusted : {a : Bytes} {w : Words} → MadeByPacked a w → (cs : List AnyCall) (xs : List AnyDone) → RanMixedPacked (take session_size a) cs xs → All (λ (x : AnyDone). TrustedCall (called_of x)) xs
+pub monkey_mixed_trusted : {a : Bytes} {w : Words} → MadeByPacked a w → (cs : List AnyCall) (xs : List AnyDone)
+    → RanMixedPacked (take session_size a) cs xs → All (λ (x : AnyDone). TrustedCall (called_of x)) xs
 monkey_mixed_trusted m cs xs x = any_trusted packed_done (made-start (made-unpacked m)) x
 
 -- a session that exported compile calls alone have written always reads back, and none of them is refused with 2
-pub monkey_mixed_read_back : {a : Bytes} {w : Words} → MadeByPacked a w → (cs : List AnyCall) (xs : List AnyDone) → RanMixedPacked (take session_size a) cs xs → All (λ (x : AnyDone). ReadsBack (called_of x)) xs
+pub monkey_mixed_read_back : {a : Bytes} {w : Words} → MadeByPacked a w → (cs : List AnyCall) (xs : List AnyDone)
+    → RanMixedPacked (take session_size a) cs xs → All (λ (x : AnyDone). ReadsBack (called_of x)) xs
 monkey_mixed_read_back m cs xs x = any_read_back packed_done (made-start (made-unpacked m)) x

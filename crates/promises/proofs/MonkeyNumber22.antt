@@ -1,4 +1,5 @@
--- Number 22 of the exported compile call: the number's halves are 22 and the place exactly when the walk comes to the end of a branch without a value there.
+-- Number 22 of the exported compile call: the number's halves are 22 and the place exactly when the walk comes to the end of a branch
+-- without a value there.
 use Prim.Native.Nat.{ℕ}
 use mathlib.Core.Bool.{true}
 use mathlib.Core.Logic.{◌↔◌}
@@ -23,7 +24,8 @@ use Rattle.promises.proofs.MonkeyNumbers.{refused_halves, both_ways}
 use Rattle.promises.proofs.Number22.{number_22}
 
 -- with buffers that are long enough, a session z and a tree that reads
-pub monkey_number_22 : {tree : Bytes} {l l' : Lent} {r : ℕ} → AreBytes (take session_size l.session) → CompilesPacked tree l r l' → enough (request l tree) ≡ true
+pub monkey_number_22 : {tree : Bytes} {l l' : Lent} {r : ℕ} → AreBytes (take session_size l.session) → CompilesPacked tree l r l'
+    → enough (request l tree) ≡ true
     → {z : Session} {k : ℕ} → read_session (take session_size l.session) ≡ decoded z k → {b : Stmts} {n : ℕ} → read_tree tree ≡ Parsed.parsed b n → (p : ℕ) → Refuses r Number.no_value p ↔ NoValueAt p b (start z)
 monkey_number_22 {tree} {l} a c big {z} {k} s t p =
     let exact = ((compile_condition_2 tree l (call tree l).answer (call tree l).lent a (record { answer = refl; lent = refl })).within z k big s).refused (refusal Number.no_value p) in

@@ -1,4 +1,5 @@
--- Numbers 18, 25, 26 and 27 of the exported calls: the number's halves are the number and the place exactly when the plain words hold there.
+-- Numbers 18, 25, 26 and 27 of the exported calls: the number's halves are the number and the place exactly when the plain words hold
+-- there.
 use Prim.Native.Nat.{ℕ, ◌/◌, ◌≤◌}
 use native.Mathlib.Omega.{arith}
 use mathlib.Core.List.{List}
@@ -53,19 +54,24 @@ names-refused {a} n q = (λ e. go a e, λ e. ap (λ a. names_answer a n) e)
     go (Err r) e = e
 
 -- 18
-pub monkey_number_18 : {tree : Bytes} {l l' : Lent} {xs xs' : List ℕ} {r : ℕ} → AreBytes (take session_size l.session) → NamesPacked tree l xs r l' xs' → Refuses r few_records 0 ↔ TooFew tree (length xs / 4) l
-monkey_number_18 {tree} {l} {xs = xs} a k = both_ways (both_ways (refused_halves few_records 0 k.answer) (names-refused _ (refusal few_records 0))) (names_18 tree l xs a)
+pub monkey_number_18 : {tree : Bytes} {l l' : Lent} {xs xs' : List ℕ} {r : ℕ} → AreBytes (take session_size l.session)
+    → NamesPacked tree l xs r l' xs' → Refuses r few_records 0 ↔ TooFew tree (length xs / 4) l
+monkey_number_18 {tree} {l} {xs =
+    xs} a k = both_ways (both_ways (refused_halves few_records 0 k.answer) (names-refused _ (refusal few_records 0))) (names_18 tree l xs a)
 
 -- 25
-pub monkey_number_25 : {b : Bytes} {hs o o' : List ℕ} {r : ℕ} → ChecksPacked b hs o r o' → (p : ℕ) → Refuses r bad_heights p ↔ FailsAt b hs p
+pub monkey_number_25 : {b : Bytes} {hs o o' : List ℕ} {r : ℕ} → ChecksPacked b hs o r o' → (p : ℕ)
+    → Refuses r bad_heights p ↔ FailsAt b hs p
 monkey_number_25 {b} {hs} {o} k p = both_ways (refused_halves bad_heights p k.answer) (number_25 b hs (length o) p refl)
 
 -- 26
-pub monkey_number_26 : {b o o' : Bytes} {r : ℕ} → TurnsPacked (to_chin b) o r o' → (p : ℕ) → Refuses r bad_jump p ↔ FirstJump Plain Backwards b p
+pub monkey_number_26 : {b o o' : Bytes} {r : ℕ} → TurnsPacked (to_chin b) o r o' → (p : ℕ)
+    → Refuses r bad_jump p ↔ FirstJump Plain Backwards b p
 monkey_number_26 {b} {o} k p = both_ways (refused_halves bad_jump p k.answer) (number_26 b (length o) p refl)
 
 -- and back
-pub monkey_number_26_back : {b o o' : Bytes} {r : ℕ} → TurnsPacked (from_chin b) o r o' → (p : ℕ) → Refuses r bad_jump p ↔ FirstJump Chin TooFar b p
+pub monkey_number_26_back : {b o o' : Bytes} {r : ℕ} → TurnsPacked (from_chin b) o r o' → (p : ℕ)
+    → Refuses r bad_jump p ↔ FirstJump Chin TooFar b p
 monkey_number_26_back {b} {o} k p = both_ways (refused_halves bad_jump p k.answer) (number_26_back b (length o) p refl)
 
 -- an answer of the run
@@ -77,11 +83,13 @@ ran-refused {a} q = (λ e. go a e, λ e. ap ran_answer e)
     go (Err r) e = let z : r ≡ q = cc in ap Err z
 
 -- 27
-pub monkey_number_27 : {b : Bytes} {hs w w' : List ℕ} {o o' : Bytes} {r : ℕ} → RunsPacked b hs w o r w' o' → (p : ℕ) → Refuses r Number.not_runnable p ↔ FirstNotRun b hs (length w) p
+pub monkey_number_27 : {b : Bytes} {hs w w' : List ℕ} {o o' : Bytes} {r : ℕ} → RunsPacked b hs w o r w' o' → (p : ℕ)
+    → Refuses r Number.not_runnable p ↔ FirstNotRun b hs (length w) p
 monkey_number_27 {b} {hs} {w} {o = o} k p =
     both_ways (both_ways (refused_halves Number.not_runnable p k.answer) (ran-refused (refusal Number.not_runnable p))) (number_27 b hs (length w) (length o) p refl)
 
 -- and 25 there
-pub monkey_number_25_run : {b : Bytes} {hs w w' : List ℕ} {o o' : Bytes} {r : ℕ} → RunsPacked b hs w o r w' o' → (p : ℕ) → Refuses r bad_heights p ↔ ((work_size ≤ length w) × FailsAt b hs p)
+pub monkey_number_25_run : {b : Bytes} {hs w w' : List ℕ} {o o' : Bytes} {r : ℕ} → RunsPacked b hs w o r w' o' → (p : ℕ)
+    → Refuses r bad_heights p ↔ ((work_size ≤ length w) × FailsAt b hs p)
 monkey_number_25_run {b} {hs} {w} {o = o} k p =
     both_ways (both_ways (refused_halves bad_heights p k.answer) (ran-refused (refusal bad_heights p))) (number_25_run b hs (length w) (length o) p refl)

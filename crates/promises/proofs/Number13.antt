@@ -41,7 +41,8 @@ data Fine : Outcome → Type 0 where
   accepted : {o : Outcome} → ((q : Refusal) → o ≡ Outcome.refused q → ⊥) → Fine o
   refused : {q : Refusal} → (number_of q.reason ≡ number_of Number.code → ⊥) → Fine (Outcome.refused q)
 
-finish_fine : (output : ℕ) (z : Session) (x : Res State (Unit {0})) → ((r : Refusal) (s : State) → x ≡ Res.stop r s → number_of r.reason ≡ number_of Number.code → ⊥) → Fine (finish output z x).outcome
+finish_fine : (output : ℕ) (z : Session) (x : Res State (Unit {0}))
+    → ((r : Refusal) (s : State) → x ≡ Res.stop r s → number_of r.reason ≡ number_of Number.code → ⊥) → Fine (finish output z x).outcome
 finish_fine output z (Res.on a s) h =
     chosen (λ (x : Step). Fine x.outcome) (leb (length (image_bytes (image_of s))) output)
     (λ _. Fine.accepted (λ q e. let i : ◌≡◌ {A = ℕ} 0 1 = cc in omega arith)) (λ _. Fine.refused {q = refusal Number.output_short 0} (λ e. omega arith))
@@ -67,11 +68,13 @@ no_tree_is_13 z c p e = go (compile_fine z c) e
     go (Fine.refused {q} h) e = let i : q ≡ refusal Number.code p = cc in h (ap (λ (q : Refusal). number_of q.reason) i)
 
 -- and the main code of an accepted tree is shorter than the tree, by the Program's head at least
-pub code_within_tree : (z : Session) (c : Request) (m : Image) → (compile z c).outcome ≡ Outcome.accepted m → size_of m.code + 3 ≤ length c.tree
+pub code_within_tree : (z : Session) (c : Request) (m : Image) → (compile z c).outcome ≡ Outcome.accepted m
+    → size_of m.code + 3 ≤ length c.tree
 unfolding compile
 code_within_tree z c m e = enoughly (enough c) e
   where
-    by : {b : Stmts} {n : ℕ} → read_tree c.tree ≡ Parsed.parsed b n → (x : Res State (Unit {0})) → walk_stmts machine b (start z) ≡ x → (finish c.output z x).outcome ≡ Outcome.accepted m → size_of m.code + 3 ≤ length c.tree
+    by : {b : Stmts} {n : ℕ} → read_tree c.tree ≡ Parsed.parsed b n → (x : Res State (Unit {0})) → walk_stmts machine b (start z) ≡ x
+        → (finish c.output z x).outcome ≡ Outcome.accepted m → size_of m.code + 3 ≤ length c.tree
     by {b} {n} r (Res.on tt s) w e =
         let k = read_charged c.tree r in
         let l = walk_code b (start z) (read_well_formed c.tree b n r) (omega (arith, k.bytes, k.short)) w in
@@ -82,11 +85,14 @@ code_within_tree z c m e = enoughly (enough c) e
         roomy false e h = let i : ◌≡◌ {A = ℕ} 0 1 = cc in absurd (omega arith)
     by r (Res.stop q s) w e = let i : ◌≡◌ {A = ℕ} 0 1 = cc in absurd (omega arith)
 
-    go : (p : Parsed Stmts) → read_tree c.tree ≡ p → (translate c.output z p).outcome ≡ Outcome.accepted m → size_of m.code + 3 ≤ length c.tree
+    go : (p : Parsed Stmts) → read_tree c.tree ≡ p → (translate c.output z p).outcome ≡ Outcome.accepted m
+        → size_of m.code + 3 ≤ length c.tree
     go (Parsed.parsed b n) r e = by r (walk_stmts machine b (start z)) refl e
     go (Parsed.refused q) r e = let i : ◌≡◌ {A = ℕ} 0 1 = cc in absurd (omega arith)
 
-    enoughly : (x : Bool) → (pick x (translate c.output z (read_tree c.tree)) (turned_down z (refusal Number.short_buffer 0))).outcome ≡ Outcome.accepted m → size_of m.code + 3 ≤ length c.tree
+    enoughly : (x : Bool)
+        → (pick x (translate c.output z (read_tree c.tree)) (turned_down z (refusal Number.short_buffer 0))).outcome ≡ Outcome.accepted m
+        → size_of m.code + 3 ≤ length c.tree
     enoughly true e = go (read_tree c.tree) refl e
     enoughly false e = let i : ◌≡◌ {A = ℕ} 0 1 = cc in absurd (omega arith)
 
@@ -102,14 +108,16 @@ no_call_is_13 tree l =
   where
     by : (z s : Session) (o : Outcome) → (compile z (request l tree)).outcome ≡ o → Not13 (answered l s o).answer
     by z s (Outcome.accepted m) f p e = let i : ◌≡◌ {A = ℕ} 0 1 = cc in omega arith
-    by z s (Outcome.refused q) f p e = let i : q ≡ refusal Number.code p = cc in no_tree_is_13 z (request l tree) p (f ∙ ap Outcome.refused i)
+    by z s (Outcome.refused q) f p e =
+        let i : q ≡ refusal Number.code p = cc in no_tree_is_13 z (request l tree) p (f ∙ ap Outcome.refused i)
 
     opened : (d : Decoded Session) → Not13 (in_session l tree d).answer
     opened (decoded z n) = by z (compile z (request l tree)).session (compile z (request l tree)).outcome refl
     opened (malformed q) = λ p e. let i : ◌≡◌ {A = ℕ} 2 13 = ap high e in omega arith
 
 -- of a call with records
-pub no_records_call_is_13 : (tree : Bytes) (l : Lent) (rs : List Record) (p : ℕ) → (call_records tree l rs).called.answer ≡ Err (refusal Number.code p) → ⊥
+pub no_records_call_is_13 : (tree : Bytes) (l : Lent) (rs : List Record) (p : ℕ)
+    → (call_records tree l rs).called.answer ≡ Err (refusal Number.code p) → ⊥
 no_records_call_is_13 tree l rs p e = go (call_agrees tree l rs) e
   where
     go : {x : Recorded} → CallAgrees tree l rs x (call tree l) → x.called.answer ≡ Err (refusal Number.code p) → ⊥
@@ -127,7 +135,8 @@ pub monkey_not_13 : {tree : Bytes} {l l' : Lent} {r : ℕ} → CompilesPacked tr
 monkey_not_13 {tree} {l} k e = not_13 (call tree l).answer (no_call_is_13 tree l) (sym k.answer.number ∙ e)
 
 -- `monkey_compile_names`
-pub monkey_names_not_13 : {tree : Bytes} {l l' : Lent} {xs xs' : List ℕ} {r : ℕ} → NamesPacked tree l xs r l' xs' → r / half_bound ≡ number_of Number.code → ⊥
+pub monkey_names_not_13 : {tree : Bytes} {l l' : Lent} {xs xs' : List ℕ} {r : ℕ} → NamesPacked tree l xs r l' xs'
+    → r / half_bound ≡ number_of Number.code → ⊥
 unfolding call_names
 monkey_names_not_13 {tree} {l} {xs = xs} k e =
     let y = call_records tree l (blanks (length xs / 4)) in

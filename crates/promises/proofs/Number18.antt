@@ -63,7 +63,8 @@ module _ (room output : ℕ) (z : Session) where
   went s false = WentThrough.short
 
   -- by the number of records, and the output
-  ended : (s : Logged) (ids : List ℕ) → length ids ≡ length s.records → Iff18 ids (finish_records room output z (Res.on tt s)) (finish output z (Res.on tt s.state))
+  ended : (s : Logged) (ids : List ℕ) → length ids ≡ length s.records
+      → Iff18 ids (finish_records room output z (Res.on tt s)) (finish output z (Res.on tt s.state))
   ended s ids many = go (leb (length s.records) room) refl (leb (length (image_bytes (image_of s.state))) output)
     where
       go : (b : Bool) → leb (length s.records) room ≡ b → (c : Bool)
@@ -71,33 +72,41 @@ module _ (room output : ℕ) (z : Session) where
           (pick b (traced s.records (pick c (record { outcome = Outcome.accepted (image_of s.state); session = session_of s.state }) (turned_down z (refusal Number.output_short 0)))) (untraced (turned_down z (refusal Number.few_records 0))))
           (pick c (record { outcome = Outcome.accepted (image_of s.state); session = session_of s.state }) (turned_down z (refusal Number.output_short 0)))
       go true l true = (λ e. let w : ◌≡◌ {A = ℕ} 0 1 = cc in absurd (omega arith), λ h. let k = leb-true (length s.records) room l in let m = h.1 in absurd (omega arith))
-      go true l false = (λ e. let w = other_number e in absurd (omega arith), λ h. let k = leb-true (length s.records) room l in let m = h.1 in absurd (omega arith))
+      go true l false =
+          (λ e. let w = other_number e in absurd (omega arith), λ h. let k = leb-true (length s.records) room l in let m = h.1 in absurd (omega arith))
       go false l c = (λ e. (went s.state c, (let k = leb-false (length s.records) room l in omega arith)), λ h. refl)
 
   -- a refusal before 18
-  before : (ids : List ℕ) (r : Refusal) → (number_of r.reason ≡ number_of Number.few_records → ⊥) → (number_of r.reason ≡ number_of Number.output_short → ⊥) → Iff18 ids (untraced (turned_down z r)) (turned_down z r)
+  before : (ids : List ℕ) (r : Refusal) → (number_of r.reason ≡ number_of Number.few_records → ⊥)
+      → (number_of r.reason ≡ number_of Number.output_short → ⊥) → Iff18 ids (untraced (turned_down z r)) (turned_down z r)
   before ids r a b = (λ e. absurd (a (other_number e)), λ h. absurd (b (short h.0 refl)))
     where
-      short : {x : Step} {q : Refusal} → WentThrough z x → x.outcome ≡ Outcome.refused q → number_of q.reason ≡ number_of Number.output_short
+      short : {x : Step} {q : Refusal} → WentThrough z x → x.outcome ≡ Outcome.refused q
+          → number_of q.reason ≡ number_of Number.output_short
       short WentThrough.accepted e = let w : ◌≡◌ {A = ℕ} 0 1 = cc in absurd (omega arith)
       short WentThrough.short e = other_number (sym e)
 
   -- the walk's end
-  walked : {ids : List ℕ} {x : Res Logged (Unit {0})} {y : Res State (Unit {0})} → Tracked false (Erased ids) x y → Ends (λ (_ : Unit {0}). ValidState) y
+  walked : {ids : List ℕ} {x : Res Logged (Unit {0})} {y : Res State (Unit {0})} → Tracked false (Erased ids) x y
+      → Ends (λ (_ : Unit {0}). ValidState) y
       → Iff18 (reverse ids) (finish_records room output z x) (finish output z y)
-  walked {ids} (Tracked.on a (Erased.erased {s} e)) w = ended s (reverse ids) (length-reverse ids ∙ ap length (sym e) ∙ length-map s.records (λ (r : Record). r.offset))
-  walked {ids} (Tracked.stop r) (Ends.stop _ _ w) = before (reverse ids) r (λ e. subst (λ n. T (walk_number n)) e w) (λ e. subst (λ n. T (walk_number n)) e w)
+  walked {ids} (Tracked.on a (Erased.erased {s} e)) w =
+      ended s (reverse ids) (length-reverse ids ∙ ap length (sym e) ∙ length-map s.records (λ (r : Record). r.offset))
+  walked {ids} (Tracked.stop r) (Ends.stop _ _ w) =
+      before (reverse ids) r (λ e. subst (λ n. T (walk_number n)) e w) (λ e. subst (λ n. T (walk_number n)) e w)
   walked (Tracked.first h) w = absurd h
 
   -- a tree
-  read : ValidSession z → (tree : Bytes) → Iff18 (identifiers tree) (translate_records room output z (read_tree tree)) (translate output z (read_tree tree))
+  read : ValidSession z → (tree : Bytes)
+      → Iff18 (identifiers tree) (translate_records room output z (read_tree tree)) (translate output z (read_tree tree))
   read v tree =
       by_reading (λ p (_ : Unit {0}). Iff18 (identifiers_in p) (translate_records room output z p) (translate output z p)) (λ _. tt)
       (λ b n w. walked (walk_erased b (start z)) (walk_limits b w (start-valid z v)))
       (λ r t. before [] r (λ e. subst (λ n. T (is_one_of tree_numbers n)) e t) (λ e. subst (λ n. T (is_one_of tree_numbers n)) e t)) tree
 
 -- a call in a session, lent enough
-in-session : (room : ℕ) (z : Session) → ValidSession z → (c : Request) → enough c ≡ true → Is18 (compile_records room z c).step.outcome ↔ (WentThrough z (compile z c) × (room < length (identifiers c.tree)))
+in-session : (room : ℕ) (z : Session) → ValidSession z → (c : Request) → enough c ≡ true
+    → Is18 (compile_records room z c).step.outcome ↔ (WentThrough z (compile z c) × (room < length (identifiers c.tree)))
 unfolding compile_records compile
 in-session room z v c big =
     let r = read room c.output z v c.tree in
@@ -120,9 +129,11 @@ module _ (tree : Bytes) (l : Lent) (rs : List Record) (a : AreBytes (take sessio
   not_18 {n} h e = let q : refusal n 0 ≡ refusal Number.few_records 0 = cc in h (ap (λ (r : Refusal). number_of r.reason) q)
 
   -- refused with 18
-  found : (b : Bool) → enough (request l tree) ≡ b → (d : Decoded Session) → read_session (take session_size l.session) ≡ d → (call_records tree l rs).called.answer ≡ Err (refusal Number.few_records 0) → TooFew tree (length rs) l
+  found : (b : Bool) → enough (request l tree) ≡ b → (d : Decoded Session) → read_session (take session_size l.session) ≡ d
+      → (call_records tree l rs).called.answer ≡ Err (refusal Number.few_records 0) → TooFew tree (length rs) l
   found false big d e i = absurd (not_18 (λ h. omega arith) (sym (ap (λ (x : Recorded). x.called.answer) (when_short tree l rs big)) ∙ i))
-  found true big (malformed p) e i = absurd (not_18 (λ h. omega arith) (sym (ap (λ (x : Recorded). x.called.answer) (when_enough tree l rs big ∙ ap (in_session_records l rs tree) e)) ∙ i))
+  found true big (malformed p) e i =
+      absurd (not_18 (λ h. omega arith) (sym (ap (λ (x : Recorded). x.called.answer) (when_enough tree l rs big ∙ ap (in_session_records l rs tree) e)) ∙ i))
   found true big (decoded z n) e i =
       let v = (write_session (take session_size l.session) a (long_front tree l big) e).sound in
       let t = compile_records (length rs) z (request l tree) in
@@ -149,18 +160,23 @@ as_answered (Ok t) e = let z : ◌≡◌ {A = ℕ} 0 1 = cc in absurd (omega ari
 as_answered (Err z) e = let same : z ≡ _ = cc in ap Err same
 
 -- Number 18, of any call that keeps the promise of `compile_with_records`
-pub number_18 : {tree : Bytes} {l l' : Lent} {rs rs' : List Record} {r : Result CallTrace Refusal} → AreBytes (take session_size l.session) → Records tree l rs r l' rs'
+pub number_18 : {tree : Bytes} {l l' : Lent} {rs rs' : List Record} {r : Result CallTrace Refusal} → AreBytes (take session_size l.session)
+    → Records tree l rs r l' rs'
     → (r ≡ Err (refusal Number.few_records 0)) ↔ TooFew tree (length rs) l
-number_18 {tree} {l} {rs = rs} {r = r} a p = let k = call_18 tree l rs a in (λ e. k.0 (sym p.answer ∙ ap answer_of e), λ f. as_answered r (p.answer ∙ k.1 f))
+number_18 {tree} {l} {rs =
+    rs} {r = r} a p = let k = call_18 tree l rs a in (λ e. k.0 (sym p.answer ∙ ap answer_of e), λ f. as_answered r (p.answer ∙ k.1 f))
 
 -- the numbers lent are a fourth as many records
-pub names_18 : (tree : Bytes) (l : Lent) (xs : List ℕ) → AreBytes (take session_size l.session) → ((call_names tree l xs).called.answer ≡ Err (refusal Number.few_records 0)) ↔ TooFew tree (length xs / 4) l
+pub names_18 : (tree : Bytes) (l : Lent) (xs : List ℕ) → AreBytes (take session_size l.session)
+    → ((call_names tree l xs).called.answer ≡ Err (refusal Number.few_records 0)) ↔ TooFew tree (length xs / 4) l
 unfolding call_names
 names_18 tree l xs a =
     subst (λ room. ((call_records tree l (blanks (length xs / 4))).called.answer ≡ Err (refusal Number.few_records 0)) ↔ TooFew tree room l) (length-replicate (length xs / 4) _)
     (call_18 tree l (blanks (length xs / 4)) a)
 
 -- and of `compile_names`
-pub number_18_names : {tree : Bytes} {l l' : Lent} {xs xs' : List ℕ} {r : Result CallTrace Refusal} → AreBytes (take session_size l.session) → Names tree l xs r l' xs'
+pub number_18_names : {tree : Bytes} {l l' : Lent} {xs xs' : List ℕ} {r : Result CallTrace Refusal} → AreBytes (take session_size l.session)
+    → Names tree l xs r l' xs'
     → (r ≡ Err (refusal Number.few_records 0)) ↔ TooFew tree (length xs / 4) l
-number_18_names {tree} {l} {xs = xs} {r = r} a p = let k = names_18 tree l xs a in (λ e. k.0 (sym p.answer ∙ ap answer_of e), λ f. as_answered r (p.answer ∙ k.1 f))
+number_18_names {tree} {l} {xs =
+    xs} {r = r} a p = let k = names_18 tree l xs a in (λ e. k.0 (sym p.answer ∙ ap answer_of e), λ f. as_answered r (p.answer ∙ k.1 f))

@@ -1,5 +1,5 @@
--- Number 22 exactly: a tree that gets to the walk is refused with 22 at p exactly when the walk comes to the end of a branch of the If at p that has emitted nothing, or whose last instruction
--- is neither Pop nor ReturnValue.
+-- Number 22 exactly: a tree that gets to the walk is refused with 22 at p exactly when the walk comes to the end of a branch of the If at p
+-- that has emitted nothing, or whose last instruction is neither Pop nor ReturnValue.
 use Prim.Native.Nat.{ℕ, ◌+◌}
 use native.Mathlib.Omega.{arith}
 use mathlib.Core.Bool.{Bool, true, false}
@@ -38,7 +38,8 @@ data Caused {A : Type 0} (M : ℕ → Type 0) : Res State A → Type 0 where
   on : {a : A} {s : State} → Caused M (Res.on a s)
   stop : {r : Refusal} {s : State} → (number_of r.reason ≡ number_of Number.no_value → M r.place) → Caused M (Res.stop r s)
 
-caused_bind : {A B : Type 0} {M : ℕ → Type 0} {x : Res State A} {k : A → State → Res State B} → Caused M x → ((a : A) (s : State) → x ≡ Res.on a s → Caused M (k a s)) → Caused M (bind x k)
+caused_bind : {A B : Type 0} {M : ℕ → Type 0} {x : Res State A} {k : A → State → Res State B} → Caused M x
+    → ((a : A) (s : State) → x ≡ Res.on a s → Caused M (k a s)) → Caused M (bind x k)
 caused_bind (Caused.on {a = a} {s = s}) f = f a s refl
 caused_bind (Caused.stop h) f = Caused.stop h
 
@@ -61,7 +62,8 @@ module _ {M : ℕ → Type 0} where
 
     adds : (c : Const) (s : State) → Caused M (add_constant p c s)
     unfolding add_constant
-    adds c s = chosen (Caused M) (leb constants_limit (length s.pool)) (λ _. quiet tt) (λ _. chosen (Caused M) (leb (pool_size (c ∷ s.pool)) pool_limit) (λ _. Caused.on) (λ _. quiet tt))
+    adds c s =
+        chosen (Caused M) (leb constants_limit (length s.pool)) (λ _. quiet tt) (λ _. chosen (Caused M) (leb (pool_size (c ∷ s.pool)) pool_limit) (λ _. Caused.on) (λ _. quiet tt))
 
     literals : (c : Const) (s : State) → Caused M (literal p c s)
     literals c s = caused_bind (adds c s) (λ k s₁ _. emits 0 (instr op_constant k 0) s₁)
@@ -89,11 +91,13 @@ module _ {M : ℕ → Type 0} where
 
     enters : (n : Bytes) (ps : List Bytes) (s : State) → Caused M (enter p n ps s)
     unfolding enter
-    enters n ps s = chosen (Caused M) (leb nesting_limit (length s.tables)) (λ _. quiet tt) (λ _. chosen (Caused M) (ltb arguments_limit (length ps)) (λ _. quiet tt) (λ _. Caused.on))
+    enters n ps s =
+        chosen (Caused M) (leb nesting_limit (length s.tables)) (λ _. quiet tt) (λ _. chosen (Caused M) (ltb arguments_limit (length ps)) (λ _. quiet tt) (λ _. Caused.on))
 
     returns : (s : State) → Caused M (returned p s)
     unfolding returned
-    returns s = chosen (Caused M) (last_is op_pop s.code) (λ _. Caused.on) (λ _. chosen (Caused M) (last_is op_return_value s.code) (λ _. Caused.on) (λ _. emits 0 (plain op_return) s))
+    returns s =
+        chosen (Caused M) (last_is op_pop s.code) (λ _. Caused.on) (λ _. chosen (Caused M) (last_is op_return_value s.code) (λ _. Caused.on) (λ _. emits 0 (plain op_return) s))
 
     loads_all : (d : ℕ) (ys : List Symbol) (s : State) → Caused M (loads d p ys s)
     unfolding loads
@@ -125,11 +129,13 @@ fails [] b e f = refl
 fails (i ∷ d) b e f = (λ j. pick (e j) true (eqb i.op op_return_value)) ∙ f
 
 -- a branch's end, after its walk
-drops : (b : Stmts) (q : ℕ) (s : State) {s₁ : State} → walk_stmts machine b s ≡ Res.on tt s₁ → Caused (Met (λ p d. BranchMeets p d q b s)) (dropped q s₁)
+drops : (b : Stmts) (q : ℕ) (s : State) {s₁ : State} → walk_stmts machine b s ≡ Res.on tt s₁
+    → Caused (Met (λ p d. BranchMeets p d q b s)) (dropped q s₁)
 unfolding dropped
 drops b q s {s₁} e = go s₁ e (accounted b s e)
   where
-    go : (s₁ : State) → walk_stmts machine b s ≡ Res.on tt s₁ → {E : Code → Known → Type 0} {r n : ℕ} → Emitted E s.code r n s₁ → Caused (Met (λ p d. BranchMeets p d q b s)) (dropped q s₁)
+    go : (s₁ : State) → walk_stmts machine b s ≡ Res.on tt s₁ → {E : Code → Known → Type 0} {r n : ℕ} → Emitted E s.code r n s₁
+        → Caused (Met (λ p d. BranchMeets p d q b s)) (dropped q s₁)
     go s₁ e (Emitted.emitted d w x l) =
         chosen (Caused (Met (λ p d. BranchMeets p d q b s))) (last_is op_pop (d ++ s.code)) (λ _. Caused.on) (λ f.
         chosen (Caused (Met (λ p d. BranchMeets p d q b s))) (last_is op_return_value (d ++ s.code)) (λ _. Caused.on) (λ g.
@@ -139,14 +145,18 @@ mutual
   unfolding walk_stmt
 
   caused_stmt : (x : Stmt) (s : State) → Caused (Met (λ p d. StmtMeets p d x s)) (walk_stmt machine x s)
-  caused_stmt (Stmt.expr_stmt q e) s = caused_bind (caused_map (met-map (λ _ _ m. StmtMeets.expr_stmt m)) (caused_expr e s)) (λ _ s₁ _. emits q 0 (plain op_pop) s₁)
-  caused_stmt (Stmt.let_stmt q n e) s = caused_bind (defines q n s) (λ i s₁ h. caused_bind (caused_map (met-map (λ _ _ m. StmtMeets.let_stmt h m)) (caused_expr e s₁)) (λ _ s₂ _. emits q 0 i s₂))
-  caused_stmt (Stmt.return_stmt q e) s = caused_bind (caused_map (met-map (λ _ _ m. StmtMeets.return_stmt m)) (caused_expr e s)) (λ _ s₁ _. emits q 0 (plain op_return_value) s₁)
+  caused_stmt (Stmt.expr_stmt q e) s =
+      caused_bind (caused_map (met-map (λ _ _ m. StmtMeets.expr_stmt m)) (caused_expr e s)) (λ _ s₁ _. emits q 0 (plain op_pop) s₁)
+  caused_stmt (Stmt.let_stmt q n e) s =
+      caused_bind (defines q n s) (λ i s₁ h. caused_bind (caused_map (met-map (λ _ _ m. StmtMeets.let_stmt h m)) (caused_expr e s₁)) (λ _ s₂ _. emits q 0 i s₂))
+  caused_stmt (Stmt.return_stmt q e) s =
+      caused_bind (caused_map (met-map (λ _ _ m. StmtMeets.return_stmt m)) (caused_expr e s)) (λ _ s₁ _. emits q 0 (plain op_return_value) s₁)
   caused_stmt (Stmt.block q b) s = caused_map (met-map (λ _ _ m. StmtMeets.block m)) (caused_stmts b s)
 
   caused_stmts : (b : Stmts) (s : State) → Caused (Met (λ p d. StmtsMeets p d b s)) (walk_stmts machine b s)
   caused_stmts Stmts.no_stmts s = Caused.on
-  caused_stmts (Stmts.stmts x xs) s = caused_bind (caused_map (met-map (λ _ _ m. StmtsMeets.here m)) (caused_stmt x s)) (λ _ s₁ h. caused_map (met-map (λ _ _ m. StmtsMeets.later h m)) (caused_stmts xs s₁))
+  caused_stmts (Stmts.stmts x xs) s =
+      caused_bind (caused_map (met-map (λ _ _ m. StmtsMeets.here m)) (caused_stmt x s)) (λ _ s₁ h. caused_map (met-map (λ _ _ m. StmtsMeets.later h m)) (caused_stmts xs s₁))
 
   caused_else : (f : Else) (q : ℕ) (s : State) → Caused (Met (λ p d. ElseMeets p d q f s)) (walk_else machine f q s)
   caused_else Else.no_else q s = emits q 0 (plain op_null) s
@@ -155,7 +165,8 @@ mutual
 
   caused_expr : (e : Expr) (s : State) → Caused (Met (λ p d. ExprMeets p d e s)) (walk_expr machine e s)
   caused_expr (Expr.identifier q n) s = names q n s
-  caused_expr (Expr.prefix q o e) s = caused_bind (caused_map (met-map (λ _ _ m. ExprMeets.prefix m)) (caused_expr e s)) (λ _ s₁ _. operates q (get_or prefixes o none) s₁)
+  caused_expr (Expr.prefix q o e) s =
+      caused_bind (caused_map (met-map (λ _ _ m. ExprMeets.prefix m)) (caused_expr e s)) (λ _ s₁ _. operates q (get_or prefixes o none) s₁)
   caused_expr (Expr.infixed q l o r) s =
       chosen (Caused (Met (λ p d. ExprMeets p d (Expr.infixed q l o r) s))) (eqb o less_than)
       (λ t. caused_bind (caused_map (met-map (λ _ _ m. ExprMeets.less_right t m)) (caused_expr r s)) (λ _ s₁ h. caused_bind (caused_map (met-map (λ _ _ m. ExprMeets.less_left t h m)) (caused_expr l s₁)) (λ _ s₂ _. operates q (get_or infixes o none) s₂)))
@@ -177,7 +188,8 @@ mutual
   caused_expr (Expr.integer q b) s = literals q (Const.integer b) s
   caused_expr (Expr.boolean q b) s = emits q 0 (boolean_of b) s
   caused_expr (Expr.string q b) s = literals q (Const.string b) s
-  caused_expr (Expr.array q es) s = caused_bind (caused_map (met-map (λ _ _ m. ExprMeets.array m)) (caused_exprs es s)) (λ _ s₁ _. emits q 0 (instr op_array (count es) 0) s₁)
+  caused_expr (Expr.array q es) s =
+      caused_bind (caused_map (met-map (λ _ _ m. ExprMeets.array m)) (caused_exprs es s)) (λ _ s₁ _. emits q 0 (instr op_array (count es) 0) s₁)
   caused_expr (Expr.index q l i) s =
       caused_bind (caused_map (met-map (λ _ _ m. ExprMeets.indexed m)) (caused_expr l s)) (λ _ s₁ h. caused_bind (caused_map (met-map (λ _ _ m. ExprMeets.index h m)) (caused_expr i s₁)) (λ _ s₂ _. emits q 0 (plain op_index) s₂))
   caused_expr (Expr.hash q es) s = caused_bind (caused_map (met-map (λ _ _ m. ExprMeets.hash m)) (caused_exprs es s)) (λ _ s₁ _. emits q 0 (instr op_hash (count es) 0) s₁)
@@ -185,7 +197,8 @@ mutual
 
   caused_exprs : (es : Exprs) (s : State) → Caused (Met (λ p d. ExprsMeets p d es s)) (walk_exprs machine es s)
   caused_exprs Exprs.no_exprs s = Caused.on
-  caused_exprs (Exprs.exprs x xs) s = caused_bind (caused_map (met-map (λ _ _ m. ExprsMeets.first m)) (caused_expr x s)) (λ _ s₁ h. caused_map (met-map (λ _ _ m. ExprsMeets.next h m)) (caused_exprs xs s₁))
+  caused_exprs (Exprs.exprs x xs) s =
+      caused_bind (caused_map (met-map (λ _ _ m. ExprsMeets.first m)) (caused_expr x s)) (λ _ s₁ h. caused_map (met-map (λ _ _ m. ExprsMeets.next h m)) (caused_exprs xs s₁))
 
 -- Where a branch that does not pass is met, the walk is refused there
 
@@ -195,7 +208,8 @@ data Stops {A : Type 0} (p : ℕ) : Res State A → Type 0 where
 stops_bind : {A B : Type 0} {p : ℕ} {x : Res State A} (k : A → State → Res State B) → Stops p x → Stops p (bind x k)
 stops_bind k Stops.stop = Stops.stop
 
-stops_after : {A B : Type 0} {p : ℕ} {x : Res State A} {a : A} {s : State} (k : A → State → Res State B) → x ≡ Res.on a s → Stops p (k a s) → Stops p (bind x k)
+stops_after : {A B : Type 0} {p : ℕ} {x : Res State A} {a : A} {s : State} (k : A → State → Res State B) → x ≡ Res.on a s → Stops p (k a s)
+    → Stops p (bind x k)
 stops_after {p = p} k e h = subst (λ x. Stops p (bind x k)) (sym e) h
 
 -- behind a jump: neither is last
@@ -203,7 +217,8 @@ record Behind (s : State) : Type 0 where
   no_pop : last_is op_pop s.code ≡ false
   no_return : last_is op_return_value s.code ≡ false
 
-behind-jump : (o p : ℕ) (s : State) {j : ℕ} {s₁ : State} → eqb o op_pop ≡ false → eqb o op_return_value ≡ false → jump p o s ≡ Res.on j s₁ → Behind s₁
+behind-jump : (o p : ℕ) (s : State) {j : ℕ} {s₁ : State} → eqb o op_pop ≡ false → eqb o op_return_value ≡ false → jump p o s ≡ Res.on j s₁
+    → Behind s₁
 unfolding jump emit_beside
 behind-jump o p s {j} {s₁} e f h = go (leb (s.around + size_of s.code + 0 + size (instr o unpatched 0)) code_size) h
   where
@@ -221,10 +236,12 @@ last_changed o pos t (i ∷ c) = go (eqb (size_of c) pos)
 
 behind-patch : {s : State} (j : ℕ) → Behind s → Behind (patch j s)
 unfolding patch
-behind-patch {s} j b = record { no_pop = last_changed op_pop j (size_of s.code) s.code ∙ b.no_pop; no_return = last_changed op_return_value j (size_of s.code) s.code ∙ b.no_return }
+behind-patch {s} j b =
+    record { no_pop = last_changed op_pop j (size_of s.code) s.code ∙ b.no_pop; no_return = last_changed op_return_value j (size_of s.code) s.code ∙ b.no_return }
 
 -- the test of the last instruction
-last_fails : (o : ℕ) (c d b : Code) → c ≡ d ++ b → ((i : Instr) (d' : Code) → d ≡ i ∷ d' → eqb i.op o ≡ false) → last_is o b ≡ false → last_is o c ≡ false
+last_fails : (o : ℕ) (c d b : Code) → c ≡ d ++ b → ((i : Instr) (d' : Code) → d ≡ i ∷ d' → eqb i.op o ≡ false) → last_is o b ≡ false
+    → last_is o c ≡ false
 last_fails o c d b e f g = ap (last_is o) e ∙ go d f
   where
     go : (d : Code) → ((i : Instr) (d' : Code) → d ≡ i ∷ d' → eqb i.op o ≡ false) → last_is o (d ++ b) ≡ false
@@ -256,12 +273,14 @@ mutual
   stops_stmts (StmtsMeets.here m) n = stops_bind _ (stops_stmt m n)
   stops_stmts (StmtsMeets.later h m) n = stops_after _ h (stops_stmts m n)
 
-  stops_branch : {p : ℕ} {d : Code} {q : ℕ} {b : Stmts} {s : State} → BranchMeets p d q b s → passes d ≡ false → Behind s → (k : Unit {0} → State → Res State (Unit {0}))
+  stops_branch : {p : ℕ} {d : Code} {q : ℕ} {b : Stmts} {s : State} → BranchMeets p d q b s → passes d ≡ false → Behind s
+      → (k : Unit {0} → State → Res State (Unit {0}))
       → ((s₁ : State) → Stops p (dropped q s₁) → Stops p (k tt s₁)) → Stops p (bind (walk_stmts machine b s) k)
   stops_branch (BranchMeets.inside m) n b k f = stops_bind k (stops_stmts m n)
   stops_branch {d = d} {s = s} (BranchMeets.end {s₁ = s₁} e h) n b k f = stops_after k e (f s₁ (stops_dropped d s s₁ n b h))
 
-  stops_else : {p : ℕ} {d : Code} {q : ℕ} {f : Else} {s : State} → ElseMeets p d q f s → passes d ≡ false → Behind s → Stops p (walk_else machine f q s)
+  stops_else : {p : ℕ} {d : Code} {q : ℕ} {f : Else} {s : State} → ElseMeets p d q f s → passes d ≡ false → Behind s
+      → Stops p (walk_else machine f q s)
   stops_else {q = q} (ElseMeets.else m) n b = stops_branch m n b (λ _. dropped q) (λ s₁ h. h)
 
   stops_expr : {p : ℕ} {d : Code} {e : Expr} {s : State} → ExprMeets p d e s → passes d ≡ false → Stops p (walk_expr machine e s)
@@ -278,7 +297,8 @@ mutual
       (stops_bind _ (stops_else m n (behind-patch j (behind-jump op_jump q to.left refl refl to.jumps))))))))
   stops_expr (ExprMeets.function h m) n = stops_after _ h (stops_bind _ (stops_stmts m n))
   stops_expr (ExprMeets.callee m) n = stops_bind _ (stops_expr m n)
-  stops_expr {p} (ExprMeets.arguments h few m) n = stops_after _ h (subst (Stops p) (sym (pick_false _ _ few)) (stops_bind _ (stops_exprs m n)))
+  stops_expr {p} (ExprMeets.arguments h few m) n =
+      stops_after _ h (subst (Stops p) (sym (pick_false _ _ few)) (stops_bind _ (stops_exprs m n)))
   stops_expr (ExprMeets.array m) n = stops_bind _ (stops_exprs m n)
   stops_expr (ExprMeets.indexed m) n = stops_bind _ (stops_expr m n)
   stops_expr (ExprMeets.index h m) n = stops_after _ h (stops_bind _ (stops_expr m n))
@@ -299,11 +319,13 @@ module _ (b : Stmts) (s : State) (p : ℕ) where
   stopped : NoValueAt p b s → (s' : State) × (walk_stmts machine b s ≡ Res.stop (refusal Number.no_value p) s')
   stopped v = go (walk_stmts machine b s) refl (stops_stmts v.meets v.fails)
     where
-      go : (x : Res State (Unit {0})) → walk_stmts machine b s ≡ x → Stops p x → (s' : State) × (walk_stmts machine b s ≡ Res.stop (refusal Number.no_value p) s')
+      go : (x : Res State (Unit {0})) → walk_stmts machine b s ≡ x → Stops p x
+          → (s' : State) × (walk_stmts machine b s ≡ Res.stop (refusal Number.no_value p) s')
       go _ e (Stops.stop {s = s'}) = (s', e)
 
 -- A tree that gets to the walk is refused with 22 at p exactly when the walk comes to the end of such a branch of the If at p
-pub number_22 : (z : Session) (c : Request) {b : Stmts} {n : ℕ} → enough c ≡ true → read_tree c.tree ≡ Parsed.parsed b n → (p : ℕ) → ((compile z c).outcome ≡ Outcome.refused (refusal Number.no_value p)) ↔ NoValueAt p b (start z)
+pub number_22 : (z : Session) (c : Request) {b : Stmts} {n : ℕ} → enough c ≡ true → read_tree c.tree ≡ Parsed.parsed b n → (p : ℕ)
+    → ((compile z c).outcome ≡ Outcome.refused (refusal Number.no_value p)) ↔ NoValueAt p b (start z)
 unfolding compile
 number_22 z c {b} {n} big reads p =
     (λ e. by (walk_stmts machine b (start z)) refl (sym (ap (λ x. x.outcome) is) ∙ e), λ v. ap (λ x. x.outcome) is ∙ (let w = stopped b (start z) p v in ap (λ x. (finish c.output z x).outcome) w.1))
@@ -313,8 +335,10 @@ number_22 z c {b} {n} big reads p =
 
     roomy : (s : State) (x : Bool) → (pick x (record { outcome = Outcome.accepted (image_of s); session = session_of s }) (turned_down z (refusal Number.output_short 0))).outcome ≡ Outcome.refused (refusal Number.no_value p) → NoValueAt p b (start z)
     roomy s true e = let i : ◌≡◌ {A = ℕ} 0 1 = cc in absurd (omega arith)
-    roomy s false e = let i : refusal Number.no_value p ≡ refusal Number.output_short 0 = cc in let j : ◌≡◌ {A = ℕ} 22 15 = ap (λ (q : Refusal). number_of q.reason) i in absurd (omega arith)
+    roomy s false e =
+        let i : refusal Number.no_value p ≡ refusal Number.output_short 0 = cc in let j : ◌≡◌ {A = ℕ} 22 15 = ap (λ (q : Refusal). number_of q.reason) i in absurd (omega arith)
 
-    by : (x : Res State (Unit {0})) → walk_stmts machine b (start z) ≡ x → (finish c.output z x).outcome ≡ Outcome.refused (refusal Number.no_value p) → NoValueAt p b (start z)
+    by : (x : Res State (Unit {0})) → walk_stmts machine b (start z) ≡ x
+        → (finish c.output z x).outcome ≡ Outcome.refused (refusal Number.no_value p) → NoValueAt p b (start z)
     by (Res.on a s) w e = roomy s (leb (length (image_bytes (image_of s))) c.output) e
     by (Res.stop r s) w e = let i : r ≡ refusal Number.no_value p = cc in no-value b (start z) p (w ∙ ap (λ r. Res.stop r s) i)

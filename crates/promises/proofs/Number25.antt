@@ -40,12 +40,14 @@ not_25 ns room p e = go (leb (length ns) room) e
   where
     go : (b : Bool) → pick b (Ok (length ns)) (Err (refusal output_short 0)) ≡ Err (refusal bad_heights p) → ⊥
     go true e = let z : ◌≡◌ {A = ℕ} 0 1 = cc in omega arith
-    go false e = let z : refusal output_short 0 ≡ refusal bad_heights p = cc in let y = ap (λ (r : Refusal). number_of r.reason) z in omega arith
+    go false e =
+        let z : refusal output_short 0 ≡ refusal bad_heights p = cc in let y = ap (λ (r : Refusal). number_of r.reason) z in omega arith
 
 -- by the verdict
 module _ (b : Bytes) (hs : List ℕ) (room p : ℕ) where
   -- 25 comes from a chunk that fails
-  fails : (m : Image) (n : ℕ) → read_image b ≡ decoded m n → {v : Verdict} → Right hs m m.pool v → verdict_answer v room ≡ Err (refusal bad_heights p) → FailsAt b hs p
+  fails : (m : Image) (n : ℕ) → read_image b ≡ decoded m n → {v : Verdict} → Right hs m m.pool v
+      → verdict_answer v room ≡ Err (refusal bad_heights p) → FailsAt b hs p
   fails m n e (Right.tops {ns = ns} a t) q = absurd (not_25 ns room p q)
   fails m n e (Right.fails {at = at} f) q =
       let z : refusal bad_heights at ≡ refusal bad_heights p = cc in
@@ -55,10 +57,12 @@ module _ (b : Bytes) (hs : List ℕ) (room p : ℕ) where
   found : (d : Decoded Image) → read_image b ≡ d → heights_answer d hs room ≡ Err (refusal bad_heights p) → FailsAt b hs p
   found (decoded m n) e q = fails m n e (judged_right hs m m.pool) q
   -- of bytes that read as an image
-  found (malformed k) e q = let z : refusal bad_image k ≡ refusal bad_heights p = cc in let y = ap (λ (r : Refusal). number_of r.reason) z in absurd (omega arith)
+  found (malformed k) e q =
+      let z : refusal bad_image k ≡ refusal bad_heights p = cc in let y = ap (λ (r : Refusal). number_of r.reason) z in absurd (omega arith)
 
   -- a first failing chunk is answered with 25
-  refused : {m : Image} {v : Verdict} → FirstFailing hs m m.pool p → Right hs m m.pool v → verdict_answer v room ≡ Err (refusal bad_heights p)
+  refused : {m : Image} {v : Verdict} → FirstFailing hs m m.pool p → Right hs m m.pool v
+      → verdict_answer v room ≡ Err (refusal bad_heights p)
   refused f (Right.tops a t) = absurd (none_failing a f)
   refused f (Right.fails g) = ap (λ k. Err (refusal bad_heights k)) (failing_once g f)
 

@@ -1,4 +1,5 @@
--- A trial run refuses with 25 at a place exactly when its work area is long enough and the bytes read as an image whose first failing chunk has this place.
+-- A trial run refuses with 25 at a place exactly when its work area is long enough and the bytes read as an image whose first failing chunk
+-- has this place.
 use Prim.Native.Nat.{ℕ, ◌*◌, ◌≤◌}
 use native.Mathlib.Omega.{arith}
 use mathlib.Core.Bool.{Bool, true, false}
@@ -48,7 +49,8 @@ module _ (b : Bytes) (hs : List ℕ) (work room p : ℕ) where
         never (StopNumber.unset a) b = let e = ap number_of a in omega arith
 
     -- not by the output
-    go_room : refused_with hs m ≡ none → (x : Bool) → Is25 (pick x (trial_outcome (named_globals m.code) (trial m)) (Outcome.refused (refusal output_short 0))) → ⊥
+    go_room : refused_with hs m ≡ none → (x : Bool)
+        → Is25 (pick x (trial_outcome (named_globals m.code) (trial m)) (Outcome.refused (refusal output_short 0))) → ⊥
     go_room r true i = go_trial r (trial m) refl i
     go_room r false i = let z = other_number i in omega arith
 
@@ -58,7 +60,8 @@ module _ (b : Bytes) (hs : List ℕ) (work room p : ℕ) where
     go_taken none r i = go_room r (leb (9 * named_globals m.code) room) i
 
   -- by the verdict on the chunks
-  go_judged : (m : Image) (n : ℕ) → read_image b ≡ decoded m n → (v : Verdict) → judged hs m m.pool ≡ v → Right hs m m.pool v → Is25 (judged_outcome v hs m room) → FailsAt b hs p
+  go_judged : (m : Image) (n : ℕ) → read_image b ≡ decoded m n → (v : Verdict) → judged hs m m.pool ≡ v → Right hs m m.pool v
+      → Is25 (judged_outcome v hs m room) → FailsAt b hs p
   go_judged m n reads (Verdict.tops ns) e r i = absurd (go_taken m e (refused_with hs m) refl i)
   go_judged m n reads (Verdict.fails at) e (Right.fails f) i =
       let z : refusal bad_heights at ≡ refusal bad_heights p = cc in
@@ -70,17 +73,21 @@ module _ (b : Bytes) (hs : List ℕ) (work room p : ℕ) where
   go_image (malformed k) reads i = let z = other_number i in absurd (omega arith)
 
   -- by the work area
-  go_work : (x : Bool) → ltb work work_size ≡ x → Is25 (pick x (Outcome.refused (refusal short_buffer 0)) (image_outcome (read_image b) hs room)) → (work_size ≤ work) × FailsAt b hs p
+  go_work : (x : Bool) → ltb work work_size ≡ x
+      → Is25 (pick x (Outcome.refused (refusal short_buffer 0)) (image_outcome (read_image b) hs room))
+      → (work_size ≤ work) × FailsAt b hs p
   go_work true w i = let z = other_number i in absurd (omega arith)
   go_work false w i = (ltb-false work work_size w, go_image (read_image b) refl i)
 
   -- refused so
-  fails : {m : Image} {v : Verdict} → FirstFailing hs m m.pool p → Right hs m m.pool v → judged_outcome v hs m room ≡ Outcome.refused (refusal bad_heights p)
+  fails : {m : Image} {v : Verdict} → FirstFailing hs m m.pool p → Right hs m m.pool v
+      → judged_outcome v hs m room ≡ Outcome.refused (refusal bad_heights p)
   fails f (Right.tops a t) = absurd (none_failing a f)
   fails f (Right.fails g) = ap (λ k. Outcome.refused (refusal bad_heights k)) (failing_once g f)
 
   -- Number 25, of any call that keeps the promise of `run`
-  pub number_25_run : {r : Result Ran Refusal} → r ≡ outcome_answer (run_outcome b hs work room) → (r ≡ Err (refusal bad_heights p)) ↔ ((work_size ≤ work) × FailsAt b hs p)
+  pub number_25_run : {r : Result Ran Refusal} → r ≡ outcome_answer (run_outcome b hs work room)
+      → (r ≡ Err (refusal bad_heights p)) ↔ ((work_size ≤ work) × FailsAt b hs p)
   number_25_run h = (
     λ i. go_work (ltb work work_size) refl (sym h ∙ i),
     λ k. h

@@ -1,5 +1,5 @@
--- Translating an image refuses with 26 at an offset exactly when its first wrong jump is there: into the chin form one to before its own end, and back one with a distance
--- whose target passes 65,535.
+-- Translating an image refuses with 26 at an offset exactly when its first wrong jump is there: into the chin form one to before its own
+-- end, and back one with a distance whose target passes 65,535.
 use Prim.Native.Nat.{ℕ, ◌+◌, ◌≤◌}
 use native.Mathlib.Omega.{arith}
 use mathlib.Core.Bool.{Bool, true, false}
@@ -31,7 +31,8 @@ use Rattle.definition.proofs.Reached.{stands_within}
 use Rattle.promises.specs.Refusals.{FunctionFrom, ChunkFrom, JumpAt, Backwards, TooFar, FirstJump}
 
 -- a function's code lies among the constants
-within : {start : ℕ} {cs : List Const} {from : ℕ} {c : Code} → FunctionFrom start cs from c → (start ≤ from) × (from + size_of c ≤ start + pool_size cs)
+within : {start : ℕ} {cs : List Const} {from : ℕ} {c : Code} → FunctionFrom start cs from c
+    → (start ≤ from) × (from + size_of c ≤ start + pool_size cs)
 within (FunctionFrom.last {c = c}) = (omega arith, omega (arith, code-length c))
 within (FunctionFrom.before h) = let w = within h in (w.0, omega (arith, w.1))
 
@@ -41,7 +42,8 @@ not_26 ns room p e = go (leb (length ns) room) e
   where
     go : (b : Bool) → pick b (Ok (length ns)) (Err (refusal output_short 0)) ≡ Err (refusal bad_jump p) → ⊥
     go true e = let z : ◌≡◌ {A = ℕ} 0 1 = cc in omega arith
-    go false e = let z : refusal output_short 0 ≡ refusal bad_jump p = cc in let y = ap (λ (r : Refusal). number_of r.reason) z in omega arith
+    go false e =
+        let z : refusal output_short 0 ≡ refusal bad_jump p = cc in let y = ap (λ (r : Refusal). number_of r.reason) z in omega arith
 
 module _ (jump : Jump) (Wrong : ℕ → ℕ → Type 0) (lacks : (end a : ℕ) → (jump end a ≡ None) ↔ Wrong end a) where
   -- code, or a pool, that passes has no wrong jump
@@ -51,7 +53,8 @@ module _ (jump : Jump) (Wrong : ℕ → ℕ → Type 0) (lacks : (end a : ℕ) �
   passing_none (Passing.another f g) (Stands.before s) j w = passing_none g s j w
 
   -- nor has a pool
-  pool_none : {start : ℕ} {cs : List Const} → All (PassingConst jump) cs → {from : ℕ} {c : Code} → FunctionFrom start cs from c → {i : Instr} {q : ℕ} → Stands i q c → jumps i.op ≡ true → Wrong (q + size i) i.a → ⊥
+  pool_none : {start : ℕ} {cs : List Const} → All (PassingConst jump) cs → {from : ℕ} {c : Code} → FunctionFrom start cs from c
+      → {i : Instr} {q : ℕ} → Stands i q c → jumps i.op ≡ true → Wrong (q + size i) i.a → ⊥
   pool_none All.none h s j w = elim h [ ]
   pool_none (All.more (PassingConst.functions f) fs) FunctionFrom.last s j w = passing_none f s j w
   pool_none (All.more f fs) (FunctionFrom.before h) s j w = pool_none fs h s j w
@@ -77,7 +80,8 @@ module _ (jump : Jump) (Wrong : ℕ → ℕ → Type 0) (lacks : (end a : ℕ) �
   in_code (FirstBad.before {i} {c} b) = later (in_code b)
     where
       later : {start p : ℕ} → InCode start c p → InCode start (i ∷ c) p
-      later r = record { instr = r.instr; position = r.position; stands = Stands.before r.stands; place = r.place; jumping = r.jumping; wrong = r.wrong; first = λ s j w. go s j w }
+      later r =
+          record { instr = r.instr; position = r.position; stands = Stands.before r.stands; place = r.place; jumping = r.jumping; wrong = r.wrong; first = λ s j w. go s j w }
         where
           go : {k : Instr} {q : ℕ} → Stands k q (i ∷ c) → jumps k.op ≡ true → Wrong (q + size k) k.a → r.position ≤ q
           go Stands.last j w = let l = stands_within r.stands in omega arith
@@ -89,7 +93,8 @@ module _ (jump : Jump) (Wrong : ℕ → ℕ → Type 0) (lacks : (end a : ℕ) �
     code : Code
     chunk : FunctionFrom start cs from code
     found : InCode from code p
-    first : {at : ℕ} {c : Code} → FunctionFrom start cs at c → {i : Instr} {q : ℕ} → Stands i q c → jumps i.op ≡ true → Wrong (q + size i) i.a → p ≤ at + q
+    first : {at : ℕ} {c : Code} → FunctionFrom start cs at c → {i : Instr} {q : ℕ} → Stands i q c → jumps i.op ≡ true
+        → Wrong (q + size i) i.a → p ≤ at + q
 
   -- a first bad constant has it
   in-pool : {start : ℕ} {cs : List Const} {p : ℕ} → FirstBadConst jump start cs p → InPool start cs p
@@ -97,7 +102,8 @@ module _ (jump : Jump) (Wrong : ℕ → ℕ → Type 0) (lacks : (end a : ℕ) �
       let r = in_code b in
       record { from = start + pool_size cs + 3 + 3; code = c; chunk = FunctionFrom.last; found = r; first = λ h s j w. go r h s j w }
     where
-      go : InCode (start + pool_size cs + 3 + 3) c p → {at : ℕ} {d : Code} → FunctionFrom start (Const.function l n c ∷ cs) at d → {i : Instr} {q : ℕ} → Stands i q d → jumps i.op ≡ true → Wrong (q + size i) i.a → p ≤ at + q
+      go : InCode (start + pool_size cs + 3 + 3) c p → {at : ℕ} {d : Code} → FunctionFrom start (Const.function l n c ∷ cs) at d
+          → {i : Instr} {q : ℕ} → Stands i q d → jumps i.op ≡ true → Wrong (q + size i) i.a → p ≤ at + q
       go r FunctionFrom.last s j w = let f = r.first s j w in omega (arith, r.place)
       go r (FunctionFrom.before h) s j w = absurd (pool_none fs h s j w)
   in-pool {start} {p = p} (FirstBadConst.before {c} {cs} b) = later (in-pool b)
@@ -105,7 +111,8 @@ module _ (jump : Jump) (Wrong : ℕ → ℕ → Type 0) (lacks : (end a : ℕ) �
       later : InPool start cs p → InPool start (c ∷ cs) p
       later r = record { from = r.from; code = r.code; chunk = FunctionFrom.before r.chunk; found = r.found; first = λ h s j w. go h s j w }
         where
-          go : {x : Const} {at : ℕ} {d : Code} → FunctionFrom start (x ∷ cs) at d → {i : Instr} {q : ℕ} → Stands i q d → jumps i.op ≡ true → Wrong (q + size i) i.a → p ≤ at + q
+          go : {x : Const} {at : ℕ} {d : Code} → FunctionFrom start (x ∷ cs) at d → {i : Instr} {q : ℕ} → Stands i q d → jumps i.op ≡ true
+              → Wrong (q + size i) i.a → p ≤ at + q
           go FunctionFrom.last s j w = let a = within r.chunk in let l = stands_within r.found.stands in omega (arith, a.1, r.found.place)
           go (FunctionFrom.before h) s j w = r.first h s j w
 
@@ -123,7 +130,8 @@ module _ (jump : Jump) (Wrong : ℕ → ℕ → Type 0) (lacks : (end a : ℕ) �
         first = λ q k. go r k.chunk k.stands k.jumping k.wrong k.place;
       }
     where
-      go : InCode 3 m.code p → {at : ℕ} {c : Code} → ChunkFrom m at c → {i : Instr} {x q : ℕ} → Stands i x c → jumps i.op ≡ true → Wrong (x + size i) i.a → q ≡ at + x → p ≤ q
+      go : InCode 3 m.code p → {at : ℕ} {c : Code} → ChunkFrom m at c → {i : Instr} {x q : ℕ} → Stands i x c → jumps i.op ≡ true
+          → Wrong (x + size i) i.a → q ≡ at + x → p ≤ q
       go r ChunkFrom.main s j w e = let f = r.first s j w in omega (arith, r.place)
       go r (ChunkFrom.function h) s j w e = let l = stands_within r.stands in let a = within h in omega (arith, a.0, r.place)
   in_image {m} {p} (Judged.in_pool f b) =
@@ -134,7 +142,8 @@ module _ (jump : Jump) (Wrong : ℕ → ℕ → Type 0) (lacks : (end a : ℕ) �
         first = λ q k. go r k.chunk k.stands k.jumping k.wrong k.place;
       }
     where
-      go : InPool (6 + size_of m.code) m.pool p → {at : ℕ} {c : Code} → ChunkFrom m at c → {i : Instr} {x q : ℕ} → Stands i x c → jumps i.op ≡ true → Wrong (x + size i) i.a → q ≡ at + x → p ≤ q
+      go : InPool (6 + size_of m.code) m.pool p → {at : ℕ} {c : Code} → ChunkFrom m at c → {i : Instr} {x q : ℕ} → Stands i x c
+          → jumps i.op ≡ true → Wrong (x + size i) i.a → q ≡ at + x → p ≤ q
       go r ChunkFrom.main s j w e = absurd (passing_none f s j w)
       go r (ChunkFrom.function h) s j w e = let l = r.first h s j w in omega arith
 
@@ -149,12 +158,15 @@ module _ (jump : Jump) (Wrong : ℕ → ℕ → Type 0) (lacks : (end a : ℕ) �
   -- and one that has none before it is stopped there
   stops_there : {m : Image} {p : ℕ} → InImage m p → {r : Made Image} → Judged jump m r → r ≡ stopped p
   stops_there {m} {p} k (Judged.passes f g) = absurd (image_none f g k.here)
-  stops_there {m} {p} k (Judged.in_main {p = q} b) = let i = in_image {m = m} (Judged.in_main b) in let a = k.first q i.here in let c = i.first p k.here in ap stopped (omega arith)
-  stops_there {m} {p} k (Judged.in_pool {p = q} f b) = let i = in_image {m = m} (Judged.in_pool f b) in let a = k.first q i.here in let c = i.first p k.here in ap stopped (omega arith)
+  stops_there {m} {p} k (Judged.in_main {p =
+      q} b) = let i = in_image {m = m} (Judged.in_main b) in let a = k.first q i.here in let c = i.first p k.here in ap stopped (omega arith)
+  stops_there {m} {p} k (Judged.in_pool {p =
+      q} f b) = let i = in_image {m = m} (Judged.in_pool f b) in let a = k.first q i.here in let c = i.first p k.here in ap stopped (omega arith)
 
   module _ (form to : Form) (b : Bytes) (room p : ℕ) where
     -- 26 comes from a translation that stops
-    found : (d : Decoded Image) → read_form form b ≡ d → answer_of (turn to jump d) room ≡ Err (refusal bad_jump p) → FirstJump form Wrong b p
+    found : (d : Decoded Image) → read_form form b ≡ d → answer_of (turn to jump d) room ≡ Err (refusal bad_jump p)
+        → FirstJump form Wrong b p
     found (decoded m n) e q = go (turn_image jump m) (judges jump m) q
       where
         go : (r : Made Image) → Judged jump m r → answer_of (wrote to r) room ≡ Err (refusal bad_jump p) → FirstJump form Wrong b p
@@ -164,7 +176,8 @@ module _ (jump : Jump) (Wrong : ℕ → ℕ → Type 0) (lacks : (end a : ℕ) �
             let i = in_image (subst (λ k. Judged jump m (stopped k)) (ap (λ (r : Refusal). r.place) z) j) in
             record { image = m; end = n; reads = e; here = i.here; first = i.first }
     -- 26 comes from a translation that stops
-    found (malformed k) e q = let z : refusal bad_image k ≡ refusal bad_jump p = cc in let y = ap (λ (r : Refusal). number_of r.reason) z in absurd (omega arith)
+    found (malformed k) e q =
+        let z : refusal bad_image k ≡ refusal bad_jump p = cc in let y = ap (λ (r : Refusal). number_of r.reason) z in absurd (omega arith)
 
     -- of a translation from one form into the other
     refused_26 : {r : Answer} → r ≡ answer_of (translate form to jump b) room → (r ≡ Err (refusal bad_jump p)) ↔ FirstJump form Wrong b p
@@ -175,9 +188,11 @@ module _ (jump : Jump) (Wrong : ℕ → ℕ → Type 0) (lacks : (end a : ℕ) �
     )
 
 -- Number 26, of any call that keeps the promise of `to_chin`
-pub number_26 : (b : Bytes) (room p : ℕ) {r : Answer} → r ≡ answer_of (to_chin b) room → (r ≡ Err (refusal bad_jump p)) ↔ FirstJump Plain Backwards b p
+pub number_26 : (b : Bytes) (room p : ℕ) {r : Answer} → r ≡ answer_of (to_chin b) room
+    → (r ≡ Err (refusal bad_jump p)) ↔ FirstJump Plain Backwards b p
 number_26 b room p k = refused_26 distance Backwards no_distance Plain Chin b room p k
 
 -- and of `from_chin`
-pub number_26_back : (b : Bytes) (room p : ℕ) {r : Answer} → r ≡ answer_of (from_chin b) room → (r ≡ Err (refusal bad_jump p)) ↔ FirstJump Chin TooFar b p
+pub number_26_back : (b : Bytes) (room p : ℕ) {r : Answer} → r ≡ answer_of (from_chin b) room
+    → (r ≡ Err (refusal bad_jump p)) ↔ FirstJump Chin TooFar b p
 number_26_back b room p k = refused_26 target TooFar no_target Chin Plain b room p k

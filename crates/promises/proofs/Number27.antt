@@ -1,5 +1,5 @@
--- A trial run refuses with 27 at an offset exactly when its work area is long enough, the bytes read as an image that passes with the heights, and the first instruction of main
--- that a run does not take is there.
+-- A trial run refuses with 27 at an offset exactly when its work area is long enough, the bytes read as an image that passes with the
+-- heights, and the first instruction of main that a run does not take is there.
 use Prim.Native.Nat.{ℕ, ◌+◌, ◌-◌, ◌*◌, ◌≤◌}
 use native.Mathlib.Omega.{arith}
 use mathlib.Core.Bool.{Bool, true, false}
@@ -70,7 +70,8 @@ module _ (m : Image) (f : Marks) (back : Backed m.code f) (there : (p x : ℕ) �
     where
       go : (a : Bool) → runnable m.pool i ≡ a → (b : Bool) → leb (f p) (2 + stack_limit) ≡ b → both a b ≡ false → NotRun m i p
       go false q b r e = not-runnable i p q
-      go true q false r e = let l = leb-false (f p) (2 + stack_limit) r in NotRun.high {x = f p - 2} (back.way p (f p - 2) (omega arith)) (omega arith)
+      go true q false r e =
+          let l = leb-false (f p) (2 + stack_limit) r in NotRun.high {x = f p - 2} (back.way p (f p - 2) (omega arith)) (omega arith)
       go true q true r e = let z : ◌≡◌ {A = ℕ} 0 1 = cc in absurd (omega arith)
 
   -- and the other way round
@@ -81,10 +82,16 @@ module _ (m : Image) (f : Marks) (back : Backed m.code f) (there : (p x : ℕ) �
   -- what the plain words refuse is not taken
   refuses : (i : Instr) (p : ℕ) → NotRun m i p → taken m.pool f p i ≡ false
   refuses i p (NotRun.other q) = ap (λ a. both (runnable_as m.pool i.a a) (leb (f p) (2 + stack_limit))) q
-  refuses i p (NotRun.no_integer q n) = ap (λ a. both (runnable_as m.pool i.a a) (leb (f p) (2 + stack_limit))) q ∙ ap (λ o. both (is_some o) (leb (f p) (2 + stack_limit))) n
-  refuses i p (NotRun.gets q l) = ap (λ a. both (runnable_as m.pool i.a a) (leb (f p) (2 + stack_limit))) q ∙ ap (λ b. both b (leb (f p) (2 + stack_limit))) (le-ltb i.a globals_limit (omega arith))
-  refuses i p (NotRun.sets q l) = ap (λ a. both (runnable_as m.pool i.a a) (leb (f p) (2 + stack_limit))) q ∙ ap (λ b. both b (leb (f p) (2 + stack_limit))) (le-ltb i.a globals_limit (omega arith))
-  refuses i p (NotRun.high {x = x} r l) = let e = there p x r in both_no (runnable m.pool i) _ (lt-leb (f p) (2 + stack_limit) (omega arith))
+  refuses i p (NotRun.no_integer q n) =
+      ap (λ a. both (runnable_as m.pool i.a a) (leb (f p) (2 + stack_limit))) q ∙ ap (λ o. both (is_some o) (leb (f p) (2 + stack_limit))) n
+  refuses i p (NotRun.gets q l) =
+      ap (λ a. both (runnable_as m.pool i.a a) (leb (f p) (2 + stack_limit))) q
+      ∙ ap (λ b. both b (leb (f p) (2 + stack_limit))) (le-ltb i.a globals_limit (omega arith))
+  refuses i p (NotRun.sets q l) =
+      ap (λ a. both (runnable_as m.pool i.a a) (leb (f p) (2 + stack_limit))) q
+      ∙ ap (λ b. both b (leb (f p) (2 + stack_limit))) (le-ltb i.a globals_limit (omega arith))
+  refuses i p (NotRun.high {x =
+      x} r l) = let e = there p x r in both_no (runnable m.pool i) _ (lt-leb (f p) (2 + stack_limit) (omega arith))
 
 -- The first of code
 
@@ -122,7 +129,8 @@ module _ (pool : List Const) (f : Marks) where
           at Stands.last t = omega arith
           at (Stands.before s) t = true-false (all_taken pool f c n s) t
 
-      go : (o : Option ℕ) → first_refused pool f c ≡ o → ((p : ℕ) → first_refused pool f c ≡ some p → First pool f c p) → (b : Bool) → taken pool f (size_of c) i ≡ b → or_else o (pick b none (some (size_of c))) ≡ some q → First pool f (i ∷ c) q
+      go : (o : Option ℕ) → first_refused pool f c ≡ o → ((p : ℕ) → first_refused pool f c ≡ some p → First pool f c p) → (b : Bool)
+          → taken pool f (size_of c) i ≡ b → or_else o (pick b none (some (size_of c))) ≡ some q → First pool f (i ∷ c) q
       go (some p) r d b t e = let z : p ≡ q = cc in later (subst (First pool f c) z (d p r))
       go none r d true t e = let z : ◌≡◌ {A = ℕ} 0 1 = cc in absurd (omega arith)
       go none r d false t e = let z : size_of c ≡ q = cc in subst (First pool f (i ∷ c)) z (here r t)
@@ -133,7 +141,8 @@ module _ (pool : List Const) (f : Marks) where
     where
       go : (o : Option ℕ) → first_refused pool f c ≡ o → first_refused pool f c ≡ some q
       go none e = true-false (all_taken pool f c e k.stands) k.refused
-      go (some p) e = let r = found c e in let a = k.first r.stands r.refused in let b = r.first k.stands k.refused in let z : p ≡ q = omega arith in e ∙ ap some z
+      go (some p) e =
+          let r = found c e in let a = k.first r.stands r.refused in let b = r.first k.stands k.refused in let z : p ≡ q = omega arith in e ∙ ap some z
 
 -- Main, where all chunks pass
 
@@ -168,7 +177,8 @@ module _ (hs : List ℕ) (m : Image) {ns : List ℕ} (e : judged hs m m.pool ≡
       }
 
   -- and its position is the one that 27 refuses
-  first_is : {i : Instr} {q : ℕ} → Stands i q m.code → NotRun m i q → ((j : Instr) (p : ℕ) → Stands j p m.code → NotRun m j p → q ≤ p) → refused_with hs m ≡ some q
+  first_is : {i : Instr} {q : ℕ} → Stands i q m.code → NotRun m i q → ((j : Instr) (p : ℕ) → Stands j p m.code → NotRun m j p → q ≤ p)
+      → refused_with hs m ≡ some q
   first_is {i} {q} s n h =
       refused_is
       ∙ finds m.pool (arrived hs m e).state.marks
@@ -200,7 +210,8 @@ module _ (b : Bytes) (hs : List ℕ) (work room p : ℕ) where
         go (Right.fails {at} f) q = let z : ◌≡◌ {A = ℕ} 0 1 = cc in absurd (omega arith)
 
     -- not by the run
-    go_trial : refused_with hs m ≡ none → (t : Trial) → trial m ≡ t → Is27 (trial_outcome (named_globals m.code) t) → FirstNotRun b hs work p
+    go_trial : refused_with hs m ≡ none → (t : Trial) → trial m ≡ t → Is27 (trial_outcome (named_globals m.code) t)
+        → FirstNotRun b hs work p
     go_trial r (Trial.ran g k) q i = let z : ◌≡◌ {A = ℕ} 0 1 = cc in absurd (omega arith)
     go_trial r (Trial.stopped k at) q i = absurd (never (trial_stops m (λ i p s. (main_safe hs m e r).runs s) q) (other_number i))
       where
@@ -209,7 +220,9 @@ module _ (b : Bytes) (hs : List ℕ) (work room p : ℕ) where
         never (StopNumber.unset a) b = let e = ap number_of a in omega arith
 
     -- not by the output
-    go_room : refused_with hs m ≡ none → (x : Bool) → Is27 (pick x (trial_outcome (named_globals m.code) (trial m)) (Outcome.refused (refusal output_short 0))) → FirstNotRun b hs work p
+    go_room : refused_with hs m ≡ none → (x : Bool)
+        → Is27 (pick x (trial_outcome (named_globals m.code) (trial m)) (Outcome.refused (refusal output_short 0)))
+        → FirstNotRun b hs work p
     go_room r true i = go_trial r (trial m) refl i
     go_room r false i = let z = other_number i in absurd (omega arith)
 
@@ -234,7 +247,8 @@ module _ (b : Bytes) (hs : List ℕ) (work room p : ℕ) where
     go_taken none r i = go_room r (leb (9 * named_globals m.code) room) i
 
   -- by the verdict on the chunks
-  go_judged : work_size ≤ work → (m : Image) (n : ℕ) → read_image b ≡ decoded m n → (v : Verdict) → judged hs m m.pool ≡ v → Is27 (judged_outcome v hs m room) → FirstNotRun b hs work p
+  go_judged : work_size ≤ work → (m : Image) (n : ℕ) → read_image b ≡ decoded m n → (v : Verdict) → judged hs m m.pool ≡ v
+      → Is27 (judged_outcome v hs m room) → FirstNotRun b hs work p
   go_judged long m n reads (Verdict.tops ns) e i = go_taken long m n reads e (refused_with hs m) refl i
   go_judged long m n reads (Verdict.fails at) e i = let z = other_number i in absurd (omega arith)
 
@@ -244,7 +258,8 @@ module _ (b : Bytes) (hs : List ℕ) (work room p : ℕ) where
   go_image long (malformed k) reads i = let z = other_number i in absurd (omega arith)
 
   -- by the work area
-  go_work : (x : Bool) → ltb work work_size ≡ x → Is27 (pick x (Outcome.refused (refusal short_buffer 0)) (image_outcome (read_image b) hs room)) → FirstNotRun b hs work p
+  go_work : (x : Bool) → ltb work work_size ≡ x
+      → Is27 (pick x (Outcome.refused (refusal short_buffer 0)) (image_outcome (read_image b) hs room)) → FirstNotRun b hs work p
   go_work true w i = let z = other_number i in absurd (omega arith)
   go_work false w i = go_image (ltb-false work work_size w) (read_image b) refl i
 
@@ -259,5 +274,6 @@ module _ (b : Bytes) (hs : List ℕ) (work room p : ℕ) where
       ∙ ap (λ p. Err (refusal Number.not_runnable p)) (sym k.place)
 
   -- Number 27, of any call that keeps the promise of `run`
-  pub number_27 : {r : Result Ran Refusal} → r ≡ outcome_answer (run_outcome b hs work room) → (r ≡ Err (refusal Number.not_runnable p)) ↔ FirstNotRun b hs work p
+  pub number_27 : {r : Result Ran Refusal} → r ≡ outcome_answer (run_outcome b hs work room)
+      → (r ≡ Err (refusal Number.not_runnable p)) ↔ FirstNotRun b hs work p
   number_27 h = (λ i. go_work (ltb work work_size) refl (sym h ∙ i), λ k. h ∙ is_27 k)

@@ -20,7 +20,8 @@ steps_in = map (λ (x : Traced). x.step)
 -- what plain turns give is what the calls give
 pub plain-turns : (s : Bytes) (cs : List Call) → called_in (turns s (map Turn.plain cs)) ≡ calls s cs
 plain-turns s [] = refl
-plain-turns s (c ∷ cs) = ap {B = List Called} (λ xs. call c.tree (lent s c) ∷ xs) (plain-turns (session_after s (call c.tree (lent s c)).lent.session) cs)
+plain-turns s (c ∷ cs) =
+    ap {B = List Called} (λ xs. call c.tree (lent s c) ∷ xs) (plain-turns (session_after s (call c.tree (lent s c)).lent.session) cs)
 
 -- likewise the shapes'
 plain-steps : (z : Session) (cs : List Call) → steps_in (shaped_turns_from z (map Turn.plain cs)) ≡ steps z (map shaped cs)

@@ -32,13 +32,16 @@ pub turns-pass : {s : Bytes} {w : Words} → Start s w → (ts : List Turn) → 
 turns-pass a ts = in_turns CallPasses none_wrote a (calls-pass a) ts
 
 -- of any calls that keep the promise of `compile`
-pub compile_heights : {a : Bytes} {w : Words} → MadeBy a w → (cs : List Call) (xs : List Called) → Ran (take session_size a) cs xs → All CallPasses xs
+pub compile_heights : {a : Bytes} {w : Words} → MadeBy a w → (cs : List Call) (xs : List Called) → Ran (take session_size a) cs xs
+    → All CallPasses xs
 compile_heights m cs xs x = subst (All CallPasses) (sym (ran-calls x)) (calls-pass (made-start m) cs)
 
 -- of any calls that give what the definition's turns give
-pub any_heights : {K : Bytes → AnyCall → AnyDone → Type 0} → Gives K → {s : Bytes} {w : Words} → Start s w → {cs : List AnyCall} {xs : List AnyDone} → RanBy K s cs xs → All (λ (x : AnyDone). CallPasses (called_of x)) xs
+pub any_heights : {K : Bytes → AnyCall → AnyDone → Type 0} → Gives K → {s : Bytes} {w : Words} → Start s w
+    → {cs : List AnyCall} {xs : List AnyDone} → RanBy K s cs xs → All (λ (x : AnyDone). CallPasses (called_of x)) xs
 any_heights g a {cs} x = all_ran g CallPasses x (turns-pass a (map turn_of cs))
 
 -- of calls of `compile`, `compile_with_records` and `compile_names` in any order
-pub mixed_heights : {a : Bytes} {w : Words} → MadeBy a w → (cs : List AnyCall) (xs : List AnyDone) → RanMixed (take session_size a) cs xs → All (λ (x : AnyDone). CallPasses (called_of x)) xs
+pub mixed_heights : {a : Bytes} {w : Words} → MadeBy a w → (cs : List AnyCall) (xs : List AnyDone) → RanMixed (take session_size a) cs xs
+    → All (λ (x : AnyDone). CallPasses (called_of x)) xs
 mixed_heights m cs xs x = any_heights kept_done (made-start m) x

@@ -1,5 +1,6 @@
--- Number 13 never arises: the code of each construct is paid from the construct's bytes in the tree. What a construct has emitted, and the loads that the innermost open function owes for its
--- captures, is no more than its bytes; a statement has two to spare, from which an If without else pays.
+-- Number 13 never arises: the code of each construct is paid from the construct's bytes in the tree. What a construct has emitted, and the
+-- loads that the innermost open function owes for its captures, is no more than its bytes; a statement has two to spare, from which an If
+-- without else pays.
 use Prim.Native.Nat.{ℕ, zero, suc, ◌+◌, ◌*◌, ◌-◌, ◌≤◌}
 use native.Mathlib.Omega.{arith}
 use mathlib.Core.Bool.{Bool, true, false}
@@ -44,7 +45,8 @@ data Pays {A : Type 0} (Q : A → State → Type 0) : Res State A → Type 0 whe
   stop : {r : Refusal} {s : State} → (number_of r.reason ≡ number_of Number.code → ⊥) → Pays Q (Res.stop r s)
 
 module _ {A : Type 0} {Q : A → State → Type 0} where
-  pays_bind : {B : Type 0} {P : B → State → Type 0} {x : Res State B} {k : B → State → Res State A} → Pays P x → ((b : B) (s : State) → P b s → Pays Q (k b s)) → Pays Q (bind x k)
+  pays_bind : {B : Type 0} {P : B → State → Type 0} {x : Res State B} {k : B → State → Res State A} → Pays P x
+      → ((b : B) (s : State) → P b s → Pays Q (k b s)) → Pays Q (bind x k)
   pays_bind (Pays.on {a = a} {s = s} p) f = f a s p
   pays_bind (Pays.stop n) f = Pays.stop n
 
@@ -66,12 +68,15 @@ paid_code : {s s' : State} {c : ℕ} → Paid s c s' → s'.around + size_of s'.
 paid_code p = omega (arith, p.around, p.code, chained_held p.chained)
 
 -- an instruction, where there is room
-pays_emit : {Q : Unit {0} → State → Type 0} (closing p : ℕ) (i : Instr) (s : State) → s.around + size_of s.code + closing + size i ≤ code_size → Q tt (with_code (i ∷ s.code) s) → Pays Q (emit_beside closing p i s)
+pays_emit : {Q : Unit {0} → State → Type 0} (closing p : ℕ) (i : Instr) (s : State)
+    → s.around + size_of s.code + closing + size i ≤ code_size → Q tt (with_code (i ∷ s.code) s) → Pays Q (emit_beside closing p i s)
 unfolding emit_beside
-pays_emit {Q} closing p i s h q = chosen (Pays Q) (leb (s.around + size_of s.code + closing + size i) code_size) (λ _. Pays.on q) (λ e. absurd (omega (arith, leb-false (s.around + size_of s.code + closing + size i) code_size e)))
+pays_emit {Q} closing p i s h q =
+    chosen (Pays Q) (leb (s.around + size_of s.code + closing + size i) code_size) (λ _. Pays.on q) (λ e. absurd (omega (arith, leb-false (s.around + size_of s.code + closing + size i) code_size e)))
 
 -- for its own bytes
-emits : {s₀ s : State} {c : ℕ} (p : ℕ) (i : Instr) (t : ℕ) → Paid s₀ c s → c + size i ≤ t → Room s₀ t → Pays (λ (_ : Unit {0}). Paid s₀ t) (emit p i s)
+emits : {s₀ s : State} {c : ℕ} (p : ℕ) (i : Instr) (t : ℕ) → Paid s₀ c s → c + size i ≤ t → Room s₀ t
+    → Pays (λ (_ : Unit {0}). Paid s₀ t) (emit p i s)
 emits {s₀} {s} {c} p i t k h r =
     pays_emit 0 p i s (omega (arith, paid_code k)) (record { around = k.around; code = omega (arith, k.code); names = omega (arith, k.names); chained = k.chained })
 
@@ -82,11 +87,13 @@ adds {s₀} {s} {t} p c k =
     chosen (Pays (λ (_ : ℕ). Paid s₀ t)) (leb constants_limit (length s.pool)) (λ _. refuses tt) (λ _.
     chosen (Pays (λ (_ : ℕ). Paid s₀ t)) (leb (pool_size (c ∷ s.pool)) pool_limit) (λ _. Pays.on (record { around = k.around; code = k.code; names = k.names; chained = k.chained })) (λ _. refuses tt))
 
-literals : {s₀ s : State} {c : ℕ} (p : ℕ) (x : Const) (t : ℕ) → Paid s₀ c s → c + 3 ≤ t → Room s₀ t → Pays (λ (_ : Unit {0}). Paid s₀ t) (literal p x s)
+literals : {s₀ s : State} {c : ℕ} (p : ℕ) (x : Const) (t : ℕ) → Paid s₀ c s → c + 3 ≤ t → Room s₀ t
+    → Pays (λ (_ : Unit {0}). Paid s₀ t) (literal p x s)
 literals p x t k h r = pays_bind (adds p x k) (λ n s₁ q. emits p (instr op_constant n 0) t q (omega arith) r)
 
 -- a name: its load, and what it captures
-names : {s₀ s : State} {c : ℕ} (p : ℕ) (n : Bytes) (t : ℕ) → Paid s₀ c s → c + 4 ≤ t → Room s₀ t → Pays (λ (_ : Unit {0}). Paid s₀ t) (load p n s)
+names : {s₀ s : State} {c : ℕ} (p : ℕ) (n : Bytes) (t : ℕ) → Paid s₀ c s → c + 4 ≤ t → Room s₀ t
+    → Pays (λ (_ : Unit {0}). Paid s₀ t) (load p n s)
 unfolding load
 names {s₀} {s} {c} p n t k h r = go (finding s.words s.globals n s.tables)
   where
@@ -120,7 +127,8 @@ record Jumped (s₀ : State) (t : ℕ) (s : State) : Type 0 where
   no_pop : last_is op_pop s.code ≡ false
   no_return : last_is op_return_value s.code ≡ false
 
-jumps : {s₀ s : State} {c : ℕ} (p o t : ℕ) → Paid s₀ c s → size (instr o unpatched 0) ≡ 3 → eqb o op_pop ≡ false → eqb o op_return_value ≡ false → c + 3 ≤ t → Room s₀ t → Pays (λ (_ : ℕ). Jumped s₀ t) (jump p o s)
+jumps : {s₀ s : State} {c : ℕ} (p o t : ℕ) → Paid s₀ c s → size (instr o unpatched 0) ≡ 3 → eqb o op_pop ≡ false
+    → eqb o op_return_value ≡ false → c + 3 ≤ t → Room s₀ t → Pays (λ (_ : ℕ). Jumped s₀ t) (jump p o s)
 unfolding jump
 jumps {s₀} {s} {c} p o t k e f g h r =
     pays_bind {P = λ (_ : Unit {0}). Jumped s₀ t}
@@ -129,7 +137,8 @@ jumps {s₀} {s} {c} p o t k e f g h r =
 
 patched : {s₀ s : State} {c : ℕ} (j : ℕ) → Paid s₀ c s → Paid s₀ c (patch j s)
 unfolding patch
-patched {s = s} j k = record { around = k.around; code = omega (arith, k.code, size_of-change_operand j (size_of s.code) s.code); names = k.names; chained = k.chained }
+patched {s =
+    s} j k = record { around = k.around; code = omega (arith, k.code, size_of-change_operand j (size_of s.code) s.code); names = k.names; chained = k.chained }
 
 -- a branch's end
 without_less : (c : Code) → size_of (without_last c) ≤ size_of c
@@ -146,7 +155,8 @@ drops {s₀} {s} {c} p k =
     without = record { around = k.around; code = omega (arith, k.code, without_less s.code); names = k.names; chained = k.chained }
 
 -- right behind a jump it is refused with 22
-drops_none : {Q : Unit {0} → State → Type 0} (s : State) (p : ℕ) → last_is op_pop s.code ≡ false → last_is op_return_value s.code ≡ false → Pays Q (dropped p s)
+drops_none : {Q : Unit {0} → State → Type 0} (s : State) (p : ℕ) → last_is op_pop s.code ≡ false → last_is op_return_value s.code ≡ false
+    → Pays Q (dropped p s)
 unfolding dropped
 drops_none {Q} s p e f = subst (Pays Q) (sym (pick_false _ _ e ∙ pick_false _ _ f)) (refuses tt)
 
@@ -160,11 +170,13 @@ both_light : (a b : Bool) → T (both a b) → T a × T b
 both_light true b h = (tt, h)
 both_light false b h = absurd h
 
-operates : {s₀ s : State} {c : ℕ} (p : ℕ) (os : List (Option ℕ)) → T (light os) → (o t : ℕ) → Paid s₀ c s → c + 1 ≤ t → Room s₀ t → Pays (λ (_ : Unit {0}). Paid s₀ t) (operate machine p (get_or os o none) s)
+operates : {s₀ s : State} {c : ℕ} (p : ℕ) (os : List (Option ℕ)) → T (light os) → (o t : ℕ) → Paid s₀ c s → c + 1 ≤ t → Room s₀ t
+    → Pays (λ (_ : Unit {0}). Paid s₀ t) (operate machine p (get_or os o none) s)
 unfolding light
 operates p [] l o t k h r = refuses tt
 operates p (none ∷ os) l zero t k h r = refuses tt
-operates p (some x ∷ os) l zero t k h r = let b = (both_light (leb (size (plain x)) 1) (light os) l).0 in emits p (plain x) t k (omega (arith, leb→le (size (plain x)) 1 b)) r
+operates p (some x ∷ os) l zero t k h r =
+    let b = (both_light (leb (size (plain x)) 1) (light os) l).0 in emits p (plain x) t k (omega (arith, leb→le (size (plain x)) 1 b)) r
 operates p (none ∷ os) l (suc o) t k h r = operates p os l o t k h r
 operates p (some x ∷ os) l (suc o) t k h r = operates p os (both_light (leb (size (plain x)) 1) (light os) l).1 o t k h r
 
@@ -214,7 +226,8 @@ record Laid (s : State) (w : ℕ) (s' : State) : Type 0 where
   tables : s'.tables ≡ s.tables
 
 -- the loads of captures, beside the closing chunk
-lays : (closing p : ℕ) (ys : List Symbol) (s : State) → s.around + size_of s.code + closing + weight ys ≤ code_size → Pays (λ (_ : Unit {0}). Laid s (weight ys)) (loads closing p ys s)
+lays : (closing p : ℕ) (ys : List Symbol) (s : State) → s.around + size_of s.code + closing + weight ys ≤ code_size
+    → Pays (λ (_ : Unit {0}). Laid s (weight ys)) (loads closing p ys s)
 unfolding loads
 lays closing p [] s h = let l : Laid s 0 s = record { around = refl; code = omega arith; tables = refl } in Pays.on l
 lays closing p (y ∷ ys) s h =
@@ -228,7 +241,8 @@ lays_constant {s₀} {s} {w} p c l =
     chosen (Pays (λ (_ : ℕ). Laid s₀ w)) (leb (pool_size (c ∷ s.pool)) pool_limit) (λ _. Pays.on (record { around = l.around; code = l.code; tables = l.tables })) (λ _. refuses tt))
 
 -- a function of so many bytes is closed
-closes : {s₀ s s₁ s₂ : State} {c : ℕ} (p k body t : ℕ) → Paid s₀ c s → Opened s s₁ → Paid s₁ body s₂ → c + (12 + body) ≤ t → Room s₀ t → Pays (λ (_ : Unit {0}). Paid s₀ t) (leave p k s s₂)
+closes : {s₀ s s₁ s₂ : State} {c : ℕ} (p k body t : ℕ) → Paid s₀ c s → Opened s s₁ → Paid s₁ body s₂ → c + (12 + body) ≤ t → Room s₀ t
+    → Pays (λ (_ : Unit {0}). Paid s₀ t) (leave p k s s₂)
 unfolding leave
 closes {s₀} {s} {s₁} {s₂} {c} p k body t q o d h r =
     pays_bind (returns p s₂ (omega (arith, paid_code d, o.around, o.code, paid_code q))) (λ _ s₃ e. go s₃ e s₃.tables (subst (Chained (o.table ∷ s.tables)) (sym e.tables) (subst (λ ts. Chained ts s₂.tables) o.tables d.chained)) (ap held e.tables))
@@ -236,7 +250,8 @@ closes {s₀} {s} {s₁} {s₂} {c} p k body t q o d h r =
     start : held s₁.tables ≡ 0
     start = ap held o.tables ∙ o.light
 
-    go : (s₃ : State) → Returned s₂ s₃ → (ts : List Table) → Chained (o.table ∷ s.tables) ts → held ts ≡ held s₂.tables → Pays (λ (_ : Unit {0}). Paid s₀ t) (close_over p k s s₃ ts)
+    go : (s₃ : State) → Returned s₂ s₃ → (ts : List Table) → Chained (o.table ∷ s.tables) ts → held ts ≡ held s₂.tables
+        → Pays (λ (_ : Unit {0}). Paid s₀ t) (close_over p k s s₃ ts)
     go s₃ e [] c z = elim c [ ]
     go s₃ e (u ∷ us) (Chained.inner a b ch) z =
         let w = weight u.originals in
@@ -271,7 +286,8 @@ spare Stmts.no_stmts = 0
 spare (Stmts.stmts x xs) = 2
 
 -- a branch behind its jump: without statements it is refused with 22
-branches : {Q : Unit {0} → State → Type 0} (b : Stmts) {s₀ s : State} {c : ℕ} (t p : ℕ) (k : Unit {0} → State → Res State (Unit {0})) → Jumped s₀ c s → (spare b ≡ 2 → Pays (λ (_ : Unit {0}). Paid s₀ t) (walk_stmts machine b s))
+branches : {Q : Unit {0} → State → Type 0} (b : Stmts) {s₀ s : State} {c : ℕ} (t p : ℕ) (k : Unit {0} → State → Res State (Unit {0}))
+    → Jumped s₀ c s → (spare b ≡ 2 → Pays (λ (_ : Unit {0}). Paid s₀ t) (walk_stmts machine b s))
     → ((s₁ : State) → Paid s₀ t s₁ → Pays Q (k tt s₁)) → Pays Q (bind (walk_stmts machine b s) (λ _ s₁. bind (dropped p s₁) k))
 unfolding walk_stmt
 branches Stmts.no_stmts {s = s} t p k u h f = pays_bind {P = λ _ _. ⊥} (drops_none s p u.no_pop u.no_return) (λ _ _ z. absurd z)
@@ -281,26 +297,32 @@ mutual
   unfolding walk_stmt bytes_stmt WfStmt
 
   -- a statement has two bytes to spare
-  pays_stmt : (x : Stmt) {s₀ s : State} {c : ℕ} (t : ℕ) → WfStmt x → Paid s₀ c s → c + bytes_stmt x ≤ t + 2 → Room s₀ t → Pays (λ (_ : Unit {0}). Paid s₀ t) (walk_stmt machine x s)
-  pays_stmt (Stmt.expr_stmt p e) {c = c} t w k h r = pays_bind (pays_expr e (c + bytes_expr e) w k (omega arith) (omega arith)) (λ _ s₁ q. emits p (plain op_pop) t q (omega arith) r)
+  pays_stmt : (x : Stmt) {s₀ s : State} {c : ℕ} (t : ℕ) → WfStmt x → Paid s₀ c s → c + bytes_stmt x ≤ t + 2 → Room s₀ t
+      → Pays (λ (_ : Unit {0}). Paid s₀ t) (walk_stmt machine x s)
+  pays_stmt (Stmt.expr_stmt p e) {c =
+      c} t w k h r = pays_bind (pays_expr e (c + bytes_expr e) w k (omega arith) (omega arith)) (λ _ s₁ q. emits p (plain op_pop) t q (omega arith) r)
   pays_stmt (Stmt.let_stmt p n e) {c = c} t w k h r =
       pays_bind (defines p n k) (λ i s₁ d. pays_bind (pays_expr e (c + bytes_expr e) w.1 d.1 (omega arith) (omega arith)) (λ _ s₂ q. emits p i t q (omega (arith, d.0)) r))
   pays_stmt (Stmt.return_stmt p e) {c = c} t w k h r = pays_bind (pays_expr e (c + bytes_expr e) w k (omega arith) (omega arith)) (λ _ s₁ q. emits p (plain op_return_value) t q (omega arith) r)
   pays_stmt (Stmt.block p b) t w k h r = pays_stmts b t w k (omega arith) r
 
-  pays_stmts : (b : Stmts) {s₀ s : State} {c : ℕ} (t : ℕ) → WfStmts b → Paid s₀ c s → c + bytes_stmts b ≤ t + spare b → Room s₀ t → Pays (λ (_ : Unit {0}). Paid s₀ t) (walk_stmts machine b s)
+  pays_stmts : (b : Stmts) {s₀ s : State} {c : ℕ} (t : ℕ) → WfStmts b → Paid s₀ c s → c + bytes_stmts b ≤ t + spare b → Room s₀ t
+      → Pays (λ (_ : Unit {0}). Paid s₀ t) (walk_stmts machine b s)
   pays_stmts Stmts.no_stmts t w k h r = Pays.on (paid_more t k (omega arith))
   pays_stmts (Stmts.stmts x xs) {c = c} t w k h r =
       let l = stmt_least x in
       pays_bind (pays_stmt x (c + (bytes_stmt x - 2)) w.0 k (omega arith) (omega arith)) (λ _ s₁ q. pays_stmts xs t w.1 q (omega arith) r)
 
-  pays_else : (e : Else) {s₀ s : State} {c : ℕ} (p t : ℕ) → WfElse e → Paid s₀ c s → c + 1 + bytes_else e ≤ t → Room s₀ t → Pays (λ (_ : Unit {0}). Paid s₀ t) (walk_else machine e p s)
+  pays_else : (e : Else) {s₀ s : State} {c : ℕ} (p t : ℕ) → WfElse e → Paid s₀ c s → c + 1 + bytes_else e ≤ t → Room s₀ t
+      → Pays (λ (_ : Unit {0}). Paid s₀ t) (walk_else machine e p s)
   pays_else Else.no_else p t w k h r = emits p (plain op_null) t k (omega arith) r
   pays_else (Else.else b) p t w k h r = pays_bind (pays_stmts b t w k (omega arith) r) (λ _ s₁ q. drops p q)
 
-  pays_expr : (e : Expr) {s₀ s : State} {c : ℕ} (t : ℕ) → WfExpr e → Paid s₀ c s → c + bytes_expr e ≤ t → Room s₀ t → Pays (λ (_ : Unit {0}). Paid s₀ t) (walk_expr machine e s)
+  pays_expr : (e : Expr) {s₀ s : State} {c : ℕ} (t : ℕ) → WfExpr e → Paid s₀ c s → c + bytes_expr e ≤ t → Room s₀ t
+      → Pays (λ (_ : Unit {0}). Paid s₀ t) (walk_expr machine e s)
   pays_expr (Expr.identifier p n) t w k h r = names p n t k (omega (arith, w.some)) r
-  pays_expr (Expr.prefix p o e) {c = c} t w k h r = pays_bind (pays_expr e (c + bytes_expr e) w k (omega arith) (omega arith)) (λ _ s₁ q. operates p prefixes prefixes_light o t q (omega arith) r)
+  pays_expr (Expr.prefix p o e) {c =
+      c} t w k h r = pays_bind (pays_expr e (c + bytes_expr e) w k (omega arith) (omega arith)) (λ _ s₁ q. operates p prefixes prefixes_light o t q (omega arith) r)
   pays_expr (Expr.infixed p a o b) {s₀} {c = c} t w k h r =
       chosen (Pays (λ (_ : Unit {0}). Paid s₀ t)) (eqb o less_than)
       (λ _. pays_bind (pays_expr b (c + bytes_expr b) w.1 k (omega arith) (omega arith)) (λ _ s₁ q. pays_bind (pays_expr a (c + bytes_expr b + bytes_expr a) w.0 q (omega arith) (omega arith)) (λ _ s₂ u. operates p infixes infixes_light o t u (omega arith) r)))
@@ -324,26 +346,34 @@ mutual
   pays_expr (Expr.integer p b) t w k h r = literals p (Const.integer b) t k h r
   pays_expr (Expr.boolean p b) t w k h r = emits p (boolean_of b) t k (omega (arith, boolean_size b)) r
   pays_expr (Expr.string p b) t w k h r = literals p (Const.string b) t k h r
-  pays_expr (Expr.array p es) {c = c} t w k h r = pays_bind (pays_exprs es (c + bytes_exprs es) w.1 k (omega arith) (omega arith)) (λ _ s₁ q. emits p (instr op_array (count es) 0) t q (omega arith) r)
+  pays_expr (Expr.array p es) {c =
+      c} t w k h r = pays_bind (pays_exprs es (c + bytes_exprs es) w.1 k (omega arith) (omega arith)) (λ _ s₁ q. emits p (instr op_array (count es) 0) t q (omega arith) r)
   pays_expr (Expr.index p a b) {c = c} t w k h r =
       pays_bind (pays_expr a (c + bytes_expr a) w.0 k (omega arith) (omega arith)) (λ _ s₁ q. pays_bind (pays_expr b (c + bytes_expr a + bytes_expr b) w.1 q (omega arith) (omega arith)) (λ _ s₂ u. emits p (plain op_index) t u (omega arith) r))
   pays_expr (Expr.hash p es) {c = c} t w k h r = pays_bind (pays_exprs es (c + bytes_exprs es) w.1 k (omega arith) (omega arith)) (λ _ s₁ q. emits p (instr op_hash (count es) 0) t q (omega arith) r)
   pays_expr (Expr.macro p) t w k h r = refuses tt
 
-  pays_exprs : (es : Exprs) {s₀ s : State} {c : ℕ} (t : ℕ) → WfExprs es → Paid s₀ c s → c + bytes_exprs es ≤ t → Room s₀ t → Pays (λ (_ : Unit {0}). Paid s₀ t) (walk_exprs machine es s)
+  pays_exprs : (es : Exprs) {s₀ s : State} {c : ℕ} (t : ℕ) → WfExprs es → Paid s₀ c s → c + bytes_exprs es ≤ t → Room s₀ t
+      → Pays (λ (_ : Unit {0}). Paid s₀ t) (walk_exprs machine es s)
   pays_exprs Exprs.no_exprs t w k h r = Pays.on (paid_more t k (omega arith))
-  pays_exprs (Exprs.exprs x xs) {c = c} t w k h r = pays_bind (pays_expr x (c + bytes_expr x) w.0 k (omega arith) (omega arith)) (λ _ s₁ q. pays_exprs xs t w.1 q (omega arith) r)
+  pays_exprs (Exprs.exprs x xs) {c =
+      c} t w k h r = pays_bind (pays_expr x (c + bytes_expr x) w.0 k (omega arith) (omega arith)) (λ _ s₁ q. pays_exprs xs t w.1 q (omega arith) r)
 
 -- so a walk that has as many bytes of room as its statements have is not refused with 13
-pub walk_not_13 : (b : Stmts) (s : State) → WfStmts b → s.around + size_of s.code + bytes_stmts b ≤ code_size → {r : Refusal} {s' : State} → walk_stmts machine b s ≡ Res.stop r s' → number_of r.reason ≡ number_of Number.code → ⊥
-walk_not_13 b s w h {r} {s'} e = go (subst (Pays (λ (_ : Unit {0}). Paid s (bytes_stmts b))) e (pays_stmts b (bytes_stmts b) w (paid_same s) (omega arith) h))
+pub walk_not_13 : (b : Stmts) (s : State) → WfStmts b → s.around + size_of s.code + bytes_stmts b ≤ code_size → {r : Refusal} {s' : State}
+    → walk_stmts machine b s ≡ Res.stop r s' → number_of r.reason ≡ number_of Number.code → ⊥
+walk_not_13 b s w h {r} {s'} e =
+    go (subst (Pays (λ (_ : Unit {0}). Paid s (bytes_stmts b))) e (pays_stmts b (bytes_stmts b) w (paid_same s) (omega arith) h))
   where
     go : Pays (λ (_ : Unit {0}). Paid s (bytes_stmts b)) (Res.stop r s') → number_of r.reason ≡ number_of Number.code → ⊥
     go (Pays.stop n) = n
 
 -- and emits no more code than they have bytes
-pub walk_code : (b : Stmts) (s : State) → WfStmts b → s.around + size_of s.code + bytes_stmts b ≤ code_size → {s' : State} → walk_stmts machine b s ≡ Res.on tt s' → s'.around + size_of s'.code ≤ s.around + size_of s.code + bytes_stmts b
-walk_code b s w h {s'} e = go (subst (Pays (λ (_ : Unit {0}). Paid s (bytes_stmts b))) e (pays_stmts b (bytes_stmts b) w (paid_same s) (omega arith) h))
+pub walk_code : (b : Stmts) (s : State) → WfStmts b → s.around + size_of s.code + bytes_stmts b ≤ code_size → {s' : State}
+    → walk_stmts machine b s ≡ Res.on tt s' → s'.around + size_of s'.code ≤ s.around + size_of s.code + bytes_stmts b
+walk_code b s w h {s'} e =
+    go (subst (Pays (λ (_ : Unit {0}). Paid s (bytes_stmts b))) e (pays_stmts b (bytes_stmts b) w (paid_same s) (omega arith) h))
   where
-    go : Pays (λ (_ : Unit {0}). Paid s (bytes_stmts b)) (Res.on tt s') → s'.around + size_of s'.code ≤ s.around + size_of s.code + bytes_stmts b
+    go : Pays (λ (_ : Unit {0}). Paid s (bytes_stmts b)) (Res.on tt s')
+        → s'.around + size_of s'.code ≤ s.around + size_of s.code + bytes_stmts b
     go (Pays.on p) = paid_code p

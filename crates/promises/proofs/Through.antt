@@ -68,14 +68,18 @@ come_stops pool p i e Stops.returned = Stops.returned
 come_stops pool p i e (Stops.stopped {k = k} {p = q} n) = Stops.stopped {k = k} {p = q} n
 
 -- all of the code
-pass_stops : (pool : List Const) (c : Code) (f : Frame) → ((i : Instr) (p : ℕ) → Stands i p c → runnable pool i ≡ true) → Stops (pass pool 0 c (Run.on f))
+pass_stops : (pool : List Const) (c : Code) (f : Frame) → ((i : Instr) (p : ℕ) → Stands i p c → runnable pool i ≡ true)
+    → Stops (pass pool 0 c (Run.on f))
 unfolding pass
 pass_stops pool [] f h = Stops.on
-pass_stops pool (i ∷ c) f h = come_stops pool (0 + size_of c) i (h i (size_of c) Stands.last) (pass_stops pool c f (λ j p s. h j p (Stands.before s)))
+pass_stops pool (i ∷ c) f h =
+    come_stops pool (0 + size_of c) i (h i (size_of c) Stands.last) (pass_stops pool c f (λ j p s. h j p (Stands.before s)))
 
 -- so does a trial run
-pub trial_stops : (m : Image) → ((i : Instr) (p : ℕ) → Stands i p m.code → runnable m.pool i ≡ true) → {k : Reason} {p : ℕ} → trial m ≡ Trial.stopped k p → StopNumber k
-trial_stops m h {k} {p} e = go (pass m.pool 0 m.code (Run.on (frame 0 [] unset_globals 0))) (pass_stops m.pool m.code (frame 0 [] unset_globals 0) h) e
+pub trial_stops : (m : Image) → ((i : Instr) (p : ℕ) → Stands i p m.code → runnable m.pool i ≡ true) → {k : Reason} {p : ℕ}
+    → trial m ≡ Trial.stopped k p → StopNumber k
+trial_stops m h {k} {p} e =
+    go (pass m.pool 0 m.code (Run.on (frame 0 [] unset_globals 0))) (pass_stops m.pool m.code (frame 0 [] unset_globals 0) h) e
   where
     go : (r : Run) → Stops r → trial_of r ≡ Trial.stopped k p → StopNumber k
     go (Run.on f) s e = let z : ◌≡◌ {A = ℕ} 0 1 = cc in absurd (omega arith)
@@ -94,23 +98,29 @@ pub record Through (b : Bytes) (hs : List ℕ) (work room : ℕ) (m : Image) : T
   pub is : run_outcome b hs work room ≡ trial_outcome (named_globals m.code) (trial m)
 
 -- such an outcome has come through all tests
-pub through : (b : Bytes) (hs : List ℕ) (work room : ℕ) {m : Image} {n : ℕ} → read_image b ≡ decoded m n → Later (run_outcome b hs work room) → Through b hs work room m
+pub through : (b : Bytes) (hs : List ℕ) (work room : ℕ) {m : Image} {n : ℕ} → read_image b ≡ decoded m n
+    → Later (run_outcome b hs work room) → Through b hs work room m
 through b hs work room {m} {n} e l = go_work (ltb work work_size) refl
   where
-    go_room : (x : Bool) → (o : Outcome) → o ≡ pick x (trial_outcome (named_globals m.code) (trial m)) (Outcome.refused (refusal output_short 0)) → Later o → o ≡ trial_outcome (named_globals m.code) (trial m)
+    go_room : (x : Bool) → (o : Outcome)
+        → o ≡ pick x (trial_outcome (named_globals m.code) (trial m)) (Outcome.refused (refusal output_short 0)) → Later o
+        → o ≡ trial_outcome (named_globals m.code) (trial m)
     go_room true o q l = q
     go_room false o q l = absurd (l.later (refusal output_short 0) q tt)
 
-    go_taken : (x : Option ℕ) → refused_with hs m ≡ x → {v : List ℕ} → judged hs m m.pool ≡ Verdict.tops v → (o : Outcome) → run_outcome b hs work room ≡ o → o ≡ taken_outcome x m room → Later o → Through b hs work room m
+    go_taken : (x : Option ℕ) → refused_with hs m ≡ x → {v : List ℕ} → judged hs m m.pool ≡ Verdict.tops v → (o : Outcome)
+        → run_outcome b hs work room ≡ o → o ≡ taken_outcome x m room → Later o → Through b hs work room m
     go_taken (some p) r j o s q l = absurd (l.later (refusal Number.not_runnable (3 + p)) q tt)
     go_taken none r {v} j o s q l = record { tops = v; passes = j; taken = r; is = s ∙ go_room (leb (9 * named_globals m.code) room) o q l }
 
-    go_judged : (v : Verdict) → judged hs m m.pool ≡ v → (o : Outcome) → run_outcome b hs work room ≡ o → o ≡ judged_outcome v hs m room → Later o → Through b hs work room m
+    go_judged : (v : Verdict) → judged hs m m.pool ≡ v → (o : Outcome) → run_outcome b hs work room ≡ o → o ≡ judged_outcome v hs m room
+        → Later o → Through b hs work room m
     go_judged (Verdict.tops ns) j o s q l = go_taken (refused_with hs m) refl j o s q l
     go_judged (Verdict.fails p) j o s q l = absurd (l.later (refusal bad_heights p) q tt)
 
     go_work : (x : Bool) → ltb work work_size ≡ x → Through b hs work room m
-    go_work true w = absurd (l.later (refusal short_buffer 0) (ap (λ x. pick x (Outcome.refused (refusal short_buffer 0)) (image_outcome (read_image b) hs room)) w) tt)
+    go_work true w =
+        absurd (l.later (refusal short_buffer 0) (ap (λ x. pick x (Outcome.refused (refusal short_buffer 0)) (image_outcome (read_image b) hs room)) w) tt)
     go_work false w =
         go_judged (judged hs m m.pool) refl (run_outcome b hs work room) refl
         (ap (λ x. pick x (Outcome.refused (refusal short_buffer 0)) (image_outcome (read_image b) hs room)) w ∙ ap (λ d. image_outcome d hs room) e) l

@@ -1,5 +1,5 @@
--- What the captures of the open functions weigh: the bytes of the loads that a closing function emits for them. A name that is looked up adds two at most to the innermost table, and to each
--- table no more than to the one inside it.
+-- What the captures of the open functions weigh: the bytes of the loads that a closing function emits for them. A name that is looked up
+-- adds two at most to the innermost table, and to each table no more than to the one inside it.
 use Prim.Native.Nat.{ℕ, ◌+◌, ◌≤◌}
 use native.Mathlib.Omega.{arith}
 use mathlib.Core.List.{List, [], ◌∷◌}
@@ -26,7 +26,8 @@ held (t ∷ ts) = weight t.originals
 -- tables before and after: none lighter, and each grown by no more than the one inside it
 pub data Chained : List Table → List Table → Type 0 where
   empty : Chained [] []
-  inner : {t u : Table} {ts us : List Table} → weight t.originals ≤ weight u.originals → held us + weight t.originals ≤ held ts + weight u.originals → Chained ts us → Chained (t ∷ ts) (u ∷ us)
+  inner : {t u : Table} {ts us : List Table} → weight t.originals ≤ weight u.originals
+      → held us + weight t.originals ≤ held ts + weight u.originals → Chained ts us → Chained (t ∷ ts) (u ∷ us)
 
 pub chained_same : (ts : List Table) → Chained ts ts
 chained_same [] = Chained.empty
@@ -34,7 +35,8 @@ chained_same (t ∷ ts) = Chained.inner {t = t} {u = t} {ts = ts} {us = ts} (ome
 
 pub chained_then : {ts us vs : List Table} → Chained ts us → Chained us vs → Chained ts vs
 chained_then Chained.empty Chained.empty = Chained.empty
-chained_then (Chained.inner {t} {u} {ts} {us} a b c) (Chained.inner {u = v} {us = vs} d e f) = Chained.inner {t = t} {u = v} {ts = ts} {us = vs} (omega arith) (omega arith) (chained_then c f)
+chained_then (Chained.inner {t} {u} {ts} {us} a b c) (Chained.inner {u =
+    v} {us = vs} d e f) = Chained.inner {t = t} {u = v} {ts = ts} {us = vs} (omega arith) (omega arith) (chained_then c f)
 
 pub chained_held : {ts us : List Table} → Chained ts us → held ts ≤ held us
 chained_held Chained.empty = omega arith
@@ -79,10 +81,12 @@ unchanged ts y = Finding.found {y = y} {us = ts} (record { chained = chained_sam
 
 -- through a table
 passed : (t : Table) {ts us : List Table} (y : Symbol) → Looked ts us y → extra y ≡ 0 → Finding (t ∷ ts) (Resolved.found y (t ∷ us))
-passed t {ts} {us} y l e = Finding.found {y = y} {us = t ∷ us} (record { chained = Chained.inner {t = t} {u = t} {ts = ts} {us = us} (omega arith) (omega (arith, l.within)) l.chained; within = omega arith })
+passed t {ts} {us} y l e =
+    Finding.found {y = y} {us = t ∷ us} (record { chained = Chained.inner {t = t} {u = t} {ts = ts} {us = us} (omega arith) (omega (arith, l.within)) l.chained; within = omega arith })
 
 -- captured
-captured : (n : Bytes) (s : Symbol) (t : Table) {ts us : List Table} → Looked ts us s → extra s ≤ size (load_of s) → size (load_of s) ≤ 2 → Finding (t ∷ ts) (capture n s t us)
+captured : (n : Bytes) (s : Symbol) (t : Table) {ts us : List Table} → Looked ts us s → extra s ≤ size (load_of s) → size (load_of s) ≤ 2
+    → Finding (t ∷ ts) (capture n s t us)
 captured n s t {ts} {us} l e h =
     let a : weight t.originals ≤ weight (with_free n s t).originals = omega arith in
     let b : held us + weight t.originals ≤ held ts + weight (with_free n s t).originals = omega (arith, l.within) in

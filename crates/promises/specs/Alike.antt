@@ -13,7 +13,8 @@ pub data Stepwise (R : Called → Called → Type 0) : List Called → List Call
   done : Stepwise R [] []
   step : {x y : Called} {xs ys : List Called} → R x y → Stepwise R xs ys → Stepwise R (x ∷ xs) (y ∷ ys)
 
--- two calls of one step beside the shapes' outcome: images whose chin forms are equally long and equal but at the literals' places, or are refused alike; or one refusal
+-- two calls of one step beside the shapes' outcome: images whose chin forms are equally long and equal but at the literals' places, or are
+-- refused alike; or one refusal
 pub data ChinAlike : Outcome → Called → Called → Type 0 where
   accepted : {m : Image} {n : ℕ} {x y : Called} → x.answer ≡ Ok n → y.answer ≡ Ok n
       → SameGiven (image_mask m) (to_chin (take n x.lent.output)) (to_chin (take n y.lent.output)) → ChinAlike (Outcome.accepted m) x y
@@ -22,4 +23,5 @@ pub data ChinAlike : Outcome → Called → Called → Type 0 where
 -- the same at every step of two series, beside the shapes' steps
 pub data ChinStepwise : List Step → List Called → List Called → Type 0 where
   done : ChinStepwise [] [] []
-  step : {p : Step} {x y : Called} {ps : List Step} {xs ys : List Called} → ChinAlike p.outcome x y → ChinStepwise ps xs ys → ChinStepwise (p ∷ ps) (x ∷ xs) (y ∷ ys)
+  step : {p : Step} {x y : Called} {ps : List Step} {xs ys : List Called} → ChinAlike p.outcome x y → ChinStepwise ps xs ys
+      → ChinStepwise (p ∷ ps) (x ∷ xs) (y ∷ ys)

@@ -1,4 +1,5 @@
--- The bytes that a construct has at least in a tree, from which its code is paid: a field's head is three bytes, and a name, parameters and an operator are fields of their own.
+-- The bytes that a construct has at least in a tree, from which its code is paid: a field's head is three bytes, and a name, parameters and
+-- an operator are fields of their own.
 use Rattle.std.specs.Prelude.{ℕ, ◌+◌, length}
 use Rattle.definition.specs.Syntax.{Stmt, Stmts, Else, Expr, Exprs}
 

@@ -1,4 +1,5 @@
--- Condition 1 about every exported call: how it ends, by its 64-bit number and by what it was lent. The numbers that a call may answer are those of include/monkey.h.
+-- Condition 1 about every exported call: how it ends, by its 64-bit number and by what it was lent. The numbers that a call may answer are
+-- those of include/monkey.h.
 use Rattle.std.specs.Prelude.{ℕ, ◌*◌, ◌/◌, ◌%◌, ◌≤◌, ◌<◌, List, [], ◌∷◌, ◌++◌, ◌≡◌, T, length, drop}
 use Rattle.definition.specs.Limit.{session_size, code_size, table_size}
 use Rattle.definition.specs.Number.{number_of, numbers_of, is_one_of, short_buffer, no_session, bad_tree, too_deep, undefined, operator, macro, too_many, locals, captures, globals, pool, nesting, output_short, bad_image, few_records, no_value, bad_script, large_integer, bad_size, no_frame, bad_heights, not_runnable, operand, unset}
@@ -37,12 +38,15 @@ pub data TooShort : List Buffer → Type 0 where
   here : {b : Buffer} {bs : List Buffer} → length b.before < b.size → TooShort (b ∷ bs)
   later : {b : Buffer} {bs : List Buffer} → TooShort bs → TooShort (b ∷ bs)
 
--- A call with these numbers, its places within a bound, which was lent buffers to write, by the value that it answers, and work areas, ends so: an answer, written into the buffers; or a
--- numbered refusal with its place, the buffers as they were; the work areas zeroed, or, where a session or a work area is too short, which is number 1 at 0, as they were
+-- A call with these numbers, its places within a bound, which was lent buffers to write, by the value that it answers, and work areas, ends
+-- so: an answer, written into the buffers; or a numbered refusal with its place, the buffers as they were; the work areas zeroed, or, where
+-- a session or a work area is too short, which is number 1 at 0, as they were
 pub data Ended (numbers : List ℕ) (places : ℕ) (buffers : ℕ → List Buffer) (works : List Buffer) (number value : ℕ) : Type 0 where
   answered : number ≡ 0 → All Written (buffers value) → All Zeroed works → Ended numbers places buffers works number value
-  refused : T (is_one_of numbers number) → (number ≡ number_of short_buffer → ⊥) → value ≤ places → All AsItWas (buffers value) → All Zeroed works → Ended numbers places buffers works number value
-  short : T (is_one_of numbers number) → number ≡ number_of short_buffer → value ≡ 0 → TooShort (buffers value ++ works) → All AsItWas (buffers value ++ works) → Ended numbers places buffers works number value
+  refused : T (is_one_of numbers number) → (number ≡ number_of short_buffer → ⊥) → value ≤ places → All AsItWas (buffers value)
+      → All Zeroed works → Ended numbers places buffers works number value
+  short : T (is_one_of numbers number) → number ≡ number_of short_buffer → value ≡ 0 → TooShort (buffers value ++ works)
+      → All AsItWas (buffers value ++ works) → Ended numbers places buffers works number value
 
 -- by its number's halves
 abbrev pub Ends : List ℕ → ℕ → (ℕ → List Buffer) → List Buffer → ℕ → Type 0
@@ -76,11 +80,13 @@ named l l' xs xs' v = buffer (4 * (v / quarter_bound)) xs xs' ∷ compiled l l' 
 abbrev pub shown_globals : List ℕ → List ℕ → ℕ → List Buffer
 shown_globals o o' v = buffer (9 * (v / quarter_bound)) o o' ∷ []
 
--- The numbers of each call that no definition below lists. 13, which the header lists for the compile calls, is not among theirs: no tree reaches it (proofs/Number13)
+-- The numbers of each call that no definition below lists. 13, which the header lists for the compile calls, is not among theirs: no tree
+-- reaches it (proofs/Number13)
 
 -- a compile call that is lent enough
 abbrev pub tree_reasons : List Reason
-tree_reasons = no_session ∷ bad_tree ∷ too_deep ∷ undefined ∷ operator ∷ macro ∷ too_many ∷ locals ∷ captures ∷ globals ∷ pool ∷ nesting ∷ output_short ∷ no_value ∷ []
+tree_reasons =
+    no_session ∷ bad_tree ∷ too_deep ∷ undefined ∷ operator ∷ macro ∷ too_many ∷ locals ∷ captures ∷ globals ∷ pool ∷ nesting ∷ output_short ∷ no_value ∷ []
 
 -- `monkey_compile`
 abbrev pub compile_numbers : List ℕ

@@ -18,7 +18,8 @@ up_to15 = numbers_of (short_buffer ∷ bad_image ∷ bad_heights ∷ not_runnabl
 pub record NotUpTo15 (r : Result Ran Refusal) : Type 0 where
   pub later : (q : Refusal) → r ≡ Err q → T (is_one_of up_to15 (number_of q.reason)) → ⊥
 
--- a run's answer and output are what evaluating the tree by these rules gives: its globals, shown at the front of the output, or a stop of the same number
+-- a run's answer and output are what evaluating the tree by these rules gives: its globals, shown at the front of the output, or a stop of
+-- the same number
 pub data EvaluatedAs (tree o : Bytes) : Result Ran Refusal → Bytes → Type 0 where
   globals : {g : Globals} {n k : ℕ} → tree_end (read_tree tree) ≡ End.globals g → EvaluatedAs tree o (Ok (record { globals = n; steps = k })) (over (shown n g) o)
   stop : {q : Refusal} → tree_end (read_tree tree) ≡ End.stop q.reason → EvaluatedAs tree o (Err q) o

@@ -1,4 +1,5 @@
--- Series in which each call is a plain one, one with records, or one with numbers for records: the promises that the calls keep, and what two series have in common.
+-- Series in which each call is a plain one, one with records, or one with numbers for records: the promises that the calls keep, and what
+-- two series have in common.
 use Rattle.std.specs.Prelude.{ℕ, ◌*◌, ◌/◌, List, [], ◌∷◌, ◌≡◌, length, take, Result}
 use Rattle.definition.specs.Basic.{Bytes}
 use Rattle.definition.specs.Call.{Lent, Called}
@@ -49,7 +50,8 @@ pub data Kept (s : Bytes) : AnyCall → AnyDone → Type 0 where
 -- a series that ran, whose calls keep such promises: each on the session that those before it left
 pub data RanBy (K : Bytes → AnyCall → AnyDone → Type 0) : Bytes → List AnyCall → List AnyDone → Type 0 where
   none : {s : Bytes} → RanBy K s [] []
-  more : {s : Bytes} {c : AnyCall} {x : AnyDone} {cs : List AnyCall} {xs : List AnyDone} → K s c x → RanBy K (session_after s (called_of x).lent.session) cs xs → RanBy K s (c ∷ cs) (x ∷ xs)
+  more : {s : Bytes} {c : AnyCall} {x : AnyDone} {cs : List AnyCall} {xs : List AnyDone} → K s c x
+      → RanBy K (session_after s (called_of x).lent.session) cs xs → RanBy K s (c ∷ cs) (x ∷ xs)
 
 -- of calls of `compile`, `compile_with_records` and `compile_names`, in any order
 abbrev pub RanMixed : Bytes → List AnyCall → List AnyDone → Type 0
@@ -77,12 +79,15 @@ turn_of (AnyCall.names c xs) = Turn.with_records c (blanks (length xs / 4))
 -- two calls of one kind beside the shapes' turn: the same but for literal bytes, and both wrote the shapes' records, as many and the same
 pub data SameDone (compared : Type 0) (p : Traced) : AnyDone → AnyDone → Type 0 where
   plain : {x y : Called} → Same compared p.step x y → SameDone compared p (AnyDone.plain x) (AnyDone.plain y)
-  records : {x y : Called} {n k : ℕ} {rs us : List Record} → Same compared p.step x y → n ≡ length p.records → k ≡ length p.records → take n rs ≡ p.records → take k us ≡ p.records
+  records : {x y : Called} {n k : ℕ} {rs us : List Record} → Same compared p.step x y → n ≡ length p.records → k ≡ length p.records
+      → take n rs ≡ p.records → take k us ≡ p.records
       → SameDone compared p (AnyDone.records x n rs) (AnyDone.records y k us)
-  names : {x y : Called} {n k : ℕ} {xs ys : List ℕ} → Same compared p.step x y → n ≡ length p.records → k ≡ length p.records → take (4 * n) xs ≡ rows_of p.records → take (4 * k) ys ≡ rows_of p.records
+  names : {x y : Called} {n k : ℕ} {xs ys : List ℕ} → Same compared p.step x y → n ≡ length p.records → k ≡ length p.records
+      → take (4 * n) xs ≡ rows_of p.records → take (4 * k) ys ≡ rows_of p.records
       → SameDone compared p (AnyDone.names x n xs) (AnyDone.names y k ys)
 
 -- step by step, in two whole series
 pub data IndistinguishableMixed (compared : Type 0) : List Traced → List AnyDone → List AnyDone → Type 0 where
   done : IndistinguishableMixed compared [] [] []
-  step : {p : Traced} {x y : AnyDone} {ps : List Traced} {xs ys : List AnyDone} → SameDone compared p x y → IndistinguishableMixed compared ps xs ys → IndistinguishableMixed compared (p ∷ ps) (x ∷ xs) (y ∷ ys)
+  step : {p : Traced} {x y : AnyDone} {ps : List Traced} {xs ys : List AnyDone} → SameDone compared p x y
+      → IndistinguishableMixed compared ps xs ys → IndistinguishableMixed compared (p ∷ ps) (x ∷ xs) (y ∷ ys)

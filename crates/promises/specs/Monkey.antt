@@ -43,23 +43,29 @@ pub record SameFramesPacked (a b : Bytes) : Type 0 where
 
 -- two calls of one step: two images of one length to which the calls answer alike, or one refusal
 pub data FramesPacked : Called → Called → Type 0 where
-  accepted : {n : ℕ} {x y : Called} → x.answer ≡ Ok n → y.answer ≡ Ok n → SameFramesPacked (take n x.lent.output) (take n y.lent.output) → FramesPacked x y
+  accepted : {n : ℕ} {x y : Called} → x.answer ≡ Ok n → y.answer ≡ Ok n → SameFramesPacked (take n x.lent.output) (take n y.lent.output)
+      → FramesPacked x y
   refused : {r : Refusal} {x y : Called} → x.answer ≡ Err r → y.answer ≡ Err r → FramesPacked x y
 
--- the call on two images, with outputs equally long, answers one number; and where it is no refusal the bytes written agree at all but a mask's places
+-- the call on two images, with outputs equally long, answers one number; and where it is no refusal the bytes written agree at all but a
+-- mask's places
 pub record SameChinPacked (m : Mask) (a b : Bytes) : Type 0 where
-  pub numbers : {o p o' p' : Bytes} {r q : ℕ} → TurnsPacked (to_chin a) o r o' → TurnsPacked (to_chin b) p q p' → length o ≡ length p → r ≡ q
-  pub bytes : {o p o' p' : Bytes} {r q : ℕ} → TurnsPacked (to_chin a) o r o' → TurnsPacked (to_chin b) p q p' → length o ≡ length p → r / half_bound ≡ 0 → Agree m (take (r % half_bound) o') (take (r % half_bound) p')
+  pub numbers : {o p o' p' : Bytes} {r q : ℕ} → TurnsPacked (to_chin a) o r o' → TurnsPacked (to_chin b) p q p' → length o ≡ length p
+      → r ≡ q
+  pub bytes : {o p o' p' : Bytes} {r q : ℕ} → TurnsPacked (to_chin a) o r o' → TurnsPacked (to_chin b) p q p' → length o ≡ length p
+      → r / half_bound ≡ 0 → Agree m (take (r % half_bound) o') (take (r % half_bound) p')
 
 -- two calls of one step beside the shapes' outcome, likewise
 pub data ChinPacked : Outcome → Called → Called → Type 0 where
-  accepted : {m : Image} {n : ℕ} {x y : Called} → x.answer ≡ Ok n → y.answer ≡ Ok n → SameChinPacked (image_mask m) (take n x.lent.output) (take n y.lent.output) → ChinPacked (Outcome.accepted m) x y
+  accepted : {m : Image} {n : ℕ} {x y : Called} → x.answer ≡ Ok n → y.answer ≡ Ok n
+      → SameChinPacked (image_mask m) (take n x.lent.output) (take n y.lent.output) → ChinPacked (Outcome.accepted m) x y
   refused : {r : Refusal} {x y : Called} → x.answer ≡ Err r → y.answer ≡ Err r → ChinPacked (Outcome.refused r) x y
 
 -- at every step of two series
 pub data ChinPackedStepwise : List Step → List Called → List Called → Type 0 where
   done : ChinPackedStepwise [] [] []
-  step : {p : Step} {x y : Called} {ps : List Step} {xs ys : List Called} → ChinPacked p.outcome x y → ChinPackedStepwise ps xs ys → ChinPackedStepwise (p ∷ ps) (x ∷ xs) (y ∷ ys)
+  step : {p : Step} {x y : Called} {ps : List Step} {xs ys : List Called} → ChinPacked p.outcome x y → ChinPackedStepwise ps xs ys
+      → ChinPackedStepwise (p ∷ ps) (x ∷ xs) (y ∷ ys)
 
 -- the check of an image's heights answers each chunk's greatest height, or 15 where the output is too short, and writes them
 pub record ChecksWell (b : Bytes) (m : Image) (hs : List ℕ) : Type 0 where
@@ -83,10 +89,11 @@ pub record HeightsPacked (x : Called) : Type 0 where
 pub record NotUpTo15Packed (r : ℕ) : Type 0 where
   pub later : T (is_one_of up_to15 (r / half_bound)) → ⊥
 
--- number and output are what evaluating the tree by these rules gives: its globals, shown at the front of the output, so many of them and so many steps in the low half; or a stop of the
--- same number
+-- number and output are what evaluating the tree by these rules gives: its globals, shown at the front of the output, so many of them and
+-- so many steps in the low half; or a stop of the same number
 pub data EvaluatedPacked (tree o : Bytes) (r : ℕ) : Bytes → Type 0 where
-  globals : {g : Globals} {n k : ℕ} → tree_end (read_tree tree) ≡ End.globals g → r / half_bound ≡ 0 → Pairs n k (r % half_bound) → EvaluatedPacked tree o r (over (shown n g) o)
+  globals : {g : Globals} {n k : ℕ} → tree_end (read_tree tree) ≡ End.globals g → r / half_bound ≡ 0 → Pairs n k (r % half_bound)
+      → EvaluatedPacked tree o r (over (shown n g) o)
   stop : {k : Reason} → tree_end (read_tree tree) ≡ End.stop k → r / half_bound ≡ number_of k → EvaluatedPacked tree o r o
 
 -- a number whose high half is a refusal's number and whose low half is its place

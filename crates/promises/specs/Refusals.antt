@@ -20,7 +20,8 @@ use Rattle.trial.specs.Cells.{work_size}
 
 -- Number 18
 
--- the buffers are long enough, a session stands there, in it the plain call accepts the tree or refuses it with 15 alone, and the tree has more Identifiers than there are records
+-- the buffers are long enough, a session stands there, in it the plain call accepts the tree or refuses it with 15 alone, and the tree has
+-- more Identifiers than there are records
 pub record TooFew (tree : Bytes) (room : ℕ) (l : Lent) : Type 0 where
   pub long : enough (request l tree) ≡ true
   pub session : Session
@@ -80,7 +81,8 @@ pub record FirstJump (form : Form) (Wrong : ℕ → ℕ → Type 0) (b : Bytes) 
 
 -- Number 27
 
--- another instruction than 00 to 11 and 16; a Constant that names no integer; a global index above 1,023; or, where reached, a height above 1,024 before it
+-- another instruction than 00 to 11 and 16; a Constant that names no integer; a global index above 1,023; or, where reached, a height above
+-- 1,024 before it
 pub data NotRun (m : Image) (i : Instr) (p : ℕ) : Type 0 where
   other : action_of i ≡ Action.other → NotRun m i p
   no_integer : action_of i ≡ Action.constant → integer_in (constant_at m.pool i.a) ≡ none → NotRun m i p
@@ -88,7 +90,8 @@ pub data NotRun (m : Image) (i : Instr) (p : ℕ) : Type 0 where
   sets : action_of i ≡ Action.set_global → 1023 < i.a → NotRun m i p
   high : {x : ℕ} → Reaches m.code p x → 1024 < x → NotRun m i p
 
--- the work area is long enough, the bytes read as an image that passes with the heights, and the first such instruction of main is at this offset
+-- the work area is long enough, the bytes read as an image that passes with the heights, and the first such instruction of main is at this
+-- offset
 pub record FirstNotRun (b : Bytes) (hs : List ℕ) (work p : ℕ) : Type 0 where
   pub long : work_size ≤ work
   pub image : Image
