@@ -1,8 +1,9 @@
--- Condition 1 of all sixteen exported functions.
+-- Condition 1 of all seventeen exported functions.
 use Rattle.promises.specs.Condition1.{Condition1}
 use Rattle.promises.proofs.EndsSession.{ends_make_session, ends_make_session_words, ends_compile, ends_compile_names}
 use Rattle.promises.proofs.EndsImage.{ends_list_image, ends_count_frames, ends_frame, ends_frame_refusal, ends_to_chin, ends_from_chin, ends_load_tree, ends_check_heights, ends_propose_heights}
 use Rattle.promises.proofs.EndsRun.{ends_run}
+use Rattle.promises.proofs.EndsShape.{ends_write_shape}
 use Rattle.promises.proofs.EndsText.{ends_read_text, ends_next_token}
 
 pub every_call_ends : Condition1
@@ -24,4 +25,5 @@ every_call_ends =
       run = λ a k. ends_run a k;
       read_text = λ k. ends_read_text k;
       next_token = λ k. ends_next_token k;
+      write_shape = λ k. ends_write_shape k;
     }

@@ -26,6 +26,7 @@ pub mod MonkeyNumbers
 pub mod Endings
 pub mod EndsImage
 pub mod EndsText
+pub mod EndsShape
 pub mod EndsRun
 pub mod Charged
 pub mod Weights
@@ -36,3 +37,4 @@ pub mod Condition1
 pub mod Number22
 pub mod MonkeyNumber22
 pub mod MonkeyScripts
+pub mod TextToRadio

@@ -19,6 +19,8 @@ use Rattle.exported.specs.Turned.{TurnsPacked}
 use Rattle.exported.specs.Heights.{ChecksPacked, ProposesPacked}
 use Rattle.exported.specs.Trial.{RunsPacked}
 use Rattle.exported.specs.Token.{TokenPacked}
+use Rattle.exported.specs.Shaped.{ShapesPacked}
+use Rattle.shape.proofs.Within.{shape_numbers}
 use Rattle.promises.specs.Ends.{buffer, Ends, output, nothing, session, compiled, areas, named, shown_globals, compile_numbers, names_numbers, count_numbers, frame_numbers, load_numbers, run_numbers, text_numbers, token_numbers}
 
 pub record Condition1 : Type 0 where
@@ -47,3 +49,4 @@ pub record Condition1 : Type 0 where
   pub read_text : {text o o' : Bytes} {r : ℕ} → ReadsPacked text o r o' → Ends text_numbers text_limit (output o o') [] r
   pub next_token : {text : Bytes} {at : ℕ} {o o' : List ℕ} {r : ℕ} → TokenPacked text at o r o'
       → Ends token_numbers text_limit (output o o') [] r
+  pub write_shape : {tree o o' : Bytes} {r : ℕ} → ShapesPacked tree o r o' → Ends shape_numbers (length tree) (output o o') [] r
