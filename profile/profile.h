@@ -17,7 +17,7 @@ enum { DONE = 0, REFUSED = 1, FAILED = 2 };
  * The bytes that are read of a file: one past the longest tree or image, and far past the longest text (8,192). What is behind them cannot change the answer: such a
  * file is refused, whatever it goes on with, and its place is before them.
  */
-enum { TREE_ROOM = MONKEY_TREE_LIMIT + 1, IMAGE_ROOM = MONKEY_IMAGE_LIMIT + 1, TEXT_ROOM = 65536 };
+enum { TREE_ROOM = MONKEY_TREE_LIMIT + 1, IMAGE_ROOM = MONKEY_IMAGE_LIMIT + 1, TEXT_ROOM = 65536, TEXT_LIMIT = 8192 };
 
 /* The options and operands of a subcommand. */
 struct arguments {
@@ -131,6 +131,10 @@ struct nearest {
 
 /* nearest.c */
 struct nearest nearest_to(const char *word);
+size_t find_ends(const uint8_t *text, size_t length, size_t *ends);
+
+/* callee.c */
+size_t call_place(const uint8_t *text, size_t length, size_t mark);
 void consider(struct nearest *n, const char *candidate);
 
 /* A token of a text: where it begins and ends, and its kind. */

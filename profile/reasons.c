@@ -8,7 +8,7 @@
 
 #include "profile.h"
 
-enum { TEXT_LIMIT = 8192, NAME_LIMIT = 32, TOKEN_SHOWN = 40 };
+enum { NAME_LIMIT = 32, TOKEN_SHOWN = 40 };
 
 /* Operators that the language lacks, the longest first, and what to write. */
 static const struct {
