@@ -320,51 +320,6 @@ int run_compile(const struct arguments *a) {
     return status;
 }
 
-/* Prints the bytes of a name; those that do not print as \xHH. */
-static void print_name(const uint8_t *name, size_t length) {
-    for (size_t i = 0; i < length; i++) {
-        if (name[i] > ' ' && name[i] < 127 && name[i] != '\\') {
-            putchar(name[i]);
-        } else {
-            printf("\\x%02x", name[i]);
-        }
-    }
-}
-
-/* Prints where a name stands: line and column, or the offset in the tree. */
-static void print_place(const struct arguments *a, struct walk *w, size_t offset) {
-    unsigned line, column;
-    if (a->tree) {
-        printf("offset %u: ", (unsigned)offset);
-        return;
-    }
-    position_of(w->text, w->text_length, place_in_text(w, offset), &line, &column);
-    printf("line %u, column %u: ", line, column);
-}
-
-/* Prints how one name was resolved. */
-static void print_record(const struct arguments *a, struct walk *w, const struct monkey_name *n) {
-    static const char *const kinds[] = {"global", "local", "built-in word", "captured variable", "the function itself"};
-    const uint8_t *field = tree + n->offset; /* tag, length in two bytes, name */
-    print_place(a, w, n->offset);
-    print_name(field + 3, (size_t)field[1] * 256 + field[2]);
-    printf(" is %s", kinds[n->kind]);
-    if (n->kind != MONKEY_FUNCTION) {
-        printf(" %u", (unsigned)n->index);
-    }
-    if (n->crossed > 0) {
-        printf(", found %u %s further out", (unsigned)n->crossed, n->crossed == 1 ? "function" : "functions");
-    }
-    putchar('\n');
-}
-
-/* Orders records by their place; compiling has those to the right of `<` first. */
-static int by_offset(const void *left, const void *right) {
-    uint32_t l = ((const struct monkey_name *)left)->offset;
-    uint32_t r = ((const struct monkey_name *)right)->offset;
-    return (l > r) - (l < r);
-}
-
 /* Prints how each name of a script that was read was resolved. */
 static int print_names(const struct arguments *a, const struct script *script) {
     int status = make_tree(a, script);
@@ -376,12 +331,8 @@ static int print_names(const struct arguments *a, const struct script *script) {
     if (monkey_number(answer) != 0) {
         return refuse_script(a, script, answer);
     }
-    size_t count = monkey_names_count(answer);
-    qsort(names, count, sizeof names[0], by_offset);
     struct walk w = begin_walk(tree, tree_length, script->bytes, script->length);
-    for (size_t k = 0; k < count; k++) {
-        print_record(a, &w, &names[k]);
-    }
+    print_records(a, script->path, &w, names, monkey_names_count(answer));
     return finish_stdout();
 }
 

@@ -29,9 +29,12 @@ static const char *plain(void) {
     return is_coloured() ? "\033[0m" : "";
 }
 
-/* Says an error of a file: its number, or 0 where it has none, and the reason. */
-int say_error(const char *path, unsigned number, const char *reason) {
+/* Says an error of a file: its number, or 0 where it has none, and the reason, in which the offset is named. */
+int say_error(const char *path, long long offset, unsigned number, const char *reason) {
     char numbered[16] = "";
+    if (is_json()) {
+        return print_refusal(path, offset, number, reason);
+    }
     if (number > 0) {
         snprintf(numbered, sizeof numbered, "[%u]", number);
     }
@@ -121,6 +124,9 @@ void say_place(const struct message *m, const char *head, const char *reason) {
 /* Says an error at a place of a text, and the note on it. */
 int say_message(const struct message *m, unsigned number) {
     unsigned line, column;
+    if (is_json()) {
+        return print_message(m, number);
+    }
     position_of(m->text, m->length, m->place, &line, &column);
     fprintf(stderr, "%s:%u:%u: %serror[%u]:%s %s\n", shown_path(m->path), line, column, red(), number, plain(), m->reason);
     print_line(m, m->place, line, column);
