@@ -132,11 +132,14 @@ static int find_missing(const uint8_t *image, char *text, size_t room) {
     return 0;
 }
 
-/* Says why the stack of a chunk of an image that decodes fails. */
+/* Says why the stack of a chunk of an image that decodes fails, a jump among the reasons. */
 void explain_chunk(char *text, size_t room, const uint8_t *image, size_t length, size_t number) {
     read_pool(image, length);
     struct chunk c = chunk_at(image, number);
     explain_stack(text, room, image, &c);
+    if (text[0] == 0) {
+        explain_jump(text, room, image, &c);
+    }
 }
 
 /* Describes the entry of the pool of an image that decodes, in brackets: a function's length, a string or its beginning. */
@@ -172,7 +175,8 @@ int report_check(const char *path, const uint8_t *image, size_t length, uint64_t
     }
     int missing = find_missing(image, names, sizeof names);
     if (monkey_number(stack) != 0) {
-        explain_chunk(why, sizeof why, image, length, monkey_value(stack));
+        struct chunk c = chunk_at(image, monkey_value(stack));
+        explain_stack(why, sizeof why, image, &c); /* a jump is said among the names */
         return refuse_stack(path, stack, why, names);
     }
     if (missing) {

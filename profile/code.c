@@ -148,6 +148,19 @@ static int explain_at(char *text, size_t room, const uint8_t *image, const struc
     return 1;
 }
 
+/* Says which jump of a chunk is the first that does not land, if one is. */
+void explain_jump(char *text, size_t room, const uint8_t *image, const struct chunk *c) {
+    char name[64];
+    mark_starts(c);
+    for (size_t at = 0; at < c->length; at += instruction_length(c->code + at)) {
+        if ((c->code[at] == JUMP || c->code[at] == JUMP_NOT_TRUTHY) && !lands(c, at)) {
+            name_instruction(name, sizeof name, image, c->code + at);
+            snprintf(text, room, ": %s goes to where no later instruction begins", name);
+            return;
+        }
+    }
+}
+
 /* Says why the stack of a chunk fails; nothing, where only jumps go nowhere. */
 void explain_stack(char *text, size_t room, const uint8_t *image, const struct chunk *c) {
     text[0] = 0;

@@ -29,6 +29,7 @@ unsigned values_given(const uint8_t *at);
 void name_instruction(char *text, size_t room, const uint8_t *image, const uint8_t *at);
 void mark_starts(const struct chunk *c);
 int lands(const struct chunk *c, size_t at);
+void explain_jump(char *text, size_t room, const uint8_t *image, const struct chunk *c);
 void explain_stack(char *text, size_t room, const uint8_t *image, const struct chunk *c);
 
 #endif
