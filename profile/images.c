@@ -300,7 +300,7 @@ int run_frames(const struct arguments *a) {
     }
     uint64_t answer = monkey_count_frames(image, image_length, (size_t)size);
     if (monkey_number(answer) == MONKEY_FRAME_SIZE) {
-        return refuse_plainly(a->operands[0], answer);
+        return refuse_plainly(a->operands[is_json() ? 1 : 0], answer); /* an object is about a file, a message about the size */
     }
     if (monkey_number(answer) != 0) {
         return refuse_image(a->operands[1], answer);
