@@ -29,17 +29,17 @@ abbrev is_value : ℕ → Bool
 is_value k = either (eqb k an_integer) (eqb k a_string)
 
 -- two tokens as texts have them
-data Like : Token → Token → Type 0 where
+pub data Like : Token → Token → Type 0 where
   same : (t : Token) → Like t t
   values : {k : ℕ} {b c : Bytes} → is_value k ≡ true → length b ≡ length c → Like (token k b) (token k c)
   bools : {k l : ℕ} {b c : Bytes} → is_bool k ≡ true → is_bool l ≡ true → Like (token k b) (token l c)
 
-data LikeRows : Row → Row → Type 0 where
+pub data LikeRows : Row → Row → Type 0 where
   ended : LikeRows [] []
   next : {t u : Token} {ts us : Row} → Like t u → LikeRows ts us → LikeRows (t ∷ ts) (u ∷ us)
 
 -- integers of a text are eight bytes
-like_real : {ts us : Row} → AlikeTokens ts us → Real ts → Real us → LikeRows ts us
+pub like_real : {ts us : Row} → AlikeTokens ts us → Real ts → Real us → LikeRows ts us
 like_real AlikeTokens.ended _ _ = LikeRows.ended
 like_real (AlikeTokens.next (AlikeToken.same t) a) (Real.another _ r) (Real.another _ q) = LikeRows.next (Like.same t) (like_real a r q)
 like_real (AlikeTokens.next (AlikeToken.integers b c) a) (Real.another i r) (Real.another j q) = LikeRows.next (Like.values refl (i.integer refl ∙ sym (j.integer refl))) (like_real a r q)
@@ -354,7 +354,7 @@ pub record Script-again (vs : Row) (x : Node) : Type 0 where
   pub script : Script vs made
   pub like : LikeNode x made
 
-script_like : {ts vs : Row} {x : Node} → Script ts x → LikeRows ts vs → Script-again vs x
+pub script_like : {ts vs : Row} {x : Node} → Script ts x → LikeRows ts vs → Script-again vs x
 script_like {vs = vs} (Script.script d) l = go (statements_again d l)
   where
     go : {xs : Nodes} → Again Statements LikeNodes vs [] xs → Script-again vs (node tag_program xs)
