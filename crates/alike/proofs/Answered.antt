@@ -1,4 +1,4 @@
--- What is answered to two scripts that are alike: alike trees, or refusals of one number at the same token, but where one of the texts is cut.
+-- What is answered to two scripts that are alike: alike trees, or refusals alike, but where one of the texts is cut.
 use Prim.Native.Nat.{ℕ, suc, ◌<◌}
 use native.Mathlib.Omega.{arith}
 use mathlib.Core.List.{[], ◌∷◌, ◌++◌}
@@ -43,7 +43,8 @@ rows_append (LikeRows.next t l) m = LikeRows.next t (rows_append l m)
 
 -- what is alike to the beginning of a script is one
 begins_again : {ts us : Row} → LikeRows ts us → Beginning ts → Beginning us
-begins_again l b = let z = script_like b.script (rows_append l (rows_same b.rest)) in record { rest = b.rest; denoted = z.made; script = z.script }
+begins_again l b =
+    let z = script_like b.script (rows_append l (rows_same b.rest)) in record { rest = b.rest; denoted = z.made; script = z.script }
 
 -- what is alike to a row that is cut before a token
 record CutAgain (pre : Row) (t : Token) (vs : Row) : Type 0 where
@@ -78,7 +79,8 @@ module _ (lent : ℕ) (s t : Bytes) (l : LikeRows (scan_text s).tokens (scan_tex
       go (cut r p) e = both (AlikeAnswers.second_cut r p e b) (Answers.cut_short r p e b)
 
   -- where those of the first are a script
-  of_script : {o : Outcome} {x : Node} → Script (scan_text s).tokens x → ((n : ℕ) (y : Node) → (scan_text t).tail ≡ whole n → Script (scan_text t).tokens y → LikeNode x y → Both o) → Both o
+  of_script : {o : Outcome} {x : Node} → Script (scan_text s).tokens x
+      → ((n : ℕ) (y : Node) → (scan_text t).tail ≡ whole n → Script (scan_text t).tokens y → LikeNode x y → Both o) → Both o
   of_script d f = let z = script_like d l in either_way (script_begins z.script) (λ n e. f n z.made e z.script z.like)
 
   go : {o : Outcome} → Answers lent (scan_text s) o → Both o
@@ -93,11 +95,15 @@ module _ (lent : ℕ) (s t : Bytes) (l : LikeRows (scan_text s).tokens (scan_tex
   go (Answers.ends_early end e b none) =
       let c = begins_again l b in
       either_way c (λ n f. both (AlikeAnswers.early end n e f) (Answers.ends_early n f c (λ y d. let z = script_like d (rows_back l) in none z.made z.script)))
-  go (Answers.too_deep end x e d h) = of_script d (λ n y f g w. both AlikeAnswers.deep (Answers.too_deep n y f g (omega (arith, h, like_levels w))))
-  go (Answers.too_long end x e d h k) = of_script d (λ n y f g w. both AlikeAnswers.long (Answers.too_long n y f g (omega (arith, h, like_levels w)) (omega (arith, k, like_length w))))
+  go (Answers.too_deep end x e d h) =
+      of_script d (λ n y f g w. both AlikeAnswers.deep (Answers.too_deep n y f g (omega (arith, h, like_levels w))))
+  go (Answers.too_long end x e d h k) =
+      of_script d (λ n y f g w. both AlikeAnswers.long (Answers.too_long n y f g (omega (arith, h, like_levels w)) (omega (arith, k, like_length w))))
   go (Answers.denotes end x e d h k) =
       of_script d (λ n y f g w. both (AlikeAnswers.read (alike-bytes w (omega (arith, k, smaller_right lent tree_limit)))) (Answers.denotes n y f g (omega (arith, h, like_levels w)) (omega (arith, k, like_length w))))
 
--- Two scripts that are alike, read into outputs of one length, are answered with alike trees or refused alike, number and token, unless one of them is cut
-pub alike-answers : (lent : ℕ) (s t : Bytes) → AlikeScripts s t → AlikeAnswers (scan_text s) (scan_text t) (read_text lent s) (read_text lent t)
+-- Two scripts that are alike, read into outputs of one length, are answered with alike trees,
+-- or refused alike, number and token, unless one of them is cut
+pub alike-answers : (lent : ℕ) (s t : Bytes) → AlikeScripts s t
+    → AlikeAnswers (scan_text s) (scan_text t) (read_text lent s) (read_text lent t)
 alike-answers lent s t a = go lent s t (like_real a.tokens (real_text s) (real_text t)) (answers lent s)

@@ -42,10 +42,14 @@ pub data LikeRows : Row → Row → Type 0 where
 pub like_real : {ts us : Row} → AlikeTokens ts us → Real ts → Real us → LikeRows ts us
 like_real AlikeTokens.ended _ _ = LikeRows.ended
 like_real (AlikeTokens.next (AlikeToken.same t) a) (Real.another _ r) (Real.another _ q) = LikeRows.next (Like.same t) (like_real a r q)
-like_real (AlikeTokens.next (AlikeToken.integers b c) a) (Real.another i r) (Real.another j q) = LikeRows.next (Like.values refl (i.integer refl ∙ sym (j.integer refl))) (like_real a r q)
-like_real (AlikeTokens.next (AlikeToken.true_false b c) a) (Real.another _ r) (Real.another _ q) = LikeRows.next (Like.bools refl refl) (like_real a r q)
-like_real (AlikeTokens.next (AlikeToken.false_true b c) a) (Real.another _ r) (Real.another _ q) = LikeRows.next (Like.bools refl refl) (like_real a r q)
-like_real (AlikeTokens.next (AlikeToken.strings b c h) a) (Real.another _ r) (Real.another _ q) = LikeRows.next (Like.values refl h) (like_real a r q)
+like_real (AlikeTokens.next (AlikeToken.integers b c) a) (Real.another i r) (Real.another j q) =
+    LikeRows.next (Like.values refl (i.integer refl ∙ sym (j.integer refl))) (like_real a r q)
+like_real (AlikeTokens.next (AlikeToken.true_false b c) a) (Real.another _ r) (Real.another _ q) =
+    LikeRows.next (Like.bools refl refl) (like_real a r q)
+like_real (AlikeTokens.next (AlikeToken.false_true b c) a) (Real.another _ r) (Real.another _ q) =
+    LikeRows.next (Like.bools refl refl) (like_real a r q)
+like_real (AlikeTokens.next (AlikeToken.strings b c h) a) (Real.another _ r) (Real.another _ q) =
+    LikeRows.next (Like.values refl h) (like_real a r q)
 
 -- a row begins with the same token, of which some bytes may differ
 record Token-again (k : ℕ) (vs us : Row) (b : Bytes) : Type 0 where
@@ -68,7 +72,8 @@ record Name-again (vs us : Row) (b : Bytes) : Type 0 where
   pub rest : LikeRows us left
 
 name_again : {ts us vs : Row} {b : Bytes} → Is a_name ts us b → LikeRows ts vs → Name-again vs us b
-name_again {vs = vs} i l = let t = is_again refl i l in record { left = t.left; derived = subst (λ b. Is a_name vs t.left b) (sym (t.plain refl)) t.derived; rest = t.rest }
+name_again {vs = vs} i l =
+    let t = is_again refl i l in record { left = t.left; derived = subst (λ b. Is a_name vs t.left b) (sym (t.plain refl)) t.derived; rest = t.rest }
 
 -- what is derived of one row is derived of the other, and is alike
 record Again {A : Type 0} (F : Row → Row → A → Type 0) (R : A → A → Type 0) (vs us : Row) (x : A) : Type 0 where
@@ -79,10 +84,12 @@ record Again {A : Type 0} (F : Row → Row → A → Type 0) (R : A → A → Ty
   pub like : R x made
 
 -- `true` or `false`
-bool_made : {us left : Row} {c : Bytes} (v l : ℕ) → is_bool l ≡ true → LikeRows us left → Again Primary LikeNode (token l c ∷ left) us (leaf tag_boolean (v ∷ []))
+bool_made : {us left : Row} {c : Bytes} (v l : ℕ) → is_bool l ≡ true → LikeRows us left
+    → Again Primary LikeNode (token l c ∷ left) us (leaf tag_boolean (v ∷ []))
 bool_made {us} {left} {c} v l h ls = go (eqb l true_word) refl (eqb l false_word) refl
   where
-    go : (a : Bool) → eqb l true_word ≡ a → (b : Bool) → eqb l false_word ≡ b → Again Primary LikeNode (token l c ∷ left) us (leaf tag_boolean (v ∷ []))
+    go : (a : Bool) → eqb l true_word ≡ a → (b : Bool) → eqb l false_word ≡ b
+        → Again Primary LikeNode (token l c ∷ left) us (leaf tag_boolean (v ∷ []))
     go true e b f =
         record {
           left = left;
@@ -101,7 +108,8 @@ bool_made {us} {left} {c} v l h ls = go (eqb l true_word) refl (eqb l false_word
         }
     go false e false f = clash h (λ i. either (e i) (f i))
 
-bool_again : {k : ℕ} {ts us vs : Row} {b : Bytes} (v : ℕ) → is_bool k ≡ true → Is k ts us b → LikeRows ts vs → Again Primary LikeNode vs us (leaf tag_boolean (v ∷ []))
+bool_again : {k : ℕ} {ts us vs : Row} {b : Bytes} (v : ℕ) → is_bool k ≡ true → Is k ts us b → LikeRows ts vs
+    → Again Primary LikeNode vs us (leaf tag_boolean (v ∷ []))
 bool_again v e Is.is (LikeRows.next (Like.same (token k b)) ls) = bool_made v k e ls
 bool_again v e Is.is (LikeRows.next (Like.values {k} i h) ls) = bool_made v k e ls
 bool_again v e Is.is (LikeRows.next (Like.bools {l = l} _ j) ls) = bool_made v l j ls
@@ -145,7 +153,8 @@ like_name n = LikeNode.same tag_name n refl refl
 
 -- names
 names_again : {ts us vs : Row} {xs : Nodes} → Names ts us xs → LikeRows ts vs → Again Names LikeNodes vs us xs
-names_again (Names.last_name {n = n} i) l = let t = name_again i l in record { left = t.left; made = leaf tag_name n then Node.none; derived = Names.last_name t.derived; rest = t.rest; like = like_one (like_name n) }
+names_again (Names.last_name {n = n} i) l =
+    let t = name_again i l in record { left = t.left; made = leaf tag_name n then Node.none; derived = Names.last_name t.derived; rest = t.rest; like = like_one (like_name n) }
 names_again (Names.more_names {n = n} i c d) l =
     let t = name_again i l in
     let u = is_again refl c t.rest in
@@ -155,7 +164,8 @@ names_again (Names.more_names {n = n} i c d) l =
 -- parameters
 parameters_again : {ts us vs : Row} {xs : Nodes} → Parameters ts us xs → LikeRows ts vs → Again Parameters LikeNodes vs us xs
 parameters_again {vs = vs} Parameters.no_parameters l = record { left = vs; made = Node.none; derived = Parameters.no_parameters; rest = l; like = LikeNodes.none }
-parameters_again (Parameters.parameters d) l = let t = names_again d l in record { left = t.left; made = t.made; derived = Parameters.parameters t.derived; rest = t.rest; like = t.like }
+parameters_again (Parameters.parameters d) l =
+    let t = names_again d l in record { left = t.left; made = t.made; derived = Parameters.parameters t.derived; rest = t.rest; like = t.like }
 
 mutual
   -- statements
@@ -190,7 +200,8 @@ mutual
         made = node tag_let (leaf tag_name n then named n x.made then Node.none);
         derived = Statement.let_statement t.derived u.derived w.derived x.derived refl;
         rest = x.rest;
-        like = LikeNode.inside tag_let refl (LikeNodes.another (like_name n) (like_one (subst (λ z. LikeNode z (named n x.made)) (sym v) (like_named n x.like))));
+        like =
+            LikeNode.inside tag_let refl (LikeNodes.another (like_name n) (like_one (subst (λ z. LikeNode z (named n x.made)) (sym v) (like_named n x.like))));
       }
   statement_again (Statement.return_statement i d) l =
       let t = is_again refl i l in
@@ -210,12 +221,15 @@ mutual
 
   -- an expression
   expression_again : {ts us vs : Row} {x : Node} → Expression ts us x → LikeRows ts vs → Again Expression LikeNode vs us x
-  expression_again (Expression.expression d) l = let t = binary_again d l in record { left = t.left; made = t.made; derived = Expression.expression t.derived; rest = t.rest; like = t.like }
+  expression_again (Expression.expression d) l =
+      let t = binary_again d l in record { left = t.left; made = t.made; derived = Expression.expression t.derived; rest = t.rest; like = t.like }
 
   -- an expression of some levels
   binary_again : {n : ℕ} {ts us vs : Row} {x : Node} → Binary n ts us x → LikeRows ts vs → Again (Binary n) LikeNode vs us x
-  binary_again (Binary.unary d) l = let t = unary_again d l in record { left = t.left; made = t.made; derived = Binary.unary t.derived; rest = t.rest; like = t.like }
-  binary_again (Binary.tighter d) l = let t = binary_again d l in record { left = t.left; made = t.made; derived = Binary.tighter t.derived; rest = t.rest; like = t.like }
+  binary_again (Binary.unary d) l =
+      let t = unary_again d l in record { left = t.left; made = t.made; derived = Binary.unary t.derived; rest = t.rest; like = t.like }
+  binary_again (Binary.tighter d) l =
+      let t = binary_again d l in record { left = t.left; made = t.made; derived = Binary.tighter t.derived; rest = t.rest; like = t.like }
   binary_again (Binary.infixed {o = o} d k i e) l =
       let t = binary_again d l in
       let u = is_again (infix_plain k) i t.rest in
@@ -240,7 +254,8 @@ mutual
         rest = u.rest;
         like = LikeNode.inside tag_prefix refl (LikeNodes.another (like_operator o) (like_one u.like));
       }
-  unary_again (Prefix.postfix d) l = let t = postfix_again d l in record { left = t.left; made = t.made; derived = Prefix.postfix t.derived; rest = t.rest; like = t.like }
+  unary_again (Prefix.postfix d) l =
+      let t = postfix_again d l in record { left = t.left; made = t.made; derived = Prefix.postfix t.derived; rest = t.rest; like = t.like }
 
   -- a postfix expression
   postfix_again : {ts us vs : Row} {x : Node} → Postfix ts us x → LikeRows ts vs → Again Postfix LikeNode vs us x
@@ -256,13 +271,17 @@ mutual
       let w = expression_again e u.rest in
       let z = is_again refl j w.rest in
       record { left = z.left; made = node tag_index (t.made then w.made then Node.none); derived = Postfix.index t.derived u.derived w.derived z.derived; rest = z.rest; like = LikeNode.inside tag_index refl (LikeNodes.another t.like (like_one w.like)) }
-  postfix_again (Postfix.primary d) l = let t = primary_again d l in record { left = t.left; made = t.made; derived = Postfix.primary t.derived; rest = t.rest; like = t.like }
+  postfix_again (Postfix.primary d) l =
+      let t = primary_again d l in record { left = t.left; made = t.made; derived = Postfix.primary t.derived; rest = t.rest; like = t.like }
 
   -- a primary
   primary_again : {ts us vs : Row} {x : Node} → Primary ts us x → LikeRows ts vs → Again Primary LikeNode vs us x
-  primary_again (Primary.identifier {b = b} i) l = let t = name_again i l in record { left = t.left; made = leaf tag_identifier b; derived = Primary.identifier t.derived; rest = t.rest; like = LikeNode.same tag_identifier b refl refl }
-  primary_again (Primary.integer {b = b} i) l = let t = is_again refl i l in record { left = t.left; made = leaf tag_integer t.bytes; derived = Primary.integer t.derived; rest = t.rest; like = LikeNode.literal tag_integer b t.bytes refl t.long }
-  primary_again (Primary.string {b = b} i) l = let t = is_again refl i l in record { left = t.left; made = leaf tag_string t.bytes; derived = Primary.string t.derived; rest = t.rest; like = LikeNode.literal tag_string b t.bytes refl t.long }
+  primary_again (Primary.identifier {b = b} i) l =
+      let t = name_again i l in record { left = t.left; made = leaf tag_identifier b; derived = Primary.identifier t.derived; rest = t.rest; like = LikeNode.same tag_identifier b refl refl }
+  primary_again (Primary.integer {b = b} i) l =
+      let t = is_again refl i l in record { left = t.left; made = leaf tag_integer t.bytes; derived = Primary.integer t.derived; rest = t.rest; like = LikeNode.literal tag_integer b t.bytes refl t.long }
+  primary_again (Primary.string {b = b} i) l =
+      let t = is_again refl i l in record { left = t.left; made = leaf tag_string t.bytes; derived = Primary.string t.derived; rest = t.rest; like = LikeNode.literal tag_string b t.bytes refl t.long }
   primary_again (Primary.yes i) l = bool_again 1 refl i l
   primary_again (Primary.no i) l = bool_again 0 refl i l
   primary_again (Primary.group i d j) l =
@@ -298,12 +317,14 @@ mutual
         made = node tag_function (leaf tag_name [] then node tag_params w.made then z.made then Node.none);
         derived = Primary.function t.derived u.derived w.derived y.derived z.derived;
         rest = z.rest;
-        like = LikeNode.inside tag_function refl (LikeNodes.another (like_name []) (LikeNodes.another (LikeNode.inside tag_params refl w.like) (like_one z.like)));
+        like =
+            LikeNode.inside tag_function refl (LikeNodes.another (like_name []) (LikeNodes.another (LikeNode.inside tag_params refl w.like) (like_one z.like)));
       }
 
   -- an if's branches
   branches_again : {ts us vs : Row} {xs : Nodes} → Branches ts us xs → LikeRows ts vs → Again Branches LikeNodes vs us xs
-  branches_again (Branches.without_else d) l = let t = block_again d l in record { left = t.left; made = t.made then Node.none; derived = Branches.without_else t.derived; rest = t.rest; like = like_one t.like }
+  branches_again (Branches.without_else d) l =
+      let t = block_again d l in record { left = t.left; made = t.made then Node.none; derived = Branches.without_else t.derived; rest = t.rest; like = like_one t.like }
   branches_again (Branches.with_else d i e) l =
       let t = block_again d l in
       let u = is_again refl i t.rest in
@@ -313,10 +334,12 @@ mutual
   -- a list
   items_again : {ts us vs : Row} {xs : Nodes} → Items ts us xs → LikeRows ts vs → Again Items LikeNodes vs us xs
   items_again {vs = vs} Items.no_items l = record { left = vs; made = Node.none; derived = Items.no_items; rest = l; like = LikeNodes.none }
-  items_again (Items.items d) l = let t = some_items_again d l in record { left = t.left; made = t.made; derived = Items.items t.derived; rest = t.rest; like = t.like }
+  items_again (Items.items d) l =
+      let t = some_items_again d l in record { left = t.left; made = t.made; derived = Items.items t.derived; rest = t.rest; like = t.like }
 
   some_items_again : {ts us vs : Row} {xs : Nodes} → SomeItems ts us xs → LikeRows ts vs → Again SomeItems LikeNodes vs us xs
-  some_items_again (SomeItems.last_item d) l = let t = expression_again d l in record { left = t.left; made = t.made then Node.none; derived = SomeItems.last_item t.derived; rest = t.rest; like = like_one t.like }
+  some_items_again (SomeItems.last_item d) l =
+      let t = expression_again d l in record { left = t.left; made = t.made then Node.none; derived = SomeItems.last_item t.derived; rest = t.rest; like = like_one t.like }
   some_items_again (SomeItems.more_items d i e) l =
       let t = expression_again d l in
       let u = is_again refl i t.rest in
@@ -326,7 +349,8 @@ mutual
   -- pairs
   pairs_again : {ts us vs : Row} {xs : Nodes} → Pairs ts us xs → LikeRows ts vs → Again Pairs LikeNodes vs us xs
   pairs_again {vs = vs} Pairs.no_pairs l = record { left = vs; made = Node.none; derived = Pairs.no_pairs; rest = l; like = LikeNodes.none }
-  pairs_again (Pairs.pairs d) l = let t = some_pairs_again d l in record { left = t.left; made = t.made; derived = Pairs.pairs t.derived; rest = t.rest; like = t.like }
+  pairs_again (Pairs.pairs d) l =
+      let t = some_pairs_again d l in record { left = t.left; made = t.made; derived = Pairs.pairs t.derived; rest = t.rest; like = t.like }
 
   some_pairs_again : {ts us vs : Row} {xs : Nodes} → SomePairs ts us xs → LikeRows ts vs → Again SomePairs LikeNodes vs us xs
   some_pairs_again (SomePairs.last_pair d i e) l =

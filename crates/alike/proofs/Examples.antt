@@ -49,7 +49,8 @@ strings_long b c (AlikeToken.strings x y h) e f = let p : x ≡ b = cc in let q 
 -- another name
 pub other_name : AlikeScripts (ascii "a") (ascii "b") → ⊥
 unfolding sameBytes kind_in value skip next_at scan
-other_name l = let e = names_same (ascii "a") (ascii "b") (only l.tokens refl refl) refl refl in let z : ◌≡◌ {A = ℕ} 97 98 = cc in omega arith
+other_name l =
+    let e = names_same (ascii "a") (ascii "b") (only l.tokens refl refl) refl refl in let z : ◌≡◌ {A = ℕ} 97 98 = cc in omega arith
 
 -- a longer string
 pub longer_string : AlikeScripts (ascii "\"x\"") (ascii "\"xy\"") → ⊥

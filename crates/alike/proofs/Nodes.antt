@@ -56,7 +56,9 @@ mutual
 
   pub like_lengths : {xs ys : Nodes} → LikeNodes xs ys → length (written_all xs) ≡ length (written_all ys)
   like_lengths LikeNodes.none = refl
-  like_lengths (LikeNodes.another {x} {y} {xs} {ys} l ls) = length-append (written x) (written_all xs) ∙ (λ i. like_length l i + like_lengths ls i) ∙ sym (length-append (written y) (written_all ys))
+  like_lengths (LikeNodes.another {x} {y} {xs} {ys} l ls) =
+      length-append (written x) (written_all xs) ∙ (λ i. like_length l i + like_lengths ls i)
+      ∙ sym (length-append (written y) (written_all ys))
 
 mutual
   unfolding levels
@@ -75,7 +77,8 @@ mutual
   unfolding written
 
   -- their bytes, in front of others
-  alike-written : {x y : Node} {b c : Bytes} → LikeNode x y → length (written x) ≤ tree_limit → AlikeFields b c → AlikeFields (written x ++ b) (written y ++ c)
+  alike-written : {x y : Node} {b c : Bytes} → LikeNode x y → length (written x) ≤ tree_limit → AlikeFields b c
+      → AlikeFields (written x ++ b) (written y ++ c)
   alike-written (LikeNode.same t x e k) h f = AlikeFields.kept t _ _ x e k (sym (two_bytes (length x) (omega arith))) f
   alike-written {b = b} {c} (LikeNode.literal t x y k e) h f =
       subst (AlikeFields (t ∷ length x / 256 % 256 ∷ length x % 256 ∷ (x ++ b))) (λ i. t ∷ e i / 256 % 256 ∷ e i % 256 ∷ (y ++ c))
@@ -84,7 +87,8 @@ mutual
       subst (AlikeFields (t ∷ length (written_all xs) / 256 % 256 ∷ length (written_all xs) % 256 ∷ (written_all xs ++ b))) (λ i. t ∷ like_lengths l i / 256 % 256 ∷ like_lengths l i % 256 ∷ (written_all ys ++ c))
       (AlikeFields.inside t _ _ e (alike_all l (omega arith) f))
 
-  alike_all : {xs ys : Nodes} {b c : Bytes} → LikeNodes xs ys → length (written_all xs) ≤ tree_limit → AlikeFields b c → AlikeFields (written_all xs ++ b) (written_all ys ++ c)
+  alike_all : {xs ys : Nodes} {b c : Bytes} → LikeNodes xs ys → length (written_all xs) ≤ tree_limit → AlikeFields b c
+      → AlikeFields (written_all xs ++ b) (written_all ys ++ c)
   alike_all LikeNodes.none h f = f
   alike_all {b = b} {c} (LikeNodes.another {x} {y} {xs} {ys} l ls) h f =
       subst₂ AlikeFields (sym (append_assoc (written x) (written_all xs) b)) (sym (append_assoc (written y) (written_all ys) c))

@@ -89,8 +89,10 @@ pub scripts_calls : {cs ds : List Call} → AllScripts cs ds → AllAlike cs ds
 scripts_calls AllScripts.none = AllAlike.none
 scripts_calls (AllScripts.more a rest) = AllAlike.more (scripts_call a) (scripts_calls rest)
 
--- Two series of compile calls on trees of alike scripts, step by step, from sessions of equal words, can't be told apart but by the literals' bytes
-pub scripts_condition_3 : {a b : Bytes} {u v : Words} → MadeBy a u → MadeBy b v → word_list u ≡ word_list v → (cs ds : List Call) → AllScripts cs ds → (xs ys : List Called)
+-- Two series of compile calls on trees of alike scripts, step by step, from sessions of equal words,
+-- can't be told apart but by the literals' bytes
+pub scripts_condition_3 : {a b : Bytes} {u v : Words} → MadeBy a u → MadeBy b v → word_list u ≡ word_list v → (cs ds : List Call)
+    → AllScripts cs ds → (xs ys : List Called)
     → Ran (take session_size a) cs xs → Ran (take session_size b) ds ys → Indistinguishable (field_count u ≡ field_count v) (shapes u cs) xs ys
 scripts_condition_3 m n e cs ds l xs ys x y = compile_condition_3 m n e cs ds (scripts_calls l) xs ys x y
 
@@ -101,7 +103,8 @@ pub data OneLength : Outcome → Outcome → Type 0 where
 
 -- at the same point of equal sessions, trees of one shape give images of one length, or the same refusal
 pub one-length : (z : Session) (q r : Request) → with_shape q ≡ with_shape r → OneLength (compile z q).outcome (compile z r).outcome
-one-length z q r e = go (compile_like (like_itself {compared = Unit {0}} z) q).outcome (subst (λ w. OutcomeLike (compile z r).outcome (compile z w).outcome) (sym e) (compile_like (like_itself {compared = Unit {0}} z) r).outcome)
+one-length z q r e =
+    go (compile_like (like_itself {compared = Unit {0}} z) q).outcome (subst (λ w. OutcomeLike (compile z r).outcome (compile z w).outcome) (sym e) (compile_like (like_itself {compared = Unit {0}} z) r).outcome)
   where
     go : {o p w : Outcome} → OutcomeLike o p → OutcomeLike w p → OneLength o w
     go (OutcomeLike.accepted x) (OutcomeLike.accepted y) = OneLength.accepted (image-length x ∙ sym (image-length y))
@@ -127,10 +130,12 @@ alike-one-length z q r a =
     one-length z q r (λ i. record { code = a.code i; table = a.table i; session = a.session i; output = a.output i; tree = t i })
 
 -- a text whose tokens are a script that is not too deep and has room is read
-reads_made : (lent : ℕ) (text : Bytes) (end : ℕ) (x : Node) → Script (scan_text text).tokens x → (scan_text text).tail ≡ whole end → levels x ≤ level_limit → length (written x) ≤ smaller lent tree_limit → read_text lent text ≡ tree (written x)
+reads_made : (lent : ℕ) (text : Bytes) (end : ℕ) (x : Node) → Script (scan_text text).tokens x → (scan_text text).tail ≡ whole end
+    → levels x ≤ level_limit → length (written x) ≤ smaller lent tree_limit → read_text lent text ≡ tree (written x)
 unfolding read_text
 reads_made lent text end x d e l h =
-    ap (verdict lent (scan_text text)) (complete d) ∙ ap (λ k. at_end k (λ _. judged lent x)) e ∙ pick_false (noTree (refusal Number.too_deep 0)) _ (le-ltb level_limit (levels x) l)
+    ap (verdict lent (scan_text text)) (complete d) ∙ ap (λ k. at_end k (λ _. judged lent x)) e
+    ∙ pick_false (noTree (refusal Number.too_deep 0)) _ (le-ltb level_limit (levels x) l)
     ∙ pick_false (noTree (refusal Number.output_short 0)) (tree (written x)) (le-ltb (smaller lent tree_limit) (length (written x)) h)
 
 -- a script that is read, and one alike to it
@@ -139,8 +144,10 @@ pub record ReadAlike (lent : ℕ) (a t : Bytes) : Type 0 where
   pub reads : read_text lent t ≡ tree bytes
   pub shapes : shape a ≡ shape bytes
 
--- A script that is alike to one that is read is read too, unless its text is cut short: bytes that are no token, or an integer above the limit
-pub alike-read : (lent : ℕ) (s t a : Bytes) (end : ℕ) → AlikeScripts s t → read_text lent s ≡ tree a → (scan_text t).tail ≡ whole end → ReadAlike lent a t
+-- A script that is alike to one that is read is read too, unless its text is cut short:
+-- bytes that are no token, or an integer above the limit
+pub alike-read : (lent : ℕ) (s t a : Bytes) (end : ℕ) → AlikeScripts s t → read_text lent s ≡ tree a → (scan_text t).tail ≡ whole end
+    → ReadAlike lent a t
 alike-read lent s t a end l p e = go (answers lent s) p
   where
     go : {o : Reading} → Answers lent (scan_text s) o → o ≡ tree a → ReadAlike lent a t

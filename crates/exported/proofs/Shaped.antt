@@ -17,6 +17,7 @@ shape_writes : {tree o o' : Bytes} {r : ℕ} → ShapesPacked tree o r o' → r 
 shape_writes p z = record { answer = sym (packs_wrote p.answer z); output = p.output }
 
 -- Two exported calls that are not refused write equal bytes exactly when their trees are alike
-pub monkey-shapes-alike : {t u a b x y : Bytes} {p q : ℕ} → ShapesPacked t a p x → ShapesPacked u b q y → p / half_bound ≡ 0 → q / half_bound ≡ 0
+pub monkey-shapes-alike : {t u a b x y : Bytes} {p q : ℕ} → ShapesPacked t a p x → ShapesPacked u b q y → p / half_bound ≡ 0
+    → q / half_bound ≡ 0
     → (take (p % half_bound) x ≡ take (q % half_bound) y) ↔ AlikeFields t u
 monkey-shapes-alike v w e f = outputs-alike (shape_writes v e) (shape_writes w f) refl refl

@@ -36,7 +36,8 @@ split n x b h = (take_at x b n h, drop_at x b n h)
 -- alike fields have equal blanks
 blanks-alike : {a b s r : Bytes} → AlikeFields a b → Blanks a s → Blanks b r → s ≡ r
 blanks-alike AlikeFields.ended Blanks.ended Blanks.ended = refl
-blanks-alike (AlikeFields.inside t h l e f) (Blanks.inside _ _ _ _ p) (Blanks.inside _ _ _ _ q) = ap (λ z. t ∷ h ∷ l ∷ z) (blanks-alike f p q)
+blanks-alike (AlikeFields.inside t h l e f) (Blanks.inside _ _ _ _ p) (Blanks.inside _ _ _ _ q) =
+    ap (λ z. t ∷ h ∷ l ∷ z) (blanks-alike f p q)
 blanks-alike (AlikeFields.inside t h l e f) (Blanks.kept _ _ _ k _ _ _) q = clash k e
 blanks-alike (AlikeFields.inside t h l e f) (Blanks.literal _ _ _ k _ _ _) q = clash k e
 blanks-alike (AlikeFields.inside t h l e f) (Blanks.inside _ _ _ _ _) (Blanks.kept _ _ _ k _ _ _) = clash k e
@@ -59,7 +60,8 @@ blanks-alike (AlikeFields.literal t h l x y k n m f) (Blanks.literal _ _ _ _ _ _
 blanks-alike (AlikeFields.literal t h l x y k n m f) (Blanks.literal _ _ _ _ _ _ _) (Blanks.kept _ _ _ _ e _ _) = clash k e
 
 -- a name or an operator that both have
-kept_both : (t h l : ℕ) (b c : Bytes) → is_leaf t ≡ true → is_literal t ≡ false → h * 256 + l ≤ length b → take (h * 256 + l) b ≡ take (h * 256 + l) c → AlikeFields (drop (h * 256 + l) b) (drop (h * 256 + l) c)
+kept_both : (t h l : ℕ) (b c : Bytes) → is_leaf t ≡ true → is_literal t ≡ false → h * 256 + l ≤ length b
+    → take (h * 256 + l) b ≡ take (h * 256 + l) c → AlikeFields (drop (h * 256 + l) b) (drop (h * 256 + l) c)
     → AlikeFields (t ∷ h ∷ l ∷ b) (t ∷ h ∷ l ∷ c)
 kept_both t h l b c e k n p f =
     let m = h * 256 + l in
@@ -67,7 +69,8 @@ kept_both t h l b c e k n p f =
     (AlikeFields.kept t h l (take m b) e k (length-take-le m b n) f)
 
 -- a literal in each
-literal_both : (t h l : ℕ) (b c : Bytes) → is_literal t ≡ true → h * 256 + l ≤ length b → h * 256 + l ≤ length c → AlikeFields (drop (h * 256 + l) b) (drop (h * 256 + l) c) → AlikeFields (t ∷ h ∷ l ∷ b) (t ∷ h ∷ l ∷ c)
+literal_both : (t h l : ℕ) (b c : Bytes) → is_literal t ≡ true → h * 256 + l ≤ length b → h * 256 + l ≤ length c
+    → AlikeFields (drop (h * 256 + l) b) (drop (h * 256 + l) c) → AlikeFields (t ∷ h ∷ l ∷ b) (t ∷ h ∷ l ∷ c)
 literal_both t h l b c k n m f =
     let z = h * 256 + l in
     subst₂ AlikeFields (ap (λ y. t ∷ h ∷ l ∷ y) (take-append-drop z b)) (ap (λ y. t ∷ h ∷ l ∷ y) (take-append-drop z c))
@@ -84,7 +87,8 @@ same_head : {t h l u k m : ℕ} {s r : Bytes} → t ∷ h ∷ l ∷ s ≡ u ∷ 
 same_head e = record { tag = cc; high = cc; low = cc; rest = cc }
 
 -- the second with the first's head
-with_head : {t h l u k m : ℕ} {s r : Bytes} {a b : Bytes} → SameHead t h l u k m s r → AlikeFields a (t ∷ h ∷ l ∷ b) → AlikeFields a (u ∷ k ∷ m ∷ b)
+with_head : {t h l u k m : ℕ} {s r : Bytes} {a b : Bytes} → SameHead t h l u k m s r → AlikeFields a (t ∷ h ∷ l ∷ b)
+    → AlikeFields a (u ∷ k ∷ m ∷ b)
 with_head {b = b} e f = subst (AlikeFields _) (λ i. sym e.tag i ∷ sym e.high i ∷ sym e.low i ∷ b) f
 
 differ : {A : Type 0} {b : Bytes} {x : ℕ} → [] ≡ x ∷ b → A
@@ -99,7 +103,8 @@ alike-blanks Blanks.ended (Blanks.literal _ _ _ _ _ _ _) e = differ e
 alike-blanks (Blanks.inside _ _ _ _ _) Blanks.ended e = differ (sym e)
 alike-blanks (Blanks.kept _ _ _ _ _ _ _) Blanks.ended e = differ (sym e)
 alike-blanks (Blanks.literal _ _ _ _ _ _ _) Blanks.ended e = differ (sym e)
-alike-blanks (Blanks.inside t h l k p) (Blanks.inside _ _ _ _ q) e = let w = same_head e in with_head w (AlikeFields.inside t h l k (alike-blanks p q w.rest))
+alike-blanks (Blanks.inside t h l k p) (Blanks.inside _ _ _ _ q) e =
+    let w = same_head e in with_head w (AlikeFields.inside t h l k (alike-blanks p q w.rest))
 alike-blanks (Blanks.inside t h l k p) (Blanks.kept _ _ _ j _ _ _) e = clash (sym (ap is_leaf (same_head e).tag) ∙ j) k
 alike-blanks (Blanks.inside t h l k p) (Blanks.literal _ _ _ j _ _ _) e = clash (sym (ap is_leaf (same_head e).tag) ∙ j) k
 alike-blanks (Blanks.kept t h l k _ _ _) (Blanks.inside _ _ _ j _) e = clash k (sym (ap is_leaf (same_head e).tag) ∙ j)
@@ -121,5 +126,6 @@ alike-blanks (Blanks.literal {b} {s} t h l k j n p) (Blanks.literal {b = c} {s =
     (alike-blanks p (subst (λ z. Blanks (drop z c) r) same q) (cut_second (replicate (h * 256 + l) 0) (replicate (h * 256 + l) 0) s r refl e')))
 
 -- Two trees that are read have equal shapes exactly when they are alike
-pub shapes-alike : (t u : Bytes) {a b : Stmts} {m n : ℕ} → read_tree t ≡ Parsed.parsed a m → read_tree u ≡ Parsed.parsed b n → (shape t ≡ shape u) ↔ AlikeFields t u
+pub shapes-alike : (t u : Bytes) {a b : Stmts} {m n : ℕ} → read_tree t ≡ Parsed.parsed a m → read_tree u ≡ Parsed.parsed b n
+    → (shape t ≡ shape u) ↔ AlikeFields t u
 shapes-alike t u p q = (alike-blanks (blanks-shape t p) (blanks-shape u q), λ f. blanks-alike f (blanks-shape t p) (blanks-shape u q))

@@ -26,8 +26,10 @@ use Rattle.shape.proofs.ReadScan.{lits, scan_tree}
 pub data Blanks : Bytes → Bytes → Type 0 where
   ended : Blanks [] []
   inside : {b s : Bytes} (t h l : ℕ) → is_leaf t ≡ false → Blanks b s → Blanks (t ∷ h ∷ l ∷ b) (t ∷ h ∷ l ∷ s)
-  kept : {b s : Bytes} (t h l : ℕ) → is_leaf t ≡ true → is_literal t ≡ false → h * 256 + l ≤ length b → Blanks (drop (h * 256 + l) b) s → Blanks (t ∷ h ∷ l ∷ b) (t ∷ h ∷ l ∷ (take (h * 256 + l) b ++ s))
-  literal : {b s : Bytes} (t h l : ℕ) → is_leaf t ≡ true → is_literal t ≡ true → h * 256 + l ≤ length b → Blanks (drop (h * 256 + l) b) s → Blanks (t ∷ h ∷ l ∷ b) (t ∷ h ∷ l ∷ (replicate (h * 256 + l) 0 ++ s))
+  kept : {b s : Bytes} (t h l : ℕ) → is_leaf t ≡ true → is_literal t ≡ false → h * 256 + l ≤ length b → Blanks (drop (h * 256 + l) b) s
+      → Blanks (t ∷ h ∷ l ∷ b) (t ∷ h ∷ l ∷ (take (h * 256 + l) b ++ s))
+  literal : {b s : Bytes} (t h l : ℕ) → is_leaf t ≡ true → is_literal t ≡ true → h * 256 + l ≤ length b → Blanks (drop (h * 256 + l) b) s
+      → Blanks (t ∷ h ∷ l ∷ b) (t ∷ h ∷ l ∷ (replicate (h * 256 + l) 0 ++ s))
 
 -- bytes in two parts
 bytes-append : (v : ℕ → ℕ) (at m n : ℕ) → bytes v at (m + n) ≡ bytes v at m ++ bytes v (at + m) n
@@ -54,7 +56,8 @@ drop_three b at h =
     let e₁ : suc at ≡ at + 1 = omega arith in
     let e₂ : suc (at + 1) ≡ at + 2 = omega arith in
     let e₃ : suc (at + 2) ≡ at + 3 = omega arith in
-    drop-cons b at 0 (omega arith) ∙ ap (λ r. byte_at b at ∷ r) (ap (λ j. drop j b) e₁ ∙ drop-cons b (at + 1) 0 (omega arith) ∙ ap (λ r. byte_at b (at + 1) ∷ r) (ap (λ j. drop j b) e₂
+    drop-cons b at 0 (omega arith)
+    ∙ ap (λ r. byte_at b at ∷ r) (ap (λ j. drop j b) e₁ ∙ drop-cons b (at + 1) 0 (omega arith) ∙ ap (λ r. byte_at b (at + 1) ∷ r) (ap (λ j. drop j b) e₂
     ∙ drop-cons b (at + 2) 0 (omega arith) ∙ ap (λ j. byte_at b (at + 2) ∷ drop j b) e₃))
 
 bytes_three : (v : ℕ → ℕ) (at n : ℕ) → bytes v at (3 + n) ≡ v at ∷ v (at + 1) ∷ v (at + 2) ∷ bytes v (at + 3) n
@@ -79,7 +82,8 @@ module _ (tree : Bytes) (l : ℕ → Bool) where
 
     -- a head stays
     head_kept : (i : ℕ) → at ≤ i → i < at + 3 → v i ≡ byte_at tree i
-    head_kept i p q = ap (λ c. pick c 0 (byte_at tree i)) (own i p (omega (arith, own-end (byte_at tree) at)) ∙ go (is_literal t) (leb (at + 3) i) (lt-leb (at + 3) i q))
+    head_kept i p q =
+        ap (λ c. pick c 0 (byte_at tree i)) (own i p (omega (arith, own-end (byte_at tree) at)) ∙ go (is_literal t) (leb (at + 3) i) (lt-leb (at + 3) i q))
       where
         go : (a b : Bool) → b ≡ false → both a b ≡ false
         go true b e = e
@@ -109,7 +113,8 @@ module _ (tree : Bytes) (l : ℕ → Bool) where
     whole x = subst₂ Blanks (sym (drop_three tree at (omega (arith, own-end (byte_at tree) at)))) (sym three) x
 
     -- the bytes of the shape behind a leaf's head
-    leaf : is_leaf t ≡ true → at + 3 + len ≤ length tree → bytes v (at + 3) (length tree - (at + 3)) ≡ bytes v (at + 3) len ++ bytes v (at + 3 + len) (length tree - (at + 3 + len))
+    leaf : is_leaf t ≡ true → at + 3 + len ≤ length tree
+        → bytes v (at + 3) (length tree - (at + 3)) ≡ bytes v (at + 3) len ++ bytes v (at + 3 + len) (length tree - (at + 3 + len))
     leaf e h =
         let r : length tree - (at + 3) ≡ len + (length tree - (at + 3 + len)) = omega arith in
         ap (bytes v (at + 3)) r ∙ bytes-append v (at + 3) len (length tree - (at + 3 + len))
@@ -128,7 +133,8 @@ module _ (tree : Bytes) (l : ℕ → Bool) where
         ends e = let m = next e in omega arith
 
         behind : is_leaf t ≡ true → Blanks (drop len (drop (at + 3) tree)) (bytes v (at + 3 + len) (length tree - (at + 3 + len)))
-        behind e = subst (λ b. Blanks b (bytes v (at + 3 + len) (length tree - (at + 3 + len)))) (sym (drop-drop len (at + 3) tree)) (subst Behind (next e) x)
+        behind e =
+            subst (λ b. Blanks b (bytes v (at + 3 + len) (length tree - (at + 3 + len)))) (sym (drop-drop len (at + 3) tree)) (subst Behind (next e) x)
 
         go : (a : Bool) → is_leaf t ≡ a → (b : Bool) → is_literal t ≡ b → Behind at
         go false e b k = whole (Blanks.inside t _ _ e (subst Behind (pick_false (at + 3 + len) (at + 3) e) x))

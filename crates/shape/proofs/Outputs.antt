@@ -31,18 +31,22 @@ record Wrote (tree : Bytes) (n : ℕ) (out : Bytes) : Type 0 where
 wrote : {tree before out : Bytes} {r : Answer} {n : ℕ} → WritesShape tree before r out → r ≡ Ok n → Wrote tree n out
 wrote {tree} {before} {out} {r} {n} w e = go (read_tree tree) refl (sym e ∙ w.answer) w.output
   where
-    room : (a : Stmts) (m : ℕ) → read_tree tree ≡ Parsed.parsed a m → (b : Bool) → Ok n ≡ pick b (Ok (length (shape tree))) (Err (refusal output_short 0)) → out ≡ pick b (over (shape tree) before) before → Wrote tree n out
+    room : (a : Stmts) (m : ℕ) → read_tree tree ≡ Parsed.parsed a m → (b : Bool)
+        → Ok n ≡ pick b (Ok (length (shape tree))) (Err (refusal output_short 0)) → out ≡ pick b (over (shape tree) before) before
+        → Wrote tree n out
     room a m h true p q =
         let s : n ≡ length (shape tree) = cc in
         record { stmts = a; end = m; reads = h; long = s ∙ length-shape tree; front = ap (take n) q ∙ take_at (shape tree) (drop (length (shape tree)) before) n (sym s) }
     room a m h false p q = let z : ◌≡◌ {A = ℕ} 0 1 = cc in absurd (omega arith)
 
-    go : (o : Parsed Stmts) → read_tree tree ≡ o → Ok n ≡ answer_of o tree (length before) → out ≡ output_of o tree before → Wrote tree n out
+    go : (o : Parsed Stmts) → read_tree tree ≡ o → Ok n ≡ answer_of o tree (length before) → out ≡ output_of o tree before
+        → Wrote tree n out
     go (Parsed.parsed a m) h p q = room a m h (leb (length (shape tree)) (length before)) p q
     go (Parsed.refused s) h p q = let z : ◌≡◌ {A = ℕ} 0 1 = cc in absurd (omega arith)
 
 -- Equal outputs are alike trees, and alike trees equal outputs
-pub outputs-alike : {t u a b x y : Bytes} {p q : Answer} {m n : ℕ} → WritesShape t a p x → WritesShape u b q y → p ≡ Ok m → q ≡ Ok n → (take m x ≡ take n y) ↔ AlikeFields t u
+pub outputs-alike : {t u a b x y : Bytes} {p q : Answer} {m n : ℕ} → WritesShape t a p x → WritesShape u b q y → p ≡ Ok m → q ≡ Ok n
+    → (take m x ≡ take n y) ↔ AlikeFields t u
 outputs-alike {t} {u} v w e f =
     let g = wrote v e in
     let h = wrote w f in

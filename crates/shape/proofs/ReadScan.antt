@@ -1,4 +1,4 @@
--- Reading a tree passes over its fields in a row: what is read at an offset is a row of fields from there on, with the literals that the row has.
+-- Reading a tree passes over its fields in a row: what is read at an offset is such a row from there on, with its literals.
 use Prim.Native.Nat.{ℕ, zero, suc, ◌+◌, ◌≤◌}
 use native.Mathlib.Omega.{arith}
 use mathlib.Core.Bool.{Bool, true, false}
@@ -73,11 +73,13 @@ module _ {byte : ℕ → ℕ} where
       flat_head (tagged tag_params) at end _ (λ g. flat_inside at level (leaf-of (byte at) tag_params refl g) (flat_many [] (λ x xs. x ∷ xs) (flat_name 1 (level + 1)) (head byte at).len (at + 3) (at + 3 + (head byte at).len)))
 
   -- a byte alone in its field
-  flat_byte : {A : Type 0} (f : ℕ → A) (most : ℕ) (l : ℕ → Bool) (level at : ℕ) → is_leaf (byte at) ≡ true → ((i : ℕ) → l i ≡ is_literal (byte at)) → (head byte at).len ≡ 1
+  flat_byte : {A : Type 0} (f : ℕ → A) (most : ℕ) (l : ℕ → Bool) (level at : ℕ) → is_leaf (byte at) ≡ true
+      → ((i : ℕ) → l i ≡ is_literal (byte at)) → (head byte at).len ≡ 1
       → Flat byte at (after (at + 3) none plain (one_byte byte f most l level at (at + 3)))
   flat_byte {A} f most l level at e k h = go (leb (byte (at + 3)) most)
     where
-      go : (b : Bool) → Flat byte at (after (at + 3) none plain (pick b (met level at (Read.ok (f (byte (at + 3))) (at + 3 + 1) none l)) (Read.wrong at none plain)))
+      go : (b : Bool)
+          → Flat byte at (after (at + 3) none plain (pick b (met level at (Read.ok (f (byte (at + 3))) (at + 3 + 1) none l)) (Read.wrong at none plain)))
       go true = flat_leaf at level (at + 3 + 1) (f (byte (at + 3))) none l e k (omega arith)
       go false = Flat.wrong
 
@@ -97,7 +99,8 @@ module _ {byte : ℕ → ℕ} where
 
       -- what a field of a tag holds
       abbrev Held : ℕ → Type 0
-      Held t = (byte at ≡ t) → (t ≡ tag_boolean → ⊥) → Flat byte at (after (at + 3) none plain (met level at (expr_body byte (expr_tag t) e b level at start long)))
+      Held t =
+          (byte at ≡ t) → (t ≡ tag_boolean → ⊥) → Flat byte at (after (at + 3) none plain (met level at (expr_body byte (expr_tag t) e b level at start long)))
 
       -- an expression that is no boolean
       flat_expr_body : (t : ℕ) → tag_identifier ≤ t → t ≤ tag_macro → Held t
@@ -162,10 +165,13 @@ module _ {byte : ℕ → ℕ} where
     module _ {f : ℕ → ℕ → Read Stmt} (F : (at end : ℕ) → Flat byte at (f at end)) where
       -- what a statement holds
       flat_stmt_body : (x : StmtTag) (level at in₀ n : ℕ) → Flat byte in₀ (stmt_body byte x f e level at in₀ n)
-      flat_stmt_body StmtTag.expr_stmt_tag level at in₀ n = flat_seq (flat_child E at in₀ (in₀ + n)) (λ x at₁. flat_last (Stmt.expr_stmt at x) at₁ (in₀ + n))
+      flat_stmt_body StmtTag.expr_stmt_tag level at in₀ n =
+          flat_seq (flat_child E at in₀ (in₀ + n)) (λ x at₁. flat_last (Stmt.expr_stmt at x) at₁ (in₀ + n))
       flat_stmt_body StmtTag.block_tag level at in₀ n = flat_seq (flat_stmts F n in₀ (in₀ + n)) (λ _ at₁. flat_read at₁)
-      flat_stmt_body StmtTag.let_tag level at in₀ n = flat_seq (flat_child (flat_name 1 (level + 1)) at in₀ (in₀ + n)) (λ x at₁. flat_seq (flat_child E at at₁ (in₀ + n)) (λ v at₂. flat_last (Stmt.let_stmt at x v) at₂ (in₀ + n)))
-      flat_stmt_body StmtTag.return_tag level at in₀ n = flat_seq (flat_child E at in₀ (in₀ + n)) (λ x at₁. flat_last (Stmt.return_stmt at x) at₁ (in₀ + n))
+      flat_stmt_body StmtTag.let_tag level at in₀ n =
+          flat_seq (flat_child (flat_name 1 (level + 1)) at in₀ (in₀ + n)) (λ x at₁. flat_seq (flat_child E at at₁ (in₀ + n)) (λ v at₂. flat_last (Stmt.let_stmt at x v) at₂ (in₀ + n)))
+      flat_stmt_body StmtTag.return_tag level at in₀ n =
+          flat_seq (flat_child E at in₀ (in₀ + n)) (λ x at₁. flat_last (Stmt.return_stmt at x) at₁ (in₀ + n))
 
   -- by the fuel
   mutual
@@ -249,7 +255,8 @@ pub scan_tree : (tree : Bytes) {b : Stmts} {n : ℕ} → read_tree tree ≡ Pars
 unfolding read_tree
 scan_tree tree {b} {n = m} h = go (flat_program (length tree)) (ends_program (byte_at tree) (length tree)) h
   where
-    go : {x : Read Stmts} → Flat (byte_at tree) 0 x → EndsAt (length tree) x → judged x ≡ Parsed.parsed b m → Scan (byte_at tree) (literals x) 0 (length tree)
+    go : {x : Read Stmts} → Flat (byte_at tree) 0 x → EndsAt (length tree) x → judged x ≡ Parsed.parsed b m
+        → Scan (byte_at tree) (literals x) 0 (length tree)
     go (Flat.right {l = l} s) (EndsAt.right e) h = subst (λ n. Scan (byte_at tree) l 0 n) e s
     go (Flat.wrong {d = none}) EndsAt.wrong h = let z : ◌≡◌ {A = ℕ} 0 1 = cc in absurd (omega arith)
     go (Flat.wrong {d = some q}) EndsAt.wrong h = let z : ◌≡◌ {A = ℕ} 0 1 = cc in absurd (omega arith)

@@ -26,7 +26,8 @@ literal_leaf t e = rw e (go (eqb t tag_identifier) (eqb t tag_name) (eqb t tag_o
 -- from an offset to another, field by field; `l` is true of the bytes of literals
 pub data Scan (byte : ℕ → ℕ) (l : ℕ → Bool) : ℕ → ℕ → Type 0 where
   done : (at : ℕ) → Scan byte l at at
-  step : {at n : ℕ} → ((i : ℕ) → at ≤ i → i < own_end byte at → l i ≡ own_literal byte at i) → Scan byte l (own_end byte at) n → Scan byte l at n
+  step : {at n : ℕ} → ((i : ℕ) → at ≤ i → i < own_end byte at → l i ≡ own_literal byte at i) → Scan byte l (own_end byte at) n
+      → Scan byte l at n
 
 -- a field's own bytes are at least three
 pub own-end : (byte : ℕ → ℕ) (at : ℕ) → at + 3 ≤ own_end byte at
@@ -51,7 +52,8 @@ module _ {byte : ℕ → ℕ} where
   scan-append (Scan.step own s) t = Scan.step own (scan-append s t)
 
   -- a field whose own bytes end there
-  scan-field : {l : ℕ → Bool} {at m n : ℕ} → own_end byte at ≡ m → ((i : ℕ) → at ≤ i → i < m → l i ≡ own_literal byte at i) → Scan byte l m n → Scan byte l at n
+  scan-field : {l : ℕ → Bool} {at m n : ℕ} → own_end byte at ≡ m → ((i : ℕ) → at ≤ i → i < m → l i ≡ own_literal byte at i)
+      → Scan byte l m n → Scan byte l at n
   scan-field {l} {at} {n = n} e own s = Scan.step (λ i p q. own i p (omega arith)) (subst (λ m. Scan byte l m n) (sym e) s)
 
 -- a head's bytes are no literal
@@ -77,18 +79,21 @@ pub data Flat {A : Type 0} (byte : ℕ → ℕ) (at : ℕ) : Read A → Type 0 w
 
 module _ {byte : ℕ → ℕ} where
   -- what came before, and then this
-  flat_after : {A : Type 0} {at n : ℕ} {l : ℕ → Bool} (d : Option ℕ) {z : Read A} → Scan byte l at n → Flat byte n z → Flat byte at (after n d l z)
+  flat_after : {A : Type 0} {at n : ℕ} {l : ℕ → Bool} (d : Option ℕ) {z : Read A} → Scan byte l at n → Flat byte n z
+      → Flat byte at (after n d l z)
   flat_after {n = n} {l} d s (Flat.right {l = r} t) =
       Flat.right (scan-append (scan_ext (λ i p q. sym (ap (λ c. pick c (l i) (r i)) (lt-ltb i n q))) s) (scan_ext (λ i p q. sym (ap (λ c. pick c (l i) (r i)) (le-ltb i n p))) t))
   flat_after d s Flat.wrong = Flat.wrong
 
   -- one after the other
-  pub flat_seq : {A B : Type 0} {at : ℕ} {x : Read A} {k : A → ℕ → Read B} → Flat byte at x → ((a : A) (n : ℕ) → Flat byte n (k a n)) → Flat byte at (seq x k)
+  pub flat_seq : {A B : Type 0} {at : ℕ} {x : Read A} {k : A → ℕ → Read B} → Flat byte at x → ((a : A) (n : ℕ) → Flat byte n (k a n))
+      → Flat byte at (seq x k)
   flat_seq (Flat.right {a = a} {n} {d} s) g = flat_after d s (g a n)
   flat_seq Flat.wrong g = Flat.wrong
 
   -- one or the other
-  pub flat_pick : {A : Type 0} {at : ℕ} {x y : Read A} (b : Bool) → (b ≡ true → Flat byte at x) → (b ≡ false → Flat byte at y) → Flat byte at (pick b x y)
+  pub flat_pick : {A : Type 0} {at : ℕ} {x y : Read A} (b : Bool) → (b ≡ true → Flat byte at x) → (b ≡ false → Flat byte at y)
+      → Flat byte at (pick b x y)
   flat_pick {at = at} b f g = chosen (Flat byte at) b f g
 
   -- at its level
@@ -97,7 +102,8 @@ module _ {byte : ℕ → ℕ} where
   flat_met level p Flat.wrong = Flat.wrong
 
   -- a child
-  pub flat_child : {A : Type 0} {f : ℕ → ℕ → Read A} → ((at end : ℕ) → Flat byte at (f at end)) → (parent at end : ℕ) → Flat byte at (child f parent at end)
+  pub flat_child : {A : Type 0} {f : ℕ → ℕ → Read A} → ((at end : ℕ) → Flat byte at (f at end)) → (parent at end : ℕ)
+      → Flat byte at (child f parent at end)
   flat_child F parent at end = flat_pick (eqb at end) (λ _. Flat.wrong) (λ _. F at end)
 
   -- nothing is read
@@ -109,30 +115,37 @@ module _ {byte : ℕ → ℕ} where
   flat_last a at end = flat_pick (eqb at end) (λ _. flat_read at) (λ _. Flat.wrong)
 
   -- fields up to the end
-  pub flat_many : {A B : Type 0} (nil : B) (cons : A → B → B) {f : ℕ → ℕ → Read A} → ((at end : ℕ) → Flat byte at (f at end)) → (fuel at end : ℕ) → Flat byte at (many nil cons f fuel at end)
+  pub flat_many : {A B : Type 0} (nil : B) (cons : A → B → B) {f : ℕ → ℕ → Read A} → ((at end : ℕ) → Flat byte at (f at end))
+      → (fuel at end : ℕ) → Flat byte at (many nil cons f fuel at end)
   flat_many nil cons F zero at end = flat_last nil at end
-  flat_many nil cons F (suc fuel) at end = flat_pick (eqb at end) (λ _. flat_read at) (λ _. flat_seq (F at end) (λ x at₁. flat_seq (flat_many nil cons F fuel at₁ end) (λ xs n. flat_read n)))
+  flat_many nil cons F (suc fuel) at end =
+      flat_pick (eqb at end) (λ _. flat_read at) (λ _. flat_seq (F at end) (λ x at₁. flat_seq (flat_many nil cons F fuel at₁ end) (λ xs n. flat_read n)))
 
   -- a head, and what is read behind it
-  pub flat_head : {B : Type 0} (good : Head → Bool) (at end : ℕ) (f : Head → ℕ → Read B) → (good (head byte at) ≡ true → Flat byte at (after (at + 3) none plain (f (head byte at) (at + 3))))
+  pub flat_head : {B : Type 0} (good : Head → Bool) (at end : ℕ) (f : Head → ℕ → Read B)
+      → (good (head byte at) ≡ true → Flat byte at (after (at + 3) none plain (f (head byte at) (at + 3))))
       → Flat byte at (seq (head_at byte good at end) f)
   flat_head {B} good at end f g = go (both (fits at end (head byte at)) (good (head byte at))) refl
     where
-      go : (b : Bool) → both (fits at end (head byte at)) (good (head byte at)) ≡ b → Flat byte at (seq (pick b (read (head byte at) (at + 3)) (fault at)) f)
+      go : (b : Bool) → both (fits at end (head byte at)) (good (head byte at)) ≡ b
+          → Flat byte at (seq (pick b (read (head byte at) (at + 3)) (fault at)) f)
       go true e = g (both_right (fits at end (head byte at)) _ e)
       go false e = Flat.wrong
 
   -- a field with children
-  pub flat_inside : {A : Type 0} (at level : ℕ) {z : Read A} → is_leaf (byte at) ≡ false → Flat byte (at + 3) z → Flat byte at (after (at + 3) none plain (met level at z))
+  pub flat_inside : {A : Type 0} (at level : ℕ) {z : Read A} → is_leaf (byte at) ≡ false → Flat byte (at + 3) z
+      → Flat byte at (after (at + 3) none plain (met level at z))
   flat_inside at level e (Flat.right {l = l} s) =
       Flat.right (scan-field (pick_false (at + 3 + (head byte at).len) (at + 3) e) (λ i p q. ap (λ c. pick c false (l i)) (lt-ltb i (at + 3) q) ∙ sym (no_literal (byte at) at i q))
       (scan_ext (λ i p q. sym (ap (λ c. pick c false (l i)) (le-ltb i (at + 3) p))) s))
   flat_inside at level e Flat.wrong = Flat.wrong
 
   -- a field without
-  pub flat_leaf : {A : Type 0} (at level n : ℕ) (a : A) (d : Option ℕ) (l : ℕ → Bool) → is_leaf (byte at) ≡ true → ((i : ℕ) → l i ≡ is_literal (byte at)) → n ≡ at + 3 + (head byte at).len
+  pub flat_leaf : {A : Type 0} (at level n : ℕ) (a : A) (d : Option ℕ) (l : ℕ → Bool) → is_leaf (byte at) ≡ true
+      → ((i : ℕ) → l i ≡ is_literal (byte at)) → n ≡ at + 3 + (head byte at).len
       → Flat byte at (after (at + 3) none plain (met level at (Read.ok a n d l)))
-  flat_leaf at level n a d l e k h = Flat.right (scan-field (pick_true (at + 3 + (head byte at).len) (at + 3) e ∙ sym h) (λ i p q. go i (ltb i (at + 3)) refl) (Scan.done n))
+  flat_leaf at level n a d l e k h =
+      Flat.right (scan-field (pick_true (at + 3 + (head byte at).len) (at + 3) e ∙ sym h) (λ i p q. go i (ltb i (at + 3)) refl) (Scan.done n))
     where
       go : (i : ℕ) (b : Bool) → ltb i (at + 3) ≡ b → up_to (at + 3) plain l i ≡ own_literal byte at i
       go i true q = ap (λ c. pick c false (l i)) q ∙ sym (no_literal (byte at) at i (ltb-true i (at + 3) q))

@@ -25,19 +25,24 @@ use Rattle.shape.proofs.Within.{read_small}
 -- zeros from an offset on: before them, among them, behind them
 zeros_before : (k : ℕ) (l : Bytes) (from i : ℕ) → i < from → byte_at (sets l from (replicate k 0)) i ≡ byte_at l i
 zeros_before zero l from i h = refl
-zeros_before (suc k) l from i h = zeros_before k (set l from 0) (suc from) i (omega arith) ∙ get_or-set_other l from i 0 0 (λ e. omega arith)
+zeros_before (suc k) l from i h =
+    zeros_before k (set l from 0) (suc from) i (omega arith) ∙ get_or-set_other l from i 0 0 (λ e. omega arith)
 
 zeros_among : (k : ℕ) (l : Bytes) (from i : ℕ) → from ≤ i → i < from + k → from + k ≤ length l → byte_at (sets l from (replicate k 0)) i ≡ 0
 zeros_among zero l from i h g r = absurd (omega arith)
-zeros_among (suc k) l from i h g r = go (eqb i from) refl (λ p. zeros_among k (set l from 0) (suc from) i p (omega arith) (simp length-set (omega arith)))
+zeros_among (suc k) l from i h g r =
+    go (eqb i from) refl (λ p. zeros_among k (set l from 0) (suc from) i p (omega arith) (simp length-set (omega arith)))
   where
-    go : (b : Bool) → eqb i from ≡ b → (suc from ≤ i → byte_at (sets (set l from 0) (suc from) (replicate k 0)) i ≡ 0) → byte_at (sets (set l from 0) (suc from) (replicate k 0)) i ≡ 0
-    go true e later = let z = eqb-true i from e in ap (byte_at (sets (set l from 0) (suc from) (replicate k 0))) z ∙ zeros_before k (set l from 0) (suc from) from (omega arith) ∙ get_or-set_same l from 0 0 (omega arith)
+    go : (b : Bool) → eqb i from ≡ b → (suc from ≤ i → byte_at (sets (set l from 0) (suc from) (replicate k 0)) i ≡ 0)
+        → byte_at (sets (set l from 0) (suc from) (replicate k 0)) i ≡ 0
+    go true e later =
+        let z = eqb-true i from e in ap (byte_at (sets (set l from 0) (suc from) (replicate k 0))) z ∙ zeros_before k (set l from 0) (suc from) from (omega arith) ∙ get_or-set_same l from 0 0 (omega arith)
     go false e later = let ne = eqb-false i from e in later (omega arith)
 
 zeros_behind : (k : ℕ) (l : Bytes) (from i : ℕ) → from + k ≤ i → byte_at (sets l from (replicate k 0)) i ≡ byte_at l i
 zeros_behind zero l from i h = refl
-zeros_behind (suc k) l from i h = zeros_behind k (set l from 0) (suc from) i (omega arith) ∙ get_or-set_other l from i 0 0 (λ e. omega arith)
+zeros_behind (suc k) l from i h =
+    zeros_behind k (set l from 0) (suc from) i (omega arith) ∙ get_or-set_other l from i 0 0 (λ e. omega arith)
 
 -- at an offset, with the copy so far: the fields behind it are left, and the literals before it are zero
 pub record Turn (tree : Bytes) (at : ℕ) (out : Bytes) : Type 0 where
@@ -128,7 +133,8 @@ module _ {tree out : Bytes} {at : ℕ} (t : Turn tree at out) (h : at < length t
       go true e true f =
           let g : from ≡ at + 3 = q ∙ ap (λ b. pick b (at + 3) end) e in
           let k = leb-true (at + 3) i f in
-          zeros_among (end - from) out from i (omega arith) (omega (arith, low.1)) (omega (arith, low.1, end_room, t.long)) ∙ sym (ap (λ b. pick b 0 (Before i)) (is true true e f))
+          zeros_among (end - from) out from i (omega arith) (omega (arith, low.1)) (omega (arith, low.1, end_room, t.long))
+          ∙ sym (ap (λ b. pick b 0 (Before i)) (is true true e f))
       go true e false f =
           let g : from ≡ at + 3 = q ∙ ap (λ b. pick b (at + 3) end) e in
           let k = leb-false (at + 3) i f in
@@ -147,10 +153,14 @@ module _ {tree out : Bytes} {at : ℕ} (t : Turn tree at out) (h : at < length t
         front = λ i r. ap (λ b. byte_at b i) e ∙ go i r (ltb i at) refl (ltb i end) refl;
       }
     where
-      go : (i : ℕ) → i < length tree → (a : Bool) → ltb i at ≡ a → (b : Bool) → ltb i end ≡ b → byte_at stored i ≡ pick (ltb i end) (After i) (Before i)
-      go i r true x b y = front_before i (ltb-true i at x) ∙ sym (ap (λ b. pick b (After i) (Before i)) (lt-ltb i end (omega (arith, ltb-true i at x, room_end))))
+      go : (i : ℕ) → i < length tree → (a : Bool) → ltb i at ≡ a → (b : Bool) → ltb i end ≡ b
+          → byte_at stored i ≡ pick (ltb i end) (After i) (Before i)
+      go i r true x b y =
+          front_before i (ltb-true i at x)
+          ∙ sym (ap (λ b. pick b (After i) (Before i)) (lt-ltb i end (omega (arith, ltb-true i at x, room_end))))
       go i r false x true y = front_within i (ltb-false i at x) (ltb-true i end y) ∙ sym (ap (λ b. pick b (After i) (Before i)) y)
-      go i r false x false y = front_behind i (ltb-false i end y) ∙ left_at i (ltb-false i at x) r ∙ sym (ap (λ b. pick b (After i) (Before i)) y)
+      go i r false x false y =
+          front_behind i (ltb-false i end y) ∙ left_at i (ltb-false i at x) r ∙ sym (ap (λ b. pick b (After i) (Before i)) y)
 
 -- the byte at an offset among them
 at_bytes : (v : ℕ → ℕ) (a n i : ℕ) → i < n → byte_at (bytes v a n) i ≡ v (a + i)
@@ -160,7 +170,8 @@ at_bytes v a (suc n) (suc i) h = let e : a + 1 + i ≡ a + suc i = omega arith i
 
 shape_at : (tree : Bytes) (i : ℕ) → i < length tree → byte_at (shape tree) i ≡ blanked (lits tree) (byte_at tree) i
 unfolding shape
-shape_at tree i h = let e : 0 + i ≡ i = omega arith in at_bytes (blanked (lits tree) (byte_at tree)) 0 (length tree) i h ∙ ap (blanked (lits tree) (byte_at tree)) e
+shape_at tree i h =
+    let e : 0 + i ≡ i = omega arith in at_bytes (blanked (lits tree) (byte_at tree)) 0 (length tree) i h ∙ ap (blanked (lits tree) (byte_at tree)) e
 
 -- at the end
 turn_ends : {tree out : Bytes} {at : ℕ} → Turn tree at out → length tree ≤ at → out ≡ shape tree
@@ -169,7 +180,8 @@ turn_ends {tree} {out} {at} t h = ext_get_or 0 out (shape tree) (t.long ∙ sym 
     go : (i : ℕ) → i < length out → byte_at out i ≡ byte_at (shape tree) i
     go i r =
         let l : i < length tree = omega (arith, t.long) in
-        t.front i l ∙ ap (λ b. pick b (blanked (lits tree) (byte_at tree) i) (byte_at tree i)) (lt-ltb i at (omega arith)) ∙ sym (shape_at tree i l)
+        t.front i l ∙ ap (λ b. pick b (blanked (lits tree) (byte_at tree) i) (byte_at tree i)) (lt-ltb i at (omega arith))
+        ∙ sym (shape_at tree i l)
 
 -- going over the heads of a tree, with the copy so far
 pub record Going (tree : Bytes) (s : Heads) (out : Bytes) : Type 0 where
@@ -177,7 +189,8 @@ pub record Going (tree : Bytes) (s : Heads) (out : Bytes) : Type 0 where
   pub turn : Turn tree s.at out
 
 -- where the loop begins
-pub going_begins : {tree : Bytes} {s n : Heads} → s ≡ n → n.tree.now ≡ tree → n.at ≡ 0 → IsRead tree → (out : Bytes) → out ≡ tree → Going tree s out
+pub going_begins : {tree : Bytes} {s n : Heads} → s ≡ n → n.tree.now ≡ tree → n.at ≡ 0 → IsRead tree → (out : Bytes) → out ≡ tree
+    → Going tree s out
 going_begins {tree} {s} e p q r out o =
     record {
       over = ap (λ (s : Heads). s.tree.now) e ∙ p;
@@ -217,7 +230,8 @@ module _ {tree out : Bytes} {s t : Heads} {at : ℕ} (g : Going tree s out) (n :
     pub going_room : {k : ℕ} → k ≡ after tree at → (at + 3 ≤ k) × (k ≤ length out)
     going_room p = (omega arith, omega (arith, passed, turn-field here going_before, here.long))
 
-    pub going_zeroed : {k : ℕ} (out' : Bytes) → k ≡ after tree at → out' ≡ sets out (at + 3) (replicate (k - (at + 3)) 0) → Going tree t out'
+    pub going_zeroed : {k : ℕ} (out' : Bytes) → k ≡ after tree at → out' ≡ sets out (at + 3) (replicate (k - (at + 3)) 0)
+        → Going tree t out'
     going_zeroed {k} out' p q =
         let m = own_end (byte_at tree) at in
         goes (turn_again here going_before m (at + 3) refl (sym (pick_true (at + 3) m e)) out' (q ∙ ap (λ k. sets out (at + 3) (replicate (k - (at + 3)) 0)) (p ∙ sym passed)))
@@ -227,5 +241,6 @@ pub going_ends : {tree out : Bytes} {s : Heads} → Going tree s out → Ended s
 going_ends {tree} {out} {s} g e = turn_ends g.turn (go (ltb s.at (length tree)) refl)
   where
     go : (b : Bool) → ltb s.at (length tree) ≡ b → length tree ≤ s.at
-    go true p = let l = ltb-true s.at (length tree) p in absurd (omega (arith, turn-field g.turn l, own-end (byte_at tree) s.at, e.short, ap length g.over))
+    go true p =
+        let l = ltb-true s.at (length tree) p in absurd (omega (arith, turn-field g.turn l, own-end (byte_at tree) s.at, e.short, ap length g.over))
     go false p = ltb-false s.at (length tree) p

@@ -29,6 +29,9 @@ shape_numbers = tree_numbers ++ numbers_of (output_short ∷ [])
 pub shape_within : (tree : Bytes) (room : ℕ) → Within tree_limit shape_numbers tree_limit (answer_of (read_tree tree) tree room)
 shape_within tree room = go (read-places tree tree_limit (λ h. h)) refl
   where
-    go : {o : Parsed Stmts} → PlacedParsed tree_limit o → read_tree tree ≡ o → Within tree_limit shape_numbers tree_limit (answer_of o tree room)
-    go (PlacedParsed.parsed p) e = chosen (Within tree_limit shape_numbers tree_limit) (leb (length (shape tree)) room) (λ _. Within.wrote (omega (arith, length-shape tree, read_small tree e))) (λ _. nowhere tt)
-    go (PlacedParsed.refused n p h k) e = Within.refused {r = refusal n p} (record { number = among tree_numbers shape_numbers tt (number_of n) h; place = k })
+    go : {o : Parsed Stmts} → PlacedParsed tree_limit o → read_tree tree ≡ o
+        → Within tree_limit shape_numbers tree_limit (answer_of o tree room)
+    go (PlacedParsed.parsed p) e =
+        chosen (Within tree_limit shape_numbers tree_limit) (leb (length (shape tree)) room) (λ _. Within.wrote (omega (arith, length-shape tree, read_small tree e))) (λ _. nowhere tt)
+    go (PlacedParsed.refused n p h k) e =
+        Within.refused {r = refusal n p} (record { number = among tree_numbers shape_numbers tt (number_of n) h; place = k })

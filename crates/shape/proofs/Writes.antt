@@ -38,7 +38,8 @@ module _ {tree : Bytes} (g : IsRead tree) (out : Bytes) where
   pub does_short : length out < length tree → Does tree out (Err (refusal output_short 0)) out
   does_short h = let d = refusing (shape tree) out (length tree) (length-shape tree) h in rw g.reads d
 
-  pub does_write : length tree ≤ length out → (front : Bytes) → front ≡ shape tree → Does tree out (Ok (length tree)) (front ++ drop (length tree) out)
+  pub does_write : length tree ≤ length out → (front : Bytes) → front ≡ shape tree
+      → Does tree out (Ok (length tree)) (front ++ drop (length tree) out)
   does_write h front e =
       let d = placing (shape tree) out (length tree) (length-shape tree) h in
       rw g.reads (d.0, (λ i. e i ++ drop (sym (length-shape tree) i) out) ∙ d.1)
