@@ -1,5 +1,6 @@
 /*
- * alike: scripts in groups of one shape. The shape of a tree is the library's (monkey_write_shape), and two scripts are in one group where their shapes are equal.
+ * alike: scripts in groups of one shape. The shape of a tree is the library's (monkey_write_shape), and two scripts are in one group where
+ * their shapes are equal.
  */
 #include <stdio.h>
 #include <stdlib.h>
@@ -133,7 +134,8 @@ static void say_departure(const struct comparison *c, const struct group *group)
     struct message here = message_of(one), there = message_of(other);
     char head[64];
     if (c->arguments->tree) {
-        fprintf(stderr, "%s: departs from %s at offset %zu of the tree\n", shown_path(one->script->path), shown_path(other->script->path), field_that_differs(one, other));
+        fprintf(stderr, "%s: departs from %s at offset %zu of the tree\n", shown_path(one->script->path), shown_path(other->script->path),
+                field_that_differs(one, other));
         return;
     }
     find_departure(&here, one, &there, other);
@@ -167,7 +169,8 @@ static void print_lengths(const struct comparison *c, const struct group *group)
 static void print_groups(const struct comparison *c) {
     for (size_t k = 0; k < c->count; k++) {
         const struct group *group = &c->groups[k];
-        printf("%zu %s: ", group->count, group->count == 1 ? "script" : c->count == 1 ? "scripts, alike" : "scripts, alike among themselves");
+        const char *many = c->count == 1 ? "scripts, alike" : "scripts, alike among themselves";
+        printf("%zu %s: ", group->count, group->count == 1 ? "script" : many);
         print_lengths(c, group);
         putchar('\n');
         for (size_t j = 0; c->count > 1 && j < c->arguments->count; j++) {

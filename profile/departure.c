@@ -1,6 +1,7 @@
 /*
- * Where a script departs from another whose tree has another shape, and why, in words. The shapes are the library's; where they part is found here: the fields of both
- * are read side by side up to the first that differs, and from the mark in the text before it the first token that differs is searched.
+ * Where a script departs from another whose tree has another shape, and why, in words. The shapes are the library's; where they part is
+ * found here: the fields of both are read side by side up to the first that differs, and from the mark in the text before it the first
+ * token that differs is searched.
  */
 #include <stdio.h>
 #include <string.h>
@@ -59,7 +60,7 @@ static struct reading begin_reading(const struct shaped *s) {
     return r;
 }
 
-/* Goes on in both to the first field that differs, or to an end; how many marks of the texts belong to the fields before it. */
+/* Goes on in both to the first field that differs, or to an end; how many marks of the texts belong to those before it. */
 static size_t find_field(struct reading *one, struct reading *other) {
     size_t marks = 0;
     int own_name = 0;
@@ -73,7 +74,7 @@ static size_t find_field(struct reading *one, struct reading *other) {
     return marks;
 }
 
-/* The offset of the first field of a tree that differs from one of another shape; the tree's length, if all in it are those of the other. */
+/* The offset of the first field of a tree that differs from another's; the tree's length, if all in it are those of the other. */
 size_t field_that_differs(const struct shaped *here, const struct shaped *there) {
     struct reading one = begin_reading(here), other = begin_reading(there);
     find_field(&one, &other);
@@ -129,7 +130,10 @@ static int are_alike(const struct row *one, const struct row *other) {
     if (kind != there || kind == MONKEY_TOKEN_INTEGER) {
         return kind == there;
     }
-    return kind == MONKEY_TOKEN_STRING ? token_length(one, one->at) == token_length(other, other->at) : same_token(one, one->at, other, other->at);
+    if (kind == MONKEY_TOKEN_STRING) {
+        return token_length(one, one->at) == token_length(other, other->at);
+    }
+    return same_token(one, one->at, other, other->at);
 }
 
 /* Goes on in both to the first tokens that are not alike; whether there are any. */
@@ -175,7 +179,8 @@ static int is_defined_later(const struct row *r, size_t at, const struct row *ot
 /* Says what is behind a `let` of one script that the other does not have. */
 static void explain_let(char *reason, size_t room, const char *what, const struct row *r, size_t at) {
     char name[128];
-    snprintf(reason, room, "%s let %s: each preset keeps every let, and what is not used is switched off by a value", what, token_text(name, sizeof name, r, at));
+    snprintf(reason, room, "%s let %s: each preset keeps every let, and what is not used is switched off by a value", what,
+             token_text(name, sizeof name, r, at));
 }
 
 /* A `let` that one of the two does not have; whether it is that. */
@@ -198,17 +203,22 @@ static int is_let(char *reason, size_t room, const struct row *one, const struct
     return 0;
 }
 
+/* Whether a minus and an integer are looked at. */
+static int is_signed(const struct row *r) {
+    return kind_at(r, 0) == MONKEY_TOKEN_MINUS && kind_at(r, 1) == MONKEY_TOKEN_INTEGER;
+}
+
 /* A number with a minus in one of the two; whether it is that. */
 static int is_minus(char *reason, size_t room, const struct row *one, const struct row *other) {
-    int here = kind_at(one, 0) == MONKEY_TOKEN_MINUS && kind_at(one, 1) == MONKEY_TOKEN_INTEGER && kind_at(other, 0) == MONKEY_TOKEN_INTEGER;
-    int there = kind_at(other, 0) == MONKEY_TOKEN_MINUS && kind_at(other, 1) == MONKEY_TOKEN_INTEGER && kind_at(one, 0) == MONKEY_TOKEN_INTEGER;
+    int here = is_signed(one) && kind_at(other, 0) == MONKEY_TOKEN_INTEGER;
+    int there = is_signed(other) && kind_at(one, 0) == MONKEY_TOKEN_INTEGER;
     if (!here && !there) {
         return 0;
     }
     const struct row *signed_row = here ? one : other;
     int length = (int)token_length(signed_row, signed_row->at + 1);
-    snprintf(reason, room, "-%.*s is an operator and an integer, where %s has an integer alone: give all of them the minus, or none", length > 40 ? 40 : length,
-             (const char *)token_bytes(signed_row, signed_row->at + 1), here ? "the other" : "this");
+    snprintf(reason, room, "-%.*s is an operator and an integer, where %s has an integer alone: give all of them the minus, or none",
+             length > 40 ? 40 : length, (const char *)token_bytes(signed_row, signed_row->at + 1), here ? "the other" : "this");
     return 1;
 }
 
@@ -220,8 +230,8 @@ static void explain(char *reason, size_t room, const struct row *one, const stru
         return;
     }
     if (kind == MONKEY_TOKEN_STRING && kind_at(other, 0) == kind) {
-        snprintf(reason, room, "a string of %zu bytes, where the other has one of %zu: pad strings to one length", token_length(one, one->at) - 2,
-                 token_length(other, other->at) - 2);
+        snprintf(reason, room, "a string of %zu bytes, where the other has one of %zu: pad strings to one length",
+                 token_length(one, one->at) - 2, token_length(other, other->at) - 2);
         return;
     }
     token_text(here, sizeof here, one, one->at);
@@ -233,7 +243,7 @@ static void explain(char *reason, size_t room, const struct row *one, const stru
     }
 }
 
-/* Finds where a script departs from another, both texts of different shapes, and why: `m` gets the place and the reason, `other` its place. */
+/* Finds where a script departs from another of a different shape, and why: `m` gets the place and the reason, `other` its place. */
 void find_departure(struct message *m, const struct shaped *here, struct message *other, const struct shaped *there) {
     static struct row one, two;
     struct reading left = begin_reading(here), right = begin_reading(there);

@@ -1,7 +1,7 @@
 #!/usr/bin/env python3
-"""Asks `profile alike` of random pairs of scripts, and compares with a reading of its own: the shape of a script's tree, from document 01 and docs/GRAMMAR.md alone.
-Most pairs differ in one token. Of two that are not alike the command must name the first token that differs; the images of two that are
-alike must have one length, and be equal outside the literals' places, and so must their frames.
+"""Asks `profile alike` of random pairs of scripts, and compares with a reading of its own: the shape of a script's tree, from document 01
+and docs/GRAMMAR.md alone. Most pairs differ in one token. Of two that are not alike the command must name the first token that
+differs; the images of two that are alike must have one length, and be equal outside the literals' places, and so must their frames.
 
 usage: check_alike.py PROGRAM [PAIRS [SEED]]
 """
@@ -198,7 +198,8 @@ class Writer:
         self.draw, self.names, self.open = draw, ["len", "puts", "first"], 0
 
     def literal(self):
-        return self.draw.choice([str(self.draw.randrange(200)), "true", "false", '"' + "ab"[self.draw.randrange(2)] * self.draw.randrange(4) + '"'])
+        string = '"' + self.draw.choice("ab") * self.draw.randrange(4) + '"'
+        return self.draw.choice([str(self.draw.randrange(200)), "true", "false", string])
 
     def items(self, between=","):
         row = []
@@ -304,7 +305,8 @@ def check_pair(program, folder, texts, counts):
     if None in shapes:
         counts["no script"] += 1
         refused = [name for name, one in zip("ab", shapes) if one is None]
-        return said.returncode != 1 or len(groups) > 1 or any(not re.search(rf"^{name}:\d+:\d+: error\[", said.stderr, re.M) for name in refused)
+        told = [name for name in refused if re.search(rf"^{name}:\d+:\d+: error\[", said.stderr, re.M)]
+        return said.returncode != 1 or len(groups) > 1 or told != refused
     if shapes[0] == shapes[1]:
         counts["alike"] += 1
         if len(groups) != 1 or not groups[0].startswith("2 scripts, alike: ") or ": departs" in said.stderr:
