@@ -3,6 +3,7 @@
 expected.
 
 usage: reports.py [--kinds] MODE REPORTS.xml EXPECTED    --kinds: not their numbers
+       reports.py --lines MODE REPORTS.xml               prints the reports as lines of EXPECTED
 A line of EXPECTED: mode, number, branch or address, function. Prints what differs; the status is then 1.
 """
 import collections
@@ -32,8 +33,12 @@ def expected(path, mode):
 
 
 def main():
-    words = [word for word in sys.argv[1:] if word != "--kinds"]
+    words = [word for word in sys.argv[1:] if not word.startswith("--")]
     kinds = found(words[1])
+    if "--lines" in sys.argv:
+        for (what, function), number in sorted(kinds.items()):
+            print(words[0], number, what, function)
+        return 0
     wanted = expected(words[2], words[0])
     status = 0
     for kind in sorted(kinds | wanted):
