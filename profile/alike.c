@@ -151,6 +151,55 @@ static void say_departures(const struct comparison *c) {
     }
 }
 
+/* Writes where the first script of a group departs from the first of the largest, and why. */
+static void put_departure(const struct comparison *c, const struct group *group) {
+    const struct shaped *one = &c->scripts[group->first], *other = &c->scripts[c->groups[0].first];
+    struct message here = message_of(one), there = message_of(other);
+    begin_part("departs");
+    put_word("from", other->script->path);
+    if (c->arguments->tree) {
+        put_number("offset", (long long)field_that_differs(one, other));
+    } else {
+        find_departure(&here, one, &there, other);
+        put_place(&here, here.place, here.reason);
+        begin_part("note");
+        put_place(&there, there.place, NULL);
+        end_item();
+    }
+    end_item();
+}
+
+/* Prints a script as an object: its group, its lengths, and of the first of a smaller group where it departs. */
+static void put_script(const struct comparison *c, size_t index) {
+    const struct shaped *s = &c->scripts[index];
+    begin_object(stdout, s->script->path);
+    put_number("group", s->group);
+    if (s->script->image == NULL) {
+        put_literal("bytes", "null");
+    } else {
+        put_number("bytes", (long long)s->script->image_length);
+    }
+    if (s->script->image != NULL && c->frame_size > 0) {
+        uint64_t answer = monkey_count_frames(s->script->image, s->script->image_length, c->frame_size);
+        put_number("whole", monkey_whole(answer));
+        put_number("rest", monkey_rest(answer));
+    }
+    if (s->group > 0 && c->groups[s->group].first == index) {
+        put_departure(c, &c->groups[s->group]);
+    }
+    end_object();
+}
+
+/* Prints each script that has a shape as an object. */
+static int put_scripts(const struct comparison *c) {
+    for (size_t k = 0; k < c->arguments->count; k++) {
+        if (c->scripts[k].group != NO_GROUP) {
+            put_script(c, k);
+        }
+    }
+    return finish_stdout();
+}
+
 /* Prints the length of a group's images, and their frames where they are asked for. */
 static void print_lengths(const struct comparison *c, const struct group *group) {
     const struct script *script = c->scripts[group->first].script;
@@ -190,8 +239,12 @@ static int status_of(const struct comparison *c) {
 int judge_alike(const struct arguments *a, const struct script *scripts) {
     struct comparison c = {.arguments = a};
     int status = find_groups(&c, scripts, a->count);
-    if (status == DONE) {
+    if (status == DONE && status_of(&c) != DONE && is_json()) {
+        status = put_scripts(&c);
+    } else if (status == DONE) {
         say_departures(&c);
+    }
+    if (status == DONE) {
         status = status_of(&c);
     }
     if (status == REFUSED) {
@@ -205,12 +258,16 @@ int judge_alike(const struct arguments *a, const struct script *scripts) {
 static int compare(const struct arguments *a, const struct script *scripts, size_t frame_size) {
     struct comparison c = {.arguments = a, .frame_size = frame_size};
     int status = find_groups(&c, scripts, a->count);
-    if (status == DONE) {
+    if (status == DONE && is_json()) {
+        status = put_scripts(&c);
+    } else if (status == DONE) {
         print_groups(&c);
         status = finish_stdout();
+        if (status == DONE) {
+            say_departures(&c);
+        }
     }
     if (status == DONE) {
-        say_departures(&c);
         status = status_of(&c);
     }
     free_comparison(&c, a->count);

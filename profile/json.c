@@ -66,6 +66,13 @@ void end_item(void) {
     comma = 1;
 }
 
+/* Begins an object by its key. */
+void begin_part(const char *key) {
+    put_key(key);
+    comma = 0;
+    begin_item();
+}
+
 /* Begins an object about a file, which is named as on the command line. */
 void begin_object(FILE *stream, const char *path) {
     to = stream;
@@ -160,6 +167,19 @@ static void put_line(const struct message *m, size_t place) {
     put_text("text", m->text + begin, end - begin);
 }
 
+/* Writes a place of a text: line, column, offset; a reason, where there is one, and the line. */
+void put_place(const struct message *m, size_t place, const char *reason) {
+    unsigned line, column;
+    position_of(m->text, m->length, place, &line, &column);
+    put_number("line", line);
+    put_number("column", column);
+    put_number("offset", (long long)place);
+    if (reason != NULL) {
+        put_word("reason", reason);
+    }
+    put_line(m, place);
+}
+
 /* Prints a refusal at a place of a text, with its line, and the note on it. */
 int print_message(const struct message *m, unsigned number) {
     unsigned line, column;
@@ -167,15 +187,8 @@ int print_message(const struct message *m, unsigned number) {
     begin_refusal(m->path, line, column, (long long)m->place, number, m->reason);
     put_line(m, m->place);
     if (m->note != NULL) {
-        position_of(m->text, m->length, m->noted, &line, &column);
-        put_key("note");
-        comma = 0;
-        begin_item();
-        put_number("line", line);
-        put_number("column", column);
-        put_number("offset", (long long)m->noted);
-        put_word("reason", m->note);
-        put_line(m, m->noted);
+        begin_part("note");
+        put_place(m, m->noted, m->note);
         end_item();
     }
     return end_refusal();

@@ -119,6 +119,8 @@ void begin_list(const char *key);
 void end_list(void);
 void begin_item(void);
 void end_item(void);
+void begin_part(const char *key);
+void put_place(const struct message *m, size_t place, const char *reason);
 void put_text(const char *key, const uint8_t *bytes, size_t length);
 void put_word(const char *key, const char *word);
 void put_number(const char *key, long long number);
