@@ -6,7 +6,7 @@ local program=${~words[1]} word=$words[CURRENT] before=$words[CURRENT-1]
 if (( CURRENT == 2 )); then
     offered=(-h:help --help:help -V:version --version:version)
     _describe -o option offered
-elif [[ $word == -* && $before != (-o|--output|--session|--words|--frames|--script) && ${words[2,CURRENT-1][(I)--]} == 0 ]]; then
+elif [[ $word == -* && $before != (-o|--output|--session|--words|--script|--frames) && ${words[2,CURRENT-1][(I)--]} == 0 ]]; then
     offered=("${(@f)$($program help $words[2] 2>/dev/null | sed -n 's/^  \(\(-[a-z]\), \)\{0,1\}\(--[a-z-]*\) .*  \(..*\)$/\2:\4\
 \3:\4/p' | sed '/^:/d')}")
     _describe -o option offered

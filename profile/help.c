@@ -68,7 +68,7 @@ static const struct {
      "  --words WORD,..     a fresh session has these built-in words alone ('': none)\n"
      "  --json              a refusal as an object in JSON on standard output\n"},
     {"alike",
-     "profile alike SCRIPT.. [--frames SIZE] [--tree] [--words WORD,WORD..]\n"
+     "profile alike SCRIPT.. [--frames SIZE] [--tree] [--words WORD,..] [--json]\n"
      "\n"
      "Puts scripts that differ in values alone, so in integers, in true and false, and in\n"
      "the bytes of strings of one length, into one group, and says of each group how long\n"
@@ -78,7 +78,8 @@ static const struct {
      "\n"
      "  --frames SIZE       the frames of SIZE bytes, 16 to 1024, of each image too\n"
      "  --tree              the scripts are trees in bytes, not texts\n"
-     "  --words WORD,..     sessions with these built-in words alone ('': none)\n"},
+     "  --words WORD,..     sessions with these built-in words alone ('': none)\n"
+     "  --json              groups and refusals as an object in JSON each\n"},
     {"names",
      "profile names SCRIPT [--tree] [--session FILE] [--words WORD,WORD..] [--json]\n"
      "\n"

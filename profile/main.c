@@ -17,8 +17,8 @@ struct command {
 static int run_help(const struct arguments *a);
 
 static const struct command commands[] = {
-    {"compile", run_compile, 1, (size_t)-1, "oswtgajn"},
-    {"alike", run_alike, 1, (size_t)-1, "wtf"},
+    {"compile", run_compile, 1, (size_t)-1, "oswtgjna"},
+    {"alike", run_alike, 1, (size_t)-1, "wtfj"},
     {"names", run_names, 1, 1, "swtj"},
     {"list", run_list, 1, (size_t)-1, "oj"},
     {"check", run_check, 1, (size_t)-1, "j"},
@@ -123,14 +123,14 @@ static void set_flag(struct arguments *a, char letter) {
     case 'g':
         a->together = 1;
         break;
-    case 'a':
-        a->alike = 1;
-        break;
     case 'j':
         a->json = 1;
         break;
     case 'n':
         a->no_wait = 1;
+        break;
+    case 'a':
+        a->alike = 1;
         break;
     default:
         a->quiet = 1;

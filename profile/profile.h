@@ -188,7 +188,7 @@ size_t place_in_text(struct walk *w, size_t offset);
 /* names.c */
 void print_records(const struct arguments *a, const char *path, struct walk *w, struct monkey_name *names, size_t count);
 
-/* images.c; the image is the one that was read last */
+/* images.c: the image that was read last */
 int read_number(const char *word, unsigned long long limit, unsigned long long *number);
 int read_image(const char *path, const uint8_t **bytes, size_t *length);
 int refuse_image(const char *path, uint64_t answer);
