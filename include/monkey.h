@@ -61,7 +61,7 @@ enum monkey_refusal {
     MONKEY_CAPTURES = 10,        /* the 256th free symbol of a function; place: the Identifier */
     MONKEY_GLOBALS = 11,         /* the session's 1,025th definition; place: the Let */
     MONKEY_POOL = 12,            /* a constant would pass 4,096 constants or 28,672 bytes; place: its expression */
-    MONKEY_CODE = 13,            /* open code would pass 32,768 bytes; place: the expression or statement; beside 22 no tree reaches it */
+    MONKEY_CODE = 13,            /* open code would pass 32,768 bytes; place: the expression or statement; never met, as is proved (no_tree_is_13) */
     MONKEY_NESTING = 14,         /* the 17th open function; place: the Function */
     MONKEY_OUTPUT_SHORT = 15,    /* the result is longer than the output */
     MONKEY_BAD_INSTRUCTION = 16, /* an unknown byte or missing operands; none of these functions answers it */

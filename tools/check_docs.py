@@ -118,11 +118,11 @@ def main():
         name = str(path.relative_to(ROOT))
         for number, line, code, row in prose(path):
             at = f"{name}:{number}"
-            if len(line) > WIDTH and not code and not row:
+            if len(line) > WIDTH and not code and not row and not line.startswith("!["):
                 said.append(f"{at}: {len(line)} characters")
             if path.name in PAST:
                 continue
-            said += [f"{at}: there is no {target}" for kind, target in paths_named(line) if not there(path, kind, target)]
+            said += [] if code else [f"{at}: there is no {target}" for kind, target in paths_named(line) if not there(path, kind, target)]
             if not code:
                 said += [f"{at}: `{word}` stands in no source" for word in names(line) if word not in known]
                 for what, count in counted.items():
