@@ -4,6 +4,7 @@
 - Links and pictures lead to files of the repository, and so do paths that are named (docs/C.md, tools/program, crates/capi).
 - A name between backticks stands in a source: a definition, theorem, function, edit, crate, option or file.
 - A row of docs/THEOREMS.md names a theorem that its file declares.
+- Entries of docs/DECISIONS.md have numbers, none of them twice, and what cites one finds it; each edit that must fail is named there.
 - Figures that can be counted: crates, edits that must fail, numbers of refusals, bytes of README.md.
 - No line is longer than 120 characters, but for rows of tables, code and what a program wrote.
 
@@ -112,6 +113,22 @@ def check_theorems(said):
                     said.append(f"docs/THEOREMS.md:{number}: {' and '.join(places)} declares no {name}")
 
 
+def check_decisions(said):
+    """Entries have numbers, by which other pages cite them, and the tables of wrong programs name every edit."""
+    text, numbers = (ROOT / "docs" / "DECISIONS.md").read_text(), []
+    for at, line in enumerate(text.split("\n"), 1):
+        entry = re.match(r"- (?:(D\d+) )?\*\*", line)
+        if entry and (not entry.group(1) or entry.group(1) in numbers):
+            said.append(f"docs/DECISIONS.md:{at}: an entry {'twice ' + entry.group(1) if entry.group(1) else 'without a number'}")
+        numbers += [entry.group(1)] if entry else []
+    for path in pages():
+        for at, line in enumerate(path.read_text().split("\n"), 1):
+            cited = [] if path.name in PAST else re.findall(r"\bD\d+\b", line)
+            said += [f"{path.relative_to(ROOT)}:{at}: there is no entry {n}" for n in cited if n not in numbers]
+    words_ = set(re.findall(r"\w+", text))
+    said += [f"docs/DECISIONS.md: {path.stem} is named nowhere" for path in sorted(ROOT.glob("crates/*/must-fail/*.edit")) if path.stem not in words_]
+
+
 def main():
     known, said, counted = words(), [], figures()
     for path in pages():
@@ -130,6 +147,7 @@ def main():
     if (ROOT / "README.md").stat().st_size > README_BYTES:
         said.append(f"README.md: more than {README_BYTES} bytes")
     check_theorems(said)
+    check_decisions(said)
     print("\n".join(said + [f"docs: {len(said)} false"]))
     sys.exit(bool(said))
 
