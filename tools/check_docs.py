@@ -5,11 +5,13 @@
 - A name between backticks stands in a source: a definition, theorem, function, edit, crate, option or file.
 - A row of docs/THEOREMS.md names a theorem that its file declares.
 - Entries of docs/DECISIONS.md have numbers, none of them twice, and what cites one finds it; each edit that must fail is named there.
+- docs/CRATES.md has a row for each crate, in the order of crates.txt.
 - Figures that can be counted: crates, edits that must fail, numbers of refusals, bytes of README.md.
 - No line is longer than 120 characters, but for rows of tables, code and what a program wrote.
 
 Pages that tell of the past (PAST) may name what is gone.
 """
+import itertools
 import pathlib
 import re
 import sys
@@ -113,6 +115,14 @@ def check_theorems(said):
                     said.append(f"docs/THEOREMS.md:{number}: {' and '.join(places)} declares no {name}")
 
 
+def check_crates(said):
+    """The rows of docs/CRATES.md are the crates, in the order of crates.txt."""
+    listed = re.findall(r"(?m)^(\w+)(?: staticlib)?:", (ROOT / "crates.txt").read_text())
+    rows = re.findall(r"(?m)^\| `(\w+)` \|", (ROOT / "docs" / "CRATES.md").read_text())
+    differ = next((pair for pair in itertools.zip_longest(rows, listed) if pair[0] != pair[1]), None)
+    said += [f"docs/CRATES.md: a row for {differ[0]}, where crates.txt has {differ[1]}"] if differ else []
+
+
 def check_decisions(said):
     """Entries have numbers, by which other pages cite them, and the tables of wrong programs name every edit."""
     text, numbers = (ROOT / "docs" / "DECISIONS.md").read_text(), []
@@ -148,6 +158,7 @@ def main():
         said.append(f"README.md: more than {README_BYTES} bytes")
     check_theorems(said)
     check_decisions(said)
+    check_crates(said)
     print("\n".join(said + [f"docs: {len(said)} false"]))
     sys.exit(bool(said))
 
