@@ -1,9 +1,10 @@
 #!/usr/bin/env python3
-"""Which functions between the crates ask something of their caller: tools/asking.py writes their names into docs/DECISIONS.md; with --check it compares.
+"""Which functions between the crates ask something of their caller: tools/asking.py writes their names into docs/DECISIONS.md; with --check
+it compares.
 
 A function is listed if it is public, another crate can reach it (its module is public, or its type or name is handed on by `pub use`), and
-it has a `requires`. Brackets stand around those whose names stand in no source of a crate that uses theirs. What they ask, and what their promise leaves free,
-is kept by hand: the last two columns stay as they are, and a crate that is new gets empty ones, which --check refuses.
+it has a `requires`. Brackets stand around those whose names stand in no source of a crate that uses theirs. What they ask, and what their
+promise leaves free, is kept by hand: the last two columns stay as they are, and a crate that is new gets empty ones, which --check refuses.
 """
 import pathlib
 import re
@@ -29,7 +30,7 @@ def reached(crate):
 
 
 def functions(path):
-    """The public functions of a file: for each its type, none outside an impl, its name, and whether it asks. A type of the file is public."""
+    """The public functions of a file, but those of its private types: for each its type if it has one, its name, and whether it asks."""
     owner, found = None, []
     text = path.read_text()
     lines, closed = text.split("\n"), set(re.findall(r"(?m)^(?:struct|enum) (\w+)", text))

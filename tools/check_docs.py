@@ -1,5 +1,6 @@
 #!/usr/bin/env python3
-"""Checks what can be checked of README.md, CONTRIBUTING.md and docs/: tools/check_docs.py prints each false sentence with its line, and ends with 1 if there is one.
+"""Checks what can be checked of README.md, CONTRIBUTING.md and docs/: tools/check_docs.py prints each false sentence with its line, and ends
+with 1 if there is one.
 
 - Links and pictures lead to files of the repository, and so do paths that are named (docs/C.md, tools/program, crates/capi).
 - A name between backticks stands in a source: a definition, theorem, function, edit, crate, option or file.
@@ -82,8 +83,18 @@ def there(path, kind, target):
 
 
 def names(line):
-    """Names between backticks: one word of letters, digits, _, - and '."""
-    return [word for word in re.findall(r"`([^`]+)`", line) if re.fullmatch(r"[A-Za-z_][\w'-]*", word) and word not in OUTSIDE]
+    """Names between backticks: words of letters, digits, _, - and ', alone or joined by ::."""
+    spans = [word for word in re.findall(r"`([^`]+)`", line) if re.fullmatch(r"[A-Za-z_][\w'-]*(?:::[A-Za-z_][\w'-]*)*", word)]
+    return [word for span in spans for word in span.split("::") if word not in OUTSIDE]
+
+
+def homeless(line):
+    """Names joined by :: whose first is a crate, or a module of one, and whose last no source of it has."""
+    for span in re.findall(r"`(\w+(?:::\w+)+)`", line):
+        first, last = span.split("::")[0], span.split("::")[-1]
+        homes = list(ROOT.glob(f"crates/{first}/src/*.rt")) + list(ROOT.glob(f"crates/*/src/{first}.rt"))
+        if homes and not any(re.search(r"\b%s\b" % last, path.stem + " " + path.read_text()) for path in homes):
+            yield span
 
 
 def figures():
@@ -135,8 +146,9 @@ def check_decisions(said):
         for at, line in enumerate(path.read_text().split("\n"), 1):
             cited = [] if path.name in PAST else re.findall(r"\bD\d+\b", line)
             said += [f"{path.relative_to(ROOT)}:{at}: there is no entry {n}" for n in cited if n not in numbers]
-    words_ = set(re.findall(r"\w+", text))
-    said += [f"docs/DECISIONS.md: {path.stem} is named nowhere" for path in sorted(ROOT.glob("crates/*/must-fail/*.edit")) if path.stem not in words_]
+    named = set(re.findall(r"\w+", text))
+    edits = sorted(path.stem for path in ROOT.glob("crates/*/must-fail/*.edit"))
+    said += [f"docs/DECISIONS.md: {edit} is named nowhere" for edit in edits if edit not in named]
 
 
 def main():
@@ -152,6 +164,7 @@ def main():
             said += [] if code else [f"{at}: there is no {target}" for kind, target in paths_named(line) if not there(path, kind, target)]
             if not code:
                 said += [f"{at}: `{word}` stands in no source" for word in names(line) if word not in known]
+                said += [f"{at}: `{span}` stands in no source of its crate" for span in homeless(line)]
                 for what, count in counted.items():
                     said += [f"{at}: {n} {what}, there are {count}" for n in re.findall(r"\b(?:all|the) (\d+) %s\b" % what, line) if int(n) != count]
     if (ROOT / "README.md").stat().st_size > README_BYTES:
