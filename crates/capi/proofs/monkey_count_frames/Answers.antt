@@ -7,12 +7,12 @@ use Rattle.exported.proofs.Mapped.{said_fits, said_packs}
 use Rattle.capi.proofs.monkey_count_frames.Goals as goal
 
 pub pair-answer-requires : goal.pair-answer-requires
-pair-answer-requires c = said_fits (counts (are_bytes c.shared_slice_known-1.given) _ (λ x y p. search rules) c.count_frames-counted.ensures c.map.ensures.cases)
+pair-answer-requires c = said_fits (counts (are_bytes c.shared_slice_known-1.given) _ (λ x y p. search rules) c.count_frames-counted.ensures.answer c.map.ensures.cases)
 
 pub pack-requires : goal.pack-requires
-pack-requires c = fits_as c.pair-answer.ensures (said_fits (counts (are_bytes c.shared_slice_known-1.given) _ (λ x y p. search rules) c.count_frames-counted.ensures c.map.ensures.cases))
+pack-requires c = fits_as c.pair-answer.ensures (said_fits (counts (are_bytes c.shared_slice_known-1.given) _ (λ x y p. search rules) c.count_frames-counted.ensures.answer c.map.ensures.cases))
 
 pub returns : goal.returns
 returns c =
     let s = are_bytes c.shared_slice_known-1.given in
-    packs_counts s _ (said_packs (counts s _ (λ x y p. search rules) c.count_frames-counted.ensures c.map.ensures.cases) c.pair-answer.ensures c.pack.ensures)
+    packs_counts s _ (said_packs (counts s _ (λ x y p. search rules) c.count_frames-counted.ensures.answer c.map.ensures.cases) c.pair-answer.ensures c.pack.ensures)

@@ -7,7 +7,7 @@ use Rattle.exported.proofs.Framed.{refusal-fits}
 use Rattle.capi.proofs.monkey_frame_refusal.Goals as goal
 
 pub pack-requires : goal.pack-requires
-pack-requires c = fits_as (c.refusal_answer-answer.ensures ∙ ap refusal_answer c.frame_refusal.ensures) (refusal-fits _ (are_bytes c.shared_slice_known-1.given) _ _)
+pack-requires c = fits_as (c.refusal_answer-answer.ensures ∙ ap refusal_answer c.frame_refusal.ensures.answer) (refusal-fits _ (are_bytes c.shared_slice_known-1.given) _ _)
 
 pub returns : goal.returns
-returns c = record { answer = packs_as (c.refusal_answer-answer.ensures ∙ ap refusal_answer c.frame_refusal.ensures) c.pack.ensures }
+returns c = record { answer = packs_as (c.refusal_answer-answer.ensures ∙ ap refusal_answer c.frame_refusal.ensures.answer) c.pack.ensures }
