@@ -1,30 +1,36 @@
--- In condition 3's two series, of plain calls and calls with records, the chin forms of both images of every step are equally long and
--- agree at all but the literals' places.
+-- In condition 3's two series, of plain calls and calls with records, `to_chin` answers alike on both images of every step, and what it
+-- writes agrees at all but the literals' places.
 use Prim.Native.Nat.{ℕ}
 use native.Mathlib.Omega.{arith}
+use mathlib.Core.Bool.{Bool, true, false}
 use mathlib.Core.List.{List, map}
-use mathlib.Core.Path.{◌≡◌, sym, ap, subst, subst₂, ◌∙◌}
+use mathlib.Core.Path.{◌≡◌, refl, sym, ap, subst, subst₂, ◌∙◌}
+use lib.Dec.{leb}
 use lib.ListN.{length, take}
-use Rattle.std.specs.Prelude.{Ok}
-use Rattle.definition.specs.Basic.{Bytes}
+use lib.Seq.{take-append_seam}
+use Rattle.std.specs.Prelude.{Ok, Err}
+use Rattle.definition.specs.Basic.{Bytes, pick}
+use Rattle.definition.specs.Number.{refusal, output_short}
 use Rattle.definition.specs.Bytecode.{image_bytes}
 use Rattle.definition.specs.Session.{Words, word_list, field_count, Session, begun}
 use Rattle.definition.specs.Compile.{Outcome, Step, Request, compile}
 use Rattle.definition.specs.Call.{Called}
-use Rattle.definition.specs.Literal.{image_mask}
-use Rattle.definition.specs.Series.{Call, Start, calls, AllAlike, shaped, shapes}
+use Rattle.definition.specs.Literal.{Mask, image_mask}
+use Rattle.definition.specs.Output.{over}
+use Rattle.definition.specs.Series.{Call, Start, calls, AllAlike, shaped, shapes, Agree}
 use Rattle.definition.specs.Valid.{ValidSession}
 use Rattle.definition.proofs.Series.{Holds, Gave, begun_like, start_holds}
-use Rattle.definition.proofs.Agreement.{image-length}
+use Rattle.definition.proofs.Basic.{pick_true}
+use Rattle.definition.proofs.Agreement.{agree-length, image-length}
 use Rattle.definition.proofs.Steps.{compile-valid, OutcomeLike, SessionLike, like_itself}
 use Rattle.records.specs.Records.{Traced}
 use Rattle.records.specs.Call.{Turn, turn, turns, AllAlikeTurns, shaped_turn, shaped_turns_from, shaped_turns}
 use Rattle.records.proofs.Logged.{Agrees, compile_agrees}
 use Rattle.records.proofs.LoggedAlike.{TracedLike}
 use Rattle.records.proofs.Turns.{call_of, asked, traced_turn, TurnIs, turn_does, StepOf, turn_step, turn_like, turns_same, turn_long, held_size}
-use Rattle.chin.specs.Chin.{to_chin}
+use Rattle.chin.specs.Chin.{Given, to_chin, answer_of, output_of}
 use Rattle.chin.proofs.Agreement.{SameGiven, ChinAnswers, Valid, outcomes-alike}
-use Rattle.promises.specs.Alike.{ChinAlike, ChinStepwise}
+use Rattle.promises.specs.Alike.{ChinAgree, ChinAlike, ChinStepwise}
 use Rattle.promises.proofs.Plain.{called_in, steps_in, plain-turns, plain-shapes, plain-alike}
 
 -- a turn's step has a valid image and session
@@ -56,12 +62,46 @@ shaped_sound : (z : Session) → ValidSession z → (t : Turn) → Sound (shaped
 shaped_sound z v (Turn.plain c) = compile_sound z v (shaped c)
 shaped_sound z v (Turn.with_records c rs) = agreed v (compile_agrees (length rs) z (shaped c)) (compile_sound z v (shaped c))
 
+-- two answers with equally much room are one
+same_answers : {m : Mask} {g h : Given} → SameGiven m g h → {n k : ℕ} → n ≡ k → answer_of g n ≡ answer_of h k
+same_answers (SameGiven.agreeing k) e = let l = agree-length k in λ i. pick (leb (l i) (e i)) (Ok (l i)) (Err (refusal output_short 0))
+same_answers (SameGiven.refusing r) e = refl
+
+-- and what is written agrees
+front : {m : Mask} {g h : Given} → SameGiven m g h → (o p : Bytes) {o' p' : Bytes} {n : ℕ} → length o ≡ length p → answer_of g (length o) ≡ Ok n
+    → o' ≡ output_of g o → p' ≡ output_of h p → Agree m (take n o') (take n p')
+front {m} (SameGiven.agreeing {b} {c} k) o p {o'} {p'} {n} e t f g = go (leb (length b) (length o)) refl
+  where
+    len : length b ≡ length c
+    len = agree-length k
+
+    go : (x : Bool) → leb (length b) (length o) ≡ x → Agree m (take n o') (take n p')
+    go true l =
+        let z : Ok (length b) ≡ Ok n = sym (ap (λ x. pick x (Ok (length b)) (Err (refusal output_short 0))) l) ∙ t in
+        let v : n ≡ length b = cc in
+        let l' : leb (length c) (length p) ≡ true = (λ i. leb (sym len i) (sym e i)) ∙ l in
+        let left : take n o' ≡ b = (λ i. take (v i) (f i)) ∙ ap (take (length b)) (pick_true (over b o) o l) ∙ take-append_seam b _ in
+        let right : take n p' ≡ c = (λ i. take ((v ∙ len) i) (g i)) ∙ ap (take (length c)) (pick_true (over c p) p l') ∙ take-append_seam c _ in
+        subst₂ (Agree m) (sym left) (sym right) k
+    go false l =
+        let q : Err (refusal output_short 0) ≡ Ok n = sym (ap (λ x. pick x (Ok (length b)) (Err (refusal output_short 0))) l) ∙ t in
+        let z : ◌≡◌ {A = ℕ} 0 1 = cc in absurd (omega arith)
+front (SameGiven.refusing r) o p e t f g = let z : ◌≡◌ {A = ℕ} 0 1 = cc in absurd (omega arith)
+
+-- calls that keep the promise of `to_chin` answer alike
+chin_agree : {m : Mask} {a b : Bytes} → SameGiven m (to_chin a) (to_chin b) → ChinAgree m a b
+chin_agree s =
+    record {
+      answers = λ t u e. t.answer ∙ same_answers s e ∙ sym u.answer;
+      bytes = λ {o} {p} t u e r. front s o p e (sym t.answer ∙ r) t.output u.output;
+    }
+
 -- what two outcomes give in the chin form is what their calls left
 alike : {o q p : Outcome} {x y : Called} → OutcomeLike o p → OutcomeLike q p → Gave o x → Gave q y → ChinAnswers p o q → ChinAlike p x y
 alike (OutcomeLike.accepted {x = a} {y = m} r) (OutcomeLike.accepted {x = b} k) (Gave.accepted {x = x} e t _) (Gave.accepted {x = y} f u _) (ChinAnswers.images h) =
     let l : length (image_bytes b) ≡ length (image_bytes a) = image-length k ∙ sym (image-length r) in
     ChinAlike.accepted {n = length (image_bytes a)} e (subst (λ n. y.answer ≡ n) (λ i. Ok (l i)) f)
-    (subst₂ (λ c d. SameGiven (image_mask m) (to_chin c) (to_chin d)) (sym t) (sym u ∙ ap (λ n. take n y.lent.output) l) h)
+    (chin_agree (subst₂ (λ c d. SameGiven (image_mask m) (to_chin c) (to_chin d)) (sym t) (sym u ∙ ap (λ n. take n y.lent.output) l) h))
 alike (OutcomeLike.refused r) (OutcomeLike.refused _) (Gave.refused e) (Gave.refused f) h = ChinAlike.refused e f
 
 -- from sessions that differ in literals alone

@@ -2,7 +2,7 @@
 -- any size and any frame number.
 use Prim.Native.Nat.{ℕ}
 use mathlib.Core.List.{List, map}
-use mathlib.Core.Path.{◌≡◌, sym, ap, ◌∙◌}
+use mathlib.Core.Path.{◌≡◌, refl, sym, ap, ◌∙◌}
 use lib.ListN.{take}
 use Rattle.definition.specs.Basic.{Bytes}
 use Rattle.definition.specs.Limit.{session_size}
@@ -10,13 +10,11 @@ use Rattle.definition.specs.Session.{Words, word_list}
 use Rattle.definition.specs.Call.{Called}
 use Rattle.definition.specs.Series.{Call, AllAlike}
 use Rattle.definition.specs.Answer.{Answer}
-use Rattle.frames.specs.Frames.{placed}
-use Rattle.frames.specs.Together.{SameFrames, FramesAlike}
 use Rattle.compiler.proofs.Conditions.{made-start}
 use Rattle.exported.specs.Packed.{packed, Packs, MadeByPacked, RanPacked}
 use Rattle.exported.specs.Framed.{count_answer, place_answer, refusal_answer}
 use Rattle.exported.proofs.Conditions.{made-unpacked, ran-unpacked}
-use Rattle.promises.specs.Alike.{Stepwise}
+use Rattle.promises.specs.Alike.{Stepwise, FramesAgree, FramesAnswered}
 use Rattle.promises.specs.Mixed.{AnyCall, AnyDone, called_of, AllAlikeAny}
 use Rattle.promises.specs.Monkey.{RanMixedPacked, SameFramesPacked, FramesPacked}
 use Rattle.promises.proofs.SeriesFrames.{compile_frames, any_frames}
@@ -26,23 +24,23 @@ use Rattle.promises.proofs.MonkeyMixed.{packed_done}
 pub one_number : {a b : Answer} {r q : ℕ} → a ≡ b → Packs a r → Packs b q → r ≡ q
 one_number e p s = p.whole ∙ ap packed e ∙ sym s.whole
 
--- of two images whose frames look alike
-same_packed : {a b : Bytes} → SameFrames a b → SameFramesPacked a b
-same_packed s =
+-- of two images on which the functions on frames answer alike
+same_packed : {a b : Bytes} → FramesAgree a b → SameFramesPacked a b
+same_packed {a} {b} s =
     record {
-      counts = λ {size} p q. one_number (ap count_answer (s.counts size)) p.answer q.answer;
-      places = λ {size} {k} p q. one_number (ap (λ c. place_answer (placed c size k)) (s.counts size)) p.answer q.answer;
-      refusals = λ {size} {k} p q. one_number (ap refusal_answer (s.refusals size k)) p.answer q.answer;
+      counts = λ {size} p q. one_number (ap count_answer (s.counts {size = size} (record { answer = refl }) (record { answer = refl }))) p.answer q.answer;
+      places = λ {size} {k} p q. one_number (ap place_answer (s.places {size = size} {k = k} (record { answer = refl }) (record { answer = refl }))) p.answer q.answer;
+      refusals = λ {size} {k} p q. one_number (ap refusal_answer (s.refusals {size = size} {k = k} (record { answer = refl }) (record { answer = refl }))) p.answer q.answer;
     }
 
 -- at every step
-each-packed : {xs ys : List Called} → Stepwise FramesAlike xs ys → Stepwise FramesPacked xs ys
+each-packed : {xs ys : List Called} → Stepwise FramesAnswered xs ys → Stepwise FramesPacked xs ys
 each-packed Stepwise.done = Stepwise.done
 each-packed (Stepwise.step h rest) = Stepwise.step (one h) (each-packed rest)
   where
-    one : {x y : Called} → FramesAlike x y → FramesPacked x y
-    one (FramesAlike.accepted a b s) = FramesPacked.accepted a b (same_packed s)
-    one (FramesAlike.refused a b) = FramesPacked.refused a b
+    one : {x y : Called} → FramesAnswered x y → FramesPacked x y
+    one (FramesAnswered.accepted a b s) = FramesPacked.accepted a b (same_packed s)
+    one (FramesAnswered.refused a b) = FramesPacked.refused a b
 
 -- of calls of `monkey_compile`
 pub monkey_frames : {a b : Bytes} {u v : Words} → MadeByPacked a u → MadeByPacked b v → word_list u ≡ word_list v → (cs ds : List Call)

@@ -19,6 +19,8 @@ use Rattle.bytecode.specs.declared.Form.TheVariants.{Plain, Chin}
 use Rattle.chin.specs.Chin.{to_chin, from_chin}
 use Rattle.definition.specs.Number
 use Rattle.trial.specs.Cells.{work_size}
+use Rattle.trial.specs.Call.{run_outcome, outcome_answer}
+use Rattle.trial.specs.Promise.{Runs}
 use Rattle.trial.specs.declared.Ran.{Ran}
 use Rattle.exported.specs.Packed.{high, low, of_halves, Packs}
 use Rattle.exported.specs.Named.{names_answer, NamesPacked}
@@ -33,6 +35,7 @@ use Rattle.promises.proofs.Number25.{number_25}
 use Rattle.promises.proofs.Number25Run.{number_25_run}
 use Rattle.promises.proofs.Number26.{number_26, number_26_back}
 use Rattle.promises.proofs.Number27.{number_27}
+use Rattle.promises.proofs.MonkeyChin.{turns_of}
 
 -- it packs that refusal
 pub refused_halves : {a : Answer} {r : ℕ} (n : Reason) (p : ℕ) → Packs a r → Refuses r n p ↔ (a ≡ Err (refusal n p))
@@ -62,17 +65,17 @@ monkey_number_18 {tree} {l} {xs =
 -- 25
 pub monkey_number_25 : {b : Bytes} {hs o o' : List ℕ} {r : ℕ} → ChecksPacked b hs o r o' → (p : ℕ)
     → Refuses r bad_heights p ↔ FailsAt b hs p
-monkey_number_25 {b} {hs} {o} k p = both_ways (refused_halves bad_heights p k.answer) (number_25 b hs (length o) p refl)
+monkey_number_25 k p = both_ways (refused_halves bad_heights p k.answer) (number_25 (record { answer = refl; output = k.output }) p)
 
 -- 26
 pub monkey_number_26 : {b o o' : Bytes} {r : ℕ} → TurnsPacked (to_chin b) o r o' → (p : ℕ)
     → Refuses r bad_jump p ↔ FirstJump Plain Backwards b p
-monkey_number_26 {b} {o} k p = both_ways (refused_halves bad_jump p k.answer) (number_26 b (length o) p refl)
+monkey_number_26 k p = both_ways (refused_halves bad_jump p k.answer) (number_26 (turns_of k) p)
 
 -- and back
 pub monkey_number_26_back : {b o o' : Bytes} {r : ℕ} → TurnsPacked (from_chin b) o r o' → (p : ℕ)
     → Refuses r bad_jump p ↔ FirstJump Chin TooFar b p
-monkey_number_26_back {b} {o} k p = both_ways (refused_halves bad_jump p k.answer) (number_26_back b (length o) p refl)
+monkey_number_26_back k p = both_ways (refused_halves bad_jump p k.answer) (number_26_back (turns_of k) p)
 
 -- an answer of the run
 ran-refused : {a : Result Ran Refusal} (q : Refusal) → (ran_answer a ≡ Err q) ↔ (a ≡ Err q)
@@ -82,14 +85,19 @@ ran-refused {a} q = (λ e. go a e, λ e. ap ran_answer e)
     go (Ok x) e = let z : ◌≡◌ {A = ℕ} 0 1 = cc in absurd (omega arith)
     go (Err r) e = let z : r ≡ q = cc in ap Err z
 
+-- the promise of `run` that an exported run keeps
+runs_of : {b : Bytes} {hs w w' : List ℕ} {o o' : Bytes} {r : ℕ} → RunsPacked b hs w o r w' o'
+    → Runs b hs w o (outcome_answer (run_outcome b hs (length w) (length o))) w' o'
+runs_of k = record { answer = refl; work = k.work; output = k.output }
+
 -- 27
 pub monkey_number_27 : {b : Bytes} {hs w w' : List ℕ} {o o' : Bytes} {r : ℕ} → RunsPacked b hs w o r w' o' → (p : ℕ)
     → Refuses r Number.not_runnable p ↔ FirstNotRun b hs (length w) p
-monkey_number_27 {b} {hs} {w} {o = o} k p =
-    both_ways (both_ways (refused_halves Number.not_runnable p k.answer) (ran-refused (refusal Number.not_runnable p))) (number_27 b hs (length w) (length o) p refl)
+monkey_number_27 k p =
+    both_ways (both_ways (refused_halves Number.not_runnable p k.answer) (ran-refused (refusal Number.not_runnable p))) (number_27 (runs_of k) p)
 
 -- and 25 there
 pub monkey_number_25_run : {b : Bytes} {hs w w' : List ℕ} {o o' : Bytes} {r : ℕ} → RunsPacked b hs w o r w' o' → (p : ℕ)
     → Refuses r bad_heights p ↔ ((work_size ≤ length w) × FailsAt b hs p)
-monkey_number_25_run {b} {hs} {w} {o = o} k p =
-    both_ways (both_ways (refused_halves bad_heights p k.answer) (ran-refused (refusal bad_heights p))) (number_25_run b hs (length w) (length o) p refl)
+monkey_number_25_run k p =
+    both_ways (both_ways (refused_halves bad_heights p k.answer) (ran-refused (refusal bad_heights p))) (number_25_run (runs_of k) p)

@@ -18,6 +18,7 @@ use Rattle.definition.specs.declared.reason.Refusal.{Refusal}
 use Rattle.definition.specs.Answer.{Answer}
 use Rattle.heights.specs.Judgement.{AllPass, FirstFailing}
 use Rattle.heights.specs.Pass.{Verdict, verdict_answer, heights_answer}
+use Rattle.heights.specs.Promise.{Checks}
 use Rattle.heights.proofs.Verdicts.{Right, judged_right}
 use Rattle.promises.specs.Refusals.{FailsAt}
 
@@ -66,9 +67,15 @@ module _ (b : Bytes) (hs : List ℕ) (room p : ℕ) where
   refused f (Right.tops a t) = absurd (none_failing a f)
   refused f (Right.fails g) = ap (λ k. Err (refusal bad_heights k)) (failing_once g f)
 
-  -- Number 25, of any call that keeps the promise of `check_heights`
-  pub number_25 : {r : Answer} → r ≡ heights_answer (read_image b) hs room → (r ≡ Err (refusal bad_heights p)) ↔ FailsAt b hs p
-  number_25 k = (
-    λ e. found (read_image b) refl (sym k ∙ e),
-    λ f. k ∙ ap (λ d. heights_answer d hs room) f.reads ∙ refused f.failing (judged_right hs f.image f.image.pool),
+  -- of the answer
+  answered : (heights_answer (read_image b) hs room ≡ Err (refusal bad_heights p)) ↔ FailsAt b hs p
+  answered = (
+    λ e. found (read_image b) refl e,
+    λ f. ap (λ d. heights_answer d hs room) f.reads ∙ refused f.failing (judged_right hs f.image f.image.pool),
   )
+
+-- Number 25, of any call that keeps the promise of `check_heights`
+pub number_25 : {b : Bytes} {hs o o' : List ℕ} {r : Answer} → Checks b hs o r o' → (p : ℕ)
+    → (r ≡ Err (refusal bad_heights p)) ↔ FailsAt b hs p
+number_25 {b} {hs} {o} k p =
+    let e = answered b hs (length o) p in (λ i. e.0 (sym k.answer ∙ i), λ f. k.answer ∙ e.1 f)

@@ -7,6 +7,7 @@ use mathlib.Core.List.{List}
 use mathlib.Core.Logic.{◌↔◌}
 use mathlib.Core.Path.{◌≡◌, refl, sym, ap, subst, ◌∙◌}
 use lib.Dec.{leb, ltb}
+use lib.ListN.{length}
 use borrow.Author.Tests.{ltb-false}
 use Rattle.std.specs.Prelude.{Option, None as none, Some as some, Result, Err}
 use Rattle.definition.specs.Basic.{Bytes, pick}
@@ -22,6 +23,7 @@ use Rattle.trial.specs.Run.{Trial, trial}
 use Rattle.trial.specs.Output.{named_globals}
 use Rattle.trial.specs.Cells.{work_size}
 use Rattle.trial.specs.Call.{refused_with, Outcome, trial_outcome, taken_outcome, judged_outcome, image_outcome, run_outcome, outcome_answer}
+use Rattle.trial.specs.Promise.{Runs}
 use Rattle.trial.specs.declared.Ran.{Ran}
 use Rattle.trial.proofs.Calling.{main_safe, work_long}
 use Rattle.promises.specs.Refusals.{FailsAt}
@@ -85,12 +87,16 @@ module _ (b : Bytes) (hs : List ℕ) (work room p : ℕ) where
   fails f (Right.tops a t) = absurd (none_failing a f)
   fails f (Right.fails g) = ap (λ k. Outcome.refused (refusal bad_heights k)) (failing_once g f)
 
-  -- Number 25, of any call that keeps the promise of `run`
-  pub number_25_run : {r : Result Ran Refusal} → r ≡ outcome_answer (run_outcome b hs work room)
-      → (r ≡ Err (refusal bad_heights p)) ↔ ((work_size ≤ work) × FailsAt b hs p)
-  number_25_run h = (
-    λ i. go_work (ltb work work_size) refl (sym h ∙ i),
-    λ k. h
-        ∙ ap outcome_answer
+  -- of the answer
+  answered : Is25 (run_outcome b hs work room) ↔ ((work_size ≤ work) × FailsAt b hs p)
+  answered = (
+    λ i. go_work (ltb work work_size) refl i,
+    λ k. ap outcome_answer
         (work_long b hs work room k.0 ∙ ap (λ d. image_outcome d hs room) k.1.reads ∙ fails k.1.failing (judged_right hs k.1.image k.1.image.pool)),
   )
+
+-- Number 25, of any call that keeps the promise of `run`
+pub number_25_run : {b : Bytes} {hs w w' : List ℕ} {o o' : Bytes} {r : Result Ran Refusal} → Runs b hs w o r w' o' → (p : ℕ)
+    → (r ≡ Err (refusal bad_heights p)) ↔ ((work_size ≤ length w) × FailsAt b hs p)
+number_25_run {b} {hs} {w} {o = o} k p =
+    let e = answered b hs (length w) (length o) p in (λ i. e.0 (sym k.answer ∙ i), λ f. k.answer ∙ e.1 f)

@@ -25,6 +25,7 @@ use Rattle.bytecode.specs.declared.Form.TheVariants.{Plain, Chin}
 use Rattle.bytecode.specs.Form.{image_in, read_form}
 use Rattle.chin.specs.Turn.{jumps, Jump, distance, target, Made, made, stopped, turn_image}
 use Rattle.chin.specs.Chin.{wrote, turn, translate, to_chin, from_chin, answer_of}
+use Rattle.chin.specs.Promise.{Turns}
 use Rattle.chin.specs.Refusals.{Passing, FirstBad, PassingConst, FirstBadConst, Judged}
 use Rattle.chin.proofs.Refusals.{no_distance, no_target, judges}
 use Rattle.definition.proofs.Reached.{stands_within}
@@ -179,20 +180,26 @@ module _ (jump : Jump) (Wrong : ℕ → ℕ → Type 0) (lacks : (end a : ℕ) �
     found (malformed k) e q =
         let z : refusal bad_image k ≡ refusal bad_jump p = cc in let y = ap (λ (r : Refusal). number_of r.reason) z in absurd (omega arith)
 
-    -- of a translation from one form into the other
-    refused_26 : {r : Answer} → r ≡ answer_of (translate form to jump b) room → (r ≡ Err (refusal bad_jump p)) ↔ FirstJump form Wrong b p
+    -- of the answer
+    answered : (answer_of (translate form to jump b) room ≡ Err (refusal bad_jump p)) ↔ FirstJump form Wrong b p
     unfolding translate
-    refused_26 k = (
-      λ e. found (read_form form b) refl (sym k ∙ e),
-      λ f. k ∙ ap (λ d. answer_of (turn to jump d) room) f.reads ∙ ap (λ r. answer_of (wrote to r) room) (stops_there (record { here = f.here; first = f.first }) (judges jump f.image)),
+    answered = (
+      λ e. found (read_form form b) refl e,
+      λ f. ap (λ d. answer_of (turn to jump d) room) f.reads ∙ ap (λ r. answer_of (wrote to r) room) (stops_there (record { here = f.here; first = f.first }) (judges jump f.image)),
     )
 
+  -- of a translation from one form into the other
+  refused_26 : (form to : Form) {b o o' : Bytes} {r : Answer} → Turns (translate form to jump b) o r o' → (p : ℕ)
+      → (r ≡ Err (refusal bad_jump p)) ↔ FirstJump form Wrong b p
+  refused_26 form to {b} {o} k p =
+      let e = answered form to b (length o) p in (λ i. e.0 (sym k.answer ∙ i), λ f. k.answer ∙ e.1 f)
+
 -- Number 26, of any call that keeps the promise of `to_chin`
-pub number_26 : (b : Bytes) (room p : ℕ) {r : Answer} → r ≡ answer_of (to_chin b) room
+pub number_26 : {b o o' : Bytes} {r : Answer} → Turns (to_chin b) o r o' → (p : ℕ)
     → (r ≡ Err (refusal bad_jump p)) ↔ FirstJump Plain Backwards b p
-number_26 b room p k = refused_26 distance Backwards no_distance Plain Chin b room p k
+number_26 k p = refused_26 distance Backwards no_distance Plain Chin k p
 
 -- and of `from_chin`
-pub number_26_back : (b : Bytes) (room p : ℕ) {r : Answer} → r ≡ answer_of (from_chin b) room
+pub number_26_back : {b o o' : Bytes} {r : Answer} → Turns (from_chin b) o r o' → (p : ℕ)
     → (r ≡ Err (refusal bad_jump p)) ↔ FirstJump Chin TooFar b p
-number_26_back b room p k = refused_26 target TooFar no_target Chin Plain b room p k
+number_26_back k p = refused_26 target TooFar no_target Chin Plain k p

@@ -7,6 +7,7 @@ use mathlib.Core.List.{List, [], ◌∷◌}
 use mathlib.Core.Logic.{◌↔◌}
 use mathlib.Core.Path.{◌≡◌, refl, sym, ap, subst, ◌∙◌}
 use lib.Dec.{leb, ltb}
+use lib.ListN.{length}
 use borrow.Author.Tests.{leb-false, lt-leb, le-ltb, ltb-false}
 use Rattle.std.specs.Prelude.{Option, None as none, Some as some, Result, Err}
 use Rattle.definition.specs.Basic.{Bytes, pick, both}
@@ -30,6 +31,7 @@ use Rattle.trial.specs.declared.cells.Value.{Value}
 use Rattle.trial.specs.Output.{named_globals}
 use Rattle.trial.specs.Cells.{work_size, stack_limit}
 use Rattle.trial.specs.Call.{taken, first_refused, refused_with, Outcome, trial_outcome, taken_outcome, judged_outcome, image_outcome, run_outcome, outcome_answer}
+use Rattle.trial.specs.Promise.{Runs}
 use Rattle.trial.specs.declared.Ran.{Ran}
 use Rattle.trial.proofs.Scanning.{refused_more, refused_none, all_taken}
 use Rattle.trial.proofs.Calling.{arrived, main_safe, work_long}
@@ -273,7 +275,12 @@ module _ (b : Bytes) (hs : List ℕ) (work room p : ℕ) where
       (work_long b hs work room k.long ∙ ap (λ d. image_outcome d hs room) k.reads ∙ ap (λ v. judged_outcome v hs m room) j.1 ∙ ap (λ o. taken_outcome o m room) r)
       ∙ ap (λ p. Err (refusal Number.not_runnable p)) (sym k.place)
 
-  -- Number 27, of any call that keeps the promise of `run`
-  pub number_27 : {r : Result Ran Refusal} → r ≡ outcome_answer (run_outcome b hs work room)
-      → (r ≡ Err (refusal Number.not_runnable p)) ↔ FirstNotRun b hs work p
-  number_27 h = (λ i. go_work (ltb work work_size) refl (sym h ∙ i), λ k. h ∙ is_27 k)
+  -- of the answer
+  answered : Is27 (run_outcome b hs work room) ↔ FirstNotRun b hs work p
+  answered = (λ i. go_work (ltb work work_size) refl i, is_27)
+
+-- Number 27, of any call that keeps the promise of `run`
+pub number_27 : {b : Bytes} {hs w w' : List ℕ} {o o' : Bytes} {r : Result Ran Refusal} → Runs b hs w o r w' o' → (p : ℕ)
+    → (r ≡ Err (refusal Number.not_runnable p)) ↔ FirstNotRun b hs (length w) p
+number_27 {b} {hs} {w} {o = o} k p =
+    let e = answered b hs (length w) (length o) p in (λ i. e.0 (sym k.answer ∙ i), λ f. k.answer ∙ e.1 f)
