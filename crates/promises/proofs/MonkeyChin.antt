@@ -4,7 +4,6 @@ use Prim.Native.Nat.{ℕ}
 use mathlib.Core.List.{List, map}
 use mathlib.Core.Path.{◌≡◌, refl}
 use lib.ListN.{length, take}
-use Rattle.std.specs.Prelude.{Ok}
 use Rattle.definition.specs.Basic.{Bytes}
 use Rattle.definition.specs.Limit.{session_size}
 use Rattle.definition.specs.Session.{Words, word_list}

@@ -36,6 +36,7 @@ use Rattle.promises.proofs.Number25Run.{number_25_run}
 use Rattle.promises.proofs.Number26.{number_26, number_26_back}
 use Rattle.promises.proofs.Number27.{number_27}
 use Rattle.promises.proofs.MonkeyChin.{turns_of}
+use Rattle.promises.proofs.MonkeyHeights.{checks_of}
 
 -- it packs that refusal
 pub refused_halves : {a : Answer} {r : ℕ} (n : Reason) (p : ℕ) → Packs a r → Refuses r n p ↔ (a ≡ Err (refusal n p))
@@ -65,7 +66,7 @@ monkey_number_18 {tree} {l} {xs =
 -- 25
 pub monkey_number_25 : {b : Bytes} {hs o o' : List ℕ} {r : ℕ} → ChecksPacked b hs o r o' → (p : ℕ)
     → Refuses r bad_heights p ↔ FailsAt b hs p
-monkey_number_25 k p = both_ways (refused_halves bad_heights p k.answer) (number_25 (record { answer = refl; output = k.output }) p)
+monkey_number_25 k p = both_ways (refused_halves bad_heights p k.answer) (number_25 (checks_of k) p)
 
 -- 26
 pub monkey_number_26 : {b o o' : Bytes} {r : ℕ} → TurnsPacked (to_chin b) o r o' → (p : ℕ)

@@ -1,4 +1,5 @@
 pub mod Alike
+pub mod Heights
 pub mod Mixed
 pub mod Ended
 pub mod Evaluated

@@ -13,7 +13,7 @@ use Rattle.definition.specs.Tree.{read_tree}
 use Rattle.definition.specs.declared.reason.Refusal.{Refusal}
 use Rattle.definition.specs.declared.reason.Reason.{Reason}
 use Rattle.chin.specs.Chin.{to_chin}
-use Rattle.heights.specs.Judgement.{Tops, Offers}
+use Rattle.heights.specs.Judgement.{Tops, Offers, Are32Bit}
 use Rattle.trial.specs.Value.{Globals}
 use Rattle.trial.specs.Evaluate.{End, tree_end}
 use Rattle.trial.specs.Output.{shown}
@@ -74,11 +74,11 @@ pub record ChecksWell (b : Bytes) (m : Image) (hs : List ℕ) : Type 0 where
   pub answer : {o o' : List ℕ} {r : ℕ} → ChecksPacked b hs o r o' → unpacked r ≡ output_answer tops (length o)
   pub output : {o o' : List ℕ} {r : ℕ} → ChecksPacked b hs o r o' → o' ≡ output_after tops o
 
--- of an image: some list offers each reached instruction its height, and with every such list the check answers so
+-- of an image: some list of 32-bit numbers offers each reached instruction its height, and with every such list the check answers so
 pub record ImagePasses (b : Bytes) : Type 0 where
   pub image : Image
   pub reads : read_image b ≡ decoded image (length b)
-  pub offers : (hs : List ℕ) × Offers hs image
+  pub offers : (hs : List ℕ) × Offers hs image × Are32Bit hs
   pub passes : (hs : List ℕ) → Offers hs image → ChecksWell b image hs
 
 -- of the image of a call, if it was accepted
