@@ -116,7 +116,8 @@ any_ends g {a} h c {x} k n e hs work room =
 -- heights, work area and output, is refused with none of 1, 17, 25, 27 and 15
 pub compile_evaluates : {a : Bytes} {w : Words} → MadeBy a w → (c : AnyCall) {x : AnyDone} → Kept (take session_size a) c x → (n : ℕ)
     → (called_of x).answer ≡ Ok n
-    → (hs work : List ℕ) (o : Bytes) {r : Result Ran Refusal} {work' : List ℕ} {o' : Bytes} → Runs (take n (called_of x).lent.output) hs work o r work' o' → NotUpTo15 r → EvaluatedAs (call_of c).tree o r o'
+    → (hs work : List ℕ) (o : Bytes) {r : Result Ran Refusal} {work' : List ℕ} {o' : Bytes}
+    → Runs (take n (called_of x).lent.output) hs work o r work' o' → NotUpTo15 r → EvaluatedAs (call_of c).tree o r o'
 compile_evaluates m c k n e hs work o p later =
     let t = any_ends kept_done (made-start m) c k n e hs (length work) (length o) (later_outcome _ p.answer later) in
     shows (call_of c).tree o t.count t.run t.is t.evaluates p.answer p.output
