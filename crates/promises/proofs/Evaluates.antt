@@ -28,7 +28,7 @@ use Rattle.trial.specs.Evaluate.{tree_end, trial_end}
 use Rattle.trial.specs.Output.{named_globals}
 use Rattle.trial.specs.Run.{Trial, trial}
 use Rattle.trial.specs.Call.{Outcome, trial_outcome, run_outcome, outcome_answer, outcome_into}
-use Rattle.trial.specs.Promise.{Runs}
+use Rattle.trial.specs.Promise.{TrialRuns}
 use Rattle.trial.specs.declared.Ran.{Ran}
 use Rattle.definition.specs.declared.reason.Refusal.{Refusal}
 use Rattle.trial.proofs.Evaluates.{all_runnable}
@@ -117,7 +117,7 @@ any_ends g {a} h c {x} k n e hs work room =
 pub compile_evaluates : {a : Bytes} {w : Words} → MadeBy a w → (c : AnyCall) {x : AnyDone} → Kept (take session_size a) c x → (n : ℕ)
     → (called_of x).answer ≡ Ok n
     → (hs work : List ℕ) (o : Bytes) {r : Result Ran Refusal} {work' : List ℕ} {o' : Bytes}
-    → Runs (take n (called_of x).lent.output) hs work o r work' o' → NotUpTo15 r → EvaluatedAs (call_of c).tree o r o'
+    → TrialRuns (take n (called_of x).lent.output) hs work o r work' o' → NotUpTo15 r → EvaluatedAs (call_of c).tree o r o'
 compile_evaluates m c k n e hs work o p later =
     let t = any_ends kept_done (made-start m) c k n e hs (length work) (length o) (later_outcome _ p.answer later) in
     shows (call_of c).tree o t.count t.run t.is t.evaluates p.answer p.output

@@ -20,7 +20,7 @@ use Rattle.chin.specs.Chin.{to_chin, from_chin}
 use Rattle.definition.specs.Number
 use Rattle.trial.specs.Cells.{work_size}
 use Rattle.trial.specs.Call.{run_outcome, outcome_answer}
-use Rattle.trial.specs.Promise.{Runs}
+use Rattle.trial.specs.Promise.{TrialRuns}
 use Rattle.trial.specs.declared.Ran.{Ran}
 use Rattle.exported.specs.Packed.{high, low, of_halves, Packs}
 use Rattle.exported.specs.Named.{names_answer, NamesPacked}
@@ -88,7 +88,7 @@ ran-refused {a} q = (λ e. go a e, λ e. ap ran_answer e)
 
 -- the promise of `run` that an exported run keeps
 runs_of : {b : Bytes} {hs w w' : List ℕ} {o o' : Bytes} {r : ℕ} → RunsPacked b hs w o r w' o'
-    → Runs b hs w o (outcome_answer (run_outcome b hs (length w) (length o))) w' o'
+    → TrialRuns b hs w o (outcome_answer (run_outcome b hs (length w) (length o))) w' o'
 runs_of k = record { answer = refl; work = k.work; output = k.output }
 
 -- 27

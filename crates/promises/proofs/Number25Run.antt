@@ -23,7 +23,7 @@ use Rattle.trial.specs.Run.{Trial, trial}
 use Rattle.trial.specs.Output.{named_globals}
 use Rattle.trial.specs.Cells.{work_size}
 use Rattle.trial.specs.Call.{refused_with, Outcome, trial_outcome, taken_outcome, judged_outcome, image_outcome, run_outcome, outcome_answer}
-use Rattle.trial.specs.Promise.{Runs}
+use Rattle.trial.specs.Promise.{TrialRuns}
 use Rattle.trial.specs.declared.Ran.{Ran}
 use Rattle.trial.proofs.Calling.{main_safe, work_long}
 use Rattle.promises.specs.Refusals.{FailsAt}
@@ -96,7 +96,7 @@ module _ (b : Bytes) (hs : List ℕ) (work room p : ℕ) where
   )
 
 -- Number 25, of any call that keeps the promise of `run`
-pub number_25_run : {b : Bytes} {hs w w' : List ℕ} {o o' : Bytes} {r : Result Ran Refusal} → Runs b hs w o r w' o' → (p : ℕ)
+pub number_25_run : {b : Bytes} {hs w w' : List ℕ} {o o' : Bytes} {r : Result Ran Refusal} → TrialRuns b hs w o r w' o' → (p : ℕ)
     → (r ≡ Err (refusal bad_heights p)) ↔ ((work_size ≤ length w) × FailsAt b hs p)
 number_25_run {b} {hs} {w} {o = o} k p =
     let e = answered b hs (length w) (length o) p in (λ i. e.0 (sym k.answer ∙ i), λ f. k.answer ∙ e.1 f)

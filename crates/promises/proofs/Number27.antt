@@ -31,7 +31,7 @@ use Rattle.trial.specs.declared.cells.Value.{Value}
 use Rattle.trial.specs.Output.{named_globals}
 use Rattle.trial.specs.Cells.{work_size, stack_limit}
 use Rattle.trial.specs.Call.{taken, first_refused, refused_with, Outcome, trial_outcome, taken_outcome, judged_outcome, image_outcome, run_outcome, outcome_answer}
-use Rattle.trial.specs.Promise.{Runs}
+use Rattle.trial.specs.Promise.{TrialRuns}
 use Rattle.trial.specs.declared.Ran.{Ran}
 use Rattle.trial.proofs.Scanning.{refused_more, refused_none, all_taken}
 use Rattle.trial.proofs.Calling.{arrived, main_safe, work_long}
@@ -280,7 +280,7 @@ module _ (b : Bytes) (hs : List ℕ) (work room p : ℕ) where
   answered = (λ i. go_work (ltb work work_size) refl i, is_27)
 
 -- Number 27, of any call that keeps the promise of `run`
-pub number_27 : {b : Bytes} {hs w w' : List ℕ} {o o' : Bytes} {r : Result Ran Refusal} → Runs b hs w o r w' o' → (p : ℕ)
+pub number_27 : {b : Bytes} {hs w w' : List ℕ} {o o' : Bytes} {r : Result Ran Refusal} → TrialRuns b hs w o r w' o' → (p : ℕ)
     → (r ≡ Err (refusal Number.not_runnable p)) ↔ FirstNotRun b hs (length w) p
 number_27 {b} {hs} {w} {o = o} k p =
     let e = answered b hs (length w) (length o) p in (λ i. e.0 (sym k.answer ∙ i), λ f. k.answer ∙ e.1 f)
