@@ -1,6 +1,6 @@
 /*
  * Instructions: their words and lengths, for which the library is asked; what they take from the stack and give to it, a table; and why the stack
- * of code fails. Only words depend on the table: the library judges. examples/instructions.c compares all of it with the library.
+ * of code fails. Only words depend on the table: the library judges. tests/instructions.c compares all of it with the library.
  */
 #include <stdio.h>
 #include <string.h>

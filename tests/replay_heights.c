@@ -1,6 +1,6 @@
 /*
  * Replays the cases of a file of heights (cases/README.md) through the exported functions: each answer, every number of the output, and that what is behind the result
- * and all of it where refused stays. examples/run runs it on cases/heights.txt.
+ * and all of it where refused stays. tests/run runs it on cases/heights.txt.
  */
 #include <stdio.h>
 #include <stdlib.h>

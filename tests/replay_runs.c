@@ -1,6 +1,6 @@
 /*
  * Replays the cases of a file of trial runs (cases/README.md) through the exported functions: each answer, every byte of the output and every number of the work area.
- * examples/run runs it on cases/trial.txt.
+ * tests/run runs it on cases/trial.txt.
  */
 #include <stdio.h>
 #include <stdlib.h>

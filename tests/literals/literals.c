@@ -1,7 +1,7 @@
 /*
  * Whether a branch or an address of the exported calls depends on a literal: the literals' bytes of trees are marked undefined,
  * and memcheck reports each branch and each address that depends on such a byte. Which reports are expected, and why: docs/TICKET112.md.
- * tests/run builds it and runs it under valgrind:
+ * tests/literals/run builds it and runs it under valgrind:
  *     literals values|booleans SEEDS FILE..    integers and strings are marked, or Booleans, in the trees of the seeds 0 to SEEDS - 1,
  *                                              of scripts (.monkey), and in the trees and images of recorded cases (.txt)
  * Each tree is compiled in a fresh session, and in one with those before it; each image goes through frames, chin form, check and heights.

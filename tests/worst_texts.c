@@ -1,6 +1,6 @@
 /*
  * Reads the worst texts in a thread with a stack of 256 KB: deep nesting, long operands that each prefix or operator moves, many tokens. Checks each answer and that half of the
- * stack was left alone, and with an argument prints how long a read takes and how much of the stack it wrote. examples/run runs it.
+ * stack was left alone, and with an argument prints how long a read takes and how much of the stack it wrote. tests/run runs it.
  */
 #define _POSIX_C_SOURCE 200112L
 #include <pthread.h>

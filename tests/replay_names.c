@@ -1,6 +1,6 @@
 /*
  * Replays the cases of a file of names (cases/README.md) through the exported functions: each answer, image, record and session, and that numbers behind the
- * records, and all of them where refused, stay. examples/run runs it on cases/names.txt.
+ * records, and all of them where refused, stay. tests/run runs it on cases/names.txt.
  */
 #include <stdio.h>
 #include <stdlib.h>

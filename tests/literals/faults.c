@@ -1,5 +1,5 @@
 /*
- * The exported compile call with a fault planted, the one of number FAULT: each lets a literal be seen, and tests/run faults must find
+ * The exported compile call with a fault planted, the one of number FAULT: each lets a literal be seen, and tests/literals/run faults must find
  * each. The library's own call is linked by the name __real_monkey_compile.
  */
 #include <stddef.h>

@@ -1,6 +1,6 @@
 /*
  * Replays the cases of a file of texts (cases/README.md) through monkey_read_text: number and place, or the length, the tree and every byte behind it; where refused, the
- * output stays. Goes over the tokens of each with monkey_next_token too, and over one text with all kinds. examples/run runs it on
+ * output stays. Goes over the tokens of each with monkey_next_token too, and over one text with all kinds. tests/run runs it on
  * cases/texts.txt.
  */
 #include <stdio.h>
