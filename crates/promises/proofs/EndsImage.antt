@@ -40,7 +40,7 @@ use Rattle.exported.specs.Framed.{count_answer, place_answer, refusal_answer, Co
 use Rattle.exported.specs.Turned.{TurnsPacked}
 use Rattle.exported.specs.Heights.{ChecksPacked, ProposesPacked}
 use Rattle.promises.specs.Ends.{Ended, Ends, output, nothing, count_numbers, frame_numbers, load_numbers}
-use Rattle.promises.proofs.Endings.{EndsAs, packed_ends, kept, bare, wrote, kept_as}
+use Rattle.promises.proofs.Endings.{EndsAs, packed_ends, no_buffer, no_output, kept, bare, wrote, kept_as}
 
 -- `monkey_list_image`
 pub ends_list_image : {image o o' : Bytes} {r : ℕ} → ListsPacked image o r o' → Ends list_numbers image_limit (output o o') [] r
@@ -59,7 +59,7 @@ count_ends image size = go (read_image image) refl
     go : (d : Decoded Image) → read_image image ≡ d
         → EndsAs count_numbers image_limit nothing [] (count_answer (counted d (length image) size))
     go (decoded m n) e =
-        chosen (λ (c : Result FrameCount Refusal). EndsAs count_numbers image_limit nothing [] (count_answer c)) (size_in_range size) (λ _. Ended.answered refl All.none All.none) (λ _. bare count_numbers tt image_limit (refusal bad_size 0) tt (omega arith))
+        chosen (λ (c : Result FrameCount Refusal). EndsAs count_numbers image_limit nothing [] (count_answer c)) (size_in_range size) (λ _. Ended.answered refl (λ s. no_buffer s) All.none All.none) (λ _. bare count_numbers tt image_limit (refusal bad_size 0) tt (omega arith))
     go (malformed p) e = bare count_numbers tt image_limit (refusal bad_image p) tt (image-place image p e)
 
 -- `monkey_count_frames`
@@ -84,13 +84,13 @@ module _ (P : Result FramePlace Refusal → Type 0) (at : (s n : ℕ) → P (pla
 pub ends_frame : {image : Bytes} {size n r : ℕ} → PlacesPacked image size n r → Ends frame_numbers image_limit nothing [] r
 ends_frame {image} {size} {n} k =
     packed_ends k.answer
-    (place_ends (λ p. EndsAs frame_numbers image_limit nothing [] (place_answer p)) (λ _ _. Ended.answered refl All.none All.none) (bare frame_numbers tt image_limit) image size n)
+    (place_ends (λ p. EndsAs frame_numbers image_limit nothing [] (place_answer p)) (λ _ _. Ended.answered refl (λ s. no_buffer s) All.none All.none) (bare frame_numbers tt image_limit) image size n)
 
 -- `monkey_frame_refusal`
 pub ends_frame_refusal : {image : Bytes} {size n r : ℕ} → RefusesPacked image size n r → Ends frame_numbers image_limit nothing [] r
 ends_frame_refusal {image} {size} {n} k =
     packed_ends k.answer
-    (place_ends (λ p. EndsAs frame_numbers image_limit nothing [] (refusal_answer (result_err p))) (λ _ _. Ended.answered refl All.none All.none) (bare frame_numbers tt image_limit) image size n)
+    (place_ends (λ p. EndsAs frame_numbers image_limit nothing [] (refusal_answer (result_err p))) (λ _ _. Ended.answered refl (λ s. no_buffer s) All.none All.none) (bare frame_numbers tt image_limit) image size n)
 
 -- from either form into the other
 turn_ends : (f : Form) {image o o' : Bytes} {r : ℕ} → AreBytes image → TurnsPacked (translate f (other_form f) (jump_of f) image) o r o'
@@ -142,7 +142,7 @@ ends_propose_heights {image} {o} {o'} k = packed_ends k.answer (go (read_image i
   where
     fits : (n : ℕ) (b : Bool) → leb n (length o) ≡ b → drop (pick b n 0) o' ≡ drop (pick b n 0) o
         → EndsAs list_numbers image_limit (output o o') [] (pick b (Ok n) (Err (refusal output_short 0)))
-    fits n true e s = Ended.answered refl (All.more (record { room = leb-true n (length o) e; behind = s }) All.none) All.none
+    fits n true e s = Ended.answered refl (λ s. no_output s) (All.more (record { room = leb-true n (length o) e; behind = s }) All.none) All.none
     fits n false e s =
         kept_as list_numbers tt image_limit (Err (refusal output_short 0)) s (kept list_numbers tt image_limit (refusal output_short 0) tt (omega arith))
 

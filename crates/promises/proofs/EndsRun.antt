@@ -3,7 +3,7 @@
 use Prim.Native.Nat.{ℕ, zero, suc, ◌+◌, ◌*◌, ◌%◌, ◌≤◌}
 use native.Mathlib.Omega.{arith}
 use mathlib.Core.Bool.{Bool, true, false}
-use mathlib.Core.List.{List, [], ◌∷◌}
+use mathlib.Core.List.{List, [], ◌∷◌, ◌++◌}
 use mathlib.Core.Path.{◌≡◌, refl, sym, ap, subst, subst₂, ◌∙◌}
 use lib.Dec.{T, leb, ltb}
 use lib.ListN.{length, drop, get_or, length-append}
@@ -38,7 +38,7 @@ use Rattle.exported.specs.Framed.{Pairs}
 use Rattle.exported.specs.Trial.{ran_answer, RunsPacked}
 use Rattle.promises.specs.Ends.{buffer, Written, TooShort, Ended, Ends, shown_globals, run_reasons, run_numbers}
 use Rattle.promises.proofs.Through.{StopNumber, trial_stops}
-use Rattle.promises.proofs.Endings.{not_one}
+use Rattle.promises.proofs.Endings.{not_one, no_buffer}
 
 -- the numbers of a run whose work area is long enough
 abbrev later : List ℕ
@@ -91,6 +91,12 @@ shown_long zero g = refl
 shown_long (suc n) g =
     length-append (shown n g) (cell_of (get_or g n none)) ∙ (let e = shown_long n g in let f = cell_long (get_or g n none) in omega arith)
 
+-- a work area that is long enough
+run_long : {o o' w w' : List ℕ} → work_size ≤ length w → TooShort (shown_globals o o' 0 ++ buffer work_size w w' ∷ []) → ⊥
+run_long l (TooShort.here h) = omega arith
+run_long l (TooShort.later (TooShort.here h)) = omega arith
+run_long l (TooShort.later (TooShort.later s)) = no_buffer s
+
 -- `monkey_run`
 pub ends_run : {image : Bytes} {hs w w' : List ℕ} {o o' : Bytes} {r : ℕ} → AreBytes image → RunsPacked image hs w o r w' o'
     → Ends run_numbers 65536 (shown_globals o o') (buffer work_size w w' ∷ []) r
@@ -104,9 +110,9 @@ ends_run {image} {hs} {w} {w'} {o} {o'} {r} a k =
         let new = shown n g in
         let b : drop (9 * n) (over new o) ≡ drop (9 * n) o = ap (λ j. drop j (over new o)) (sym (shown_long n g)) ∙ drop-append_seam new (drop (length new) o) ∙ ap (λ j. drop j o) (shown_long n g) in
         let v : All Written (buffer (9 * n) o (over new o) ∷ []) = All.more (record { room = h; behind = b }) All.none in
-        Ended.answered k.number (subst (λ j. All Written (buffer (9 * j) o (over new o) ∷ [])) (sym (p n g i refl).first) v) (All.more (record { room = l; zeros = refl }) All.none)
+        Ended.answered k.number (λ s. run_long l s) (subst (λ j. All Written (buffer (9 * j) o (over new o) ∷ [])) (sym (p n g i refl).first) v) (All.more (record { room = l; zeros = refl }) All.none)
     by (Outcome.refused q) (Numbered.refused t) (Small.refused _ _ m) l k p =
-        Ended.refused (subst (λ n. T (is_one_of run_numbers n)) (sym k.number) (among later run_numbers tt (number_of q.reason) t)) (λ f. not_one later tt (number_of q.reason) t (sym k.number ∙ f)) (subst (λ v. v ≤ 65536) (sym k.value) m)
+        Ended.refused (subst (λ n. T (is_one_of run_numbers n)) (sym k.number) (among later run_numbers tt (number_of q.reason) t)) (λ f. not_one later tt (number_of q.reason) t (sym k.number ∙ f)) (λ s. run_long l s) (subst (λ v. v ≤ 65536) (sym k.value) m)
         (All.more (record { same = refl }) All.none) (All.more (record { room = l; zeros = refl }) All.none)
 
     go : (b : Bool) → ltb (length w) work_size ≡ b

@@ -43,14 +43,19 @@ use Rattle.promises.specs.Ends.{buffer, AsItWas, Written, Zeroed, TooShort, Ende
 use Rattle.promises.specs.Ended.{Behind}
 use Rattle.promises.proofs.Ended.{behind-rows}
 use Rattle.promises.proofs.Number13.{no_call_is_13}
-use Rattle.promises.proofs.Endings.{EndsAs, packed_ends, not_one}
+use Rattle.promises.proofs.Endings.{EndsAs, packed_ends, not_one, no_buffer}
+
+-- a session buffer that is long enough
+session_long : {s s' : Bytes} → session_size ≤ length s → TooShort (session s s' 0 ++ []) → ⊥
+session_long l (TooShort.here h) = omega arith
+session_long l (TooShort.later s) = no_buffer s
 
 -- a session that is made over the front of a buffer of its size
 begun_ends : (numbers : List ℕ) (w : Words) → ValidWords w → (s : Bytes) → session_size ≤ length s
     → EndsAs numbers 0 (session s (begins w s).session) [] (begins w s).answer
 begun_ends numbers w v s h =
     let new = session_bytes (begun w) in
-    Ended.answered refl (All.more (record { room = h; behind = ap (λ n. drop n (over new s)) (sym (session_length (begun w) (begun-valid w v))) ∙ drop-append_seam new (drop (length new) s) ∙ ap (λ n. drop n s) (session_length (begun w) (begun-valid w v)) }) All.none) All.none
+    Ended.answered refl (λ t. session_long h t) (All.more (record { room = h; behind = ap (λ n. drop n (over new s)) (sym (session_length (begun w) (begun-valid w v))) ∙ drop-append_seam new (drop (length new) s) ∙ ap (λ n. drop n s) (session_length (begun w) (begun-valid w v)) }) All.none) All.none
 
 -- 1
 short_ends : (numbers : List ℕ) → T (is_one_of numbers (number_of short_buffer)) → (s : Bytes) → length s < session_size
@@ -79,7 +84,7 @@ words_ends s names a = go (leb session_size (length s)) refl
     handed : (d : Decoded Words) → read_handed names ≡ d → session_size ≤ length s
         → EndsAs word_numbers 0 (session s (begins_with d s).session) [] (begins_with d s).answer
     handed (decoded w n) e h = begun_ends word_numbers w (handed-valid (write_handed names a e)) s h
-    handed (malformed p) e h = Ended.refused tt (λ e. omega arith) (omega arith) (All.more (record { same = refl }) All.none) All.none
+    handed (malformed p) e h = Ended.refused tt (λ e. omega arith) (λ t. session_long h t) (omega arith) (All.more (record { same = refl }) All.none) All.none
 
     go : (b : Bool) → leb session_size (length s) ≡ b
         → EndsAs word_numbers 0 (session s (pick b (begins_with (read_handed names) s) (not_made short_buffer s)).session) [] (pick b (begins_with (read_handed names) s) (not_made short_buffer s)).answer
@@ -163,6 +168,20 @@ module _ (tree : Bytes) (l l' : Lent) where
           TooShort.later (TooShort.later (TooShort.later (TooShort.here (leb-false table_size (length l.table) g))))
       go true f true g true h e = let z : ◌≡◌ {A = ℕ} 0 1 = cc in absurd (omega arith)
 
+  -- none is too short then
+  all_long : enough (request l tree) ≡ true → TooShort (compiled l l' 0 ++ areas l l') → ⊥
+  all_long e (TooShort.here h) = omega arith
+  all_long e (TooShort.later (TooShort.here h)) = omega (arith, (sizes e).session)
+  all_long e (TooShort.later (TooShort.later (TooShort.here h))) = omega (arith, (sizes e).code)
+  all_long e (TooShort.later (TooShort.later (TooShort.later (TooShort.here h)))) = omega (arith, (sizes e).table)
+  all_long e (TooShort.later (TooShort.later (TooShort.later (TooShort.later s)))) = no_buffer s
+
+  -- with numbers for records neither
+  named_long : {xs ys : List ℕ} → enough (request l tree) ≡ true → TooShort (named l l' xs ys 0 ++ areas l l') → ⊥
+  named_long e (TooShort.here h) = omega arith
+  named_long e (TooShort.later s) = all_long e s
+
+  -- the work areas are zeroed
   zeroed : enough (request l tree) ≡ true → Cleared l l' → All Zeroed (areas l l')
   zeroed e c =
       All.more (record { room = (sizes e).code; zeros = c.code }) (All.more (record { room = (sizes e).table; zeros = c.table }) All.none)
@@ -190,11 +209,11 @@ ends_compile {tree} {l} {l'} a k =
     packed_ends k.answer (subst (λ x. EndsAs compile_numbers (length tree) (compiled l x) (areas l x) (call tree l).answer) (sym k.lent) (go (call tree l).answer (call tree l).lent (call-ending tree l a)))
   where
     go : (x : Answer) (l' : Lent) → Ending tree l x l' → EndsAs compile_numbers (length tree) (compiled l l') (areas l l') x
-    go _ l' (Ending.answered e h o s c) = Ended.answered refl (two_written tree l l' e h o s) (zeroed tree l l' e c)
+    go _ l' (Ending.answered e h o s c) = Ended.answered refl (λ t. all_long tree l l' e t) (two_written tree l l' e h o s) (zeroed tree l l' e c)
     go _ l' (Ending.refused {q} e t p s o c) =
-        Ended.refused (among numbers_left compile_numbers tt (number_of q.reason) t) (not_one numbers_left tt (number_of q.reason) t) p (two_kept tree l l' q.place o s) (zeroed tree l l' e c)
+        Ended.refused (among numbers_left compile_numbers tt (number_of q.reason) t) (not_one numbers_left tt (number_of q.reason) t) (λ t. all_long tree l l' e t) p (two_kept tree l l' q.place o s) (zeroed tree l l' e c)
     go _ l' (Ending.short {q} e n p k) =
-        Ended.short (subst (λ n. T (is_one_of compile_numbers n)) (sym n) tt) n p (lacks tree l l' e q.place) (all_kept tree l l' q.place k)
+        Ended.short (subst (λ n. T (is_one_of compile_numbers n)) (sym n) tt) n p (lacks tree l l' e 0) (all_kept tree l l' q.place k)
 
 -- a buffer that is too short comes before the records
 records_short : (tree : Bytes) (l : Lent) (rs : List Record) → enough (request l tree) ≡ false
@@ -216,13 +235,13 @@ ends_compile_names {tree} {l} {l'} {xs} {xs'} {r} a k =
     by (Ok j) l₁ n ys (Ending.answered e h o s c) b k p =
         let d = p j refl in
         let w : All Written (buffer (4 * n) xs ys ∷ compiled l l₁ j) = All.more (record { room = b.room; behind = b.stays }) (two_written tree l l₁ e h o s) in
-        Ended.answered k.number (subst₂ (λ i j. All Written (buffer (4 * i) xs ys ∷ compiled l l₁ j)) (sym d.first) (sym d.second) w) (zeroed tree l l₁ e c)
+        Ended.answered k.number (λ t. named_long tree l l₁ e t) (subst₂ (λ i j. All Written (buffer (4 * i) xs ys ∷ compiled l l₁ j)) (sym d.first) (sym d.second) w) (zeroed tree l l₁ e c)
     by (Err q) l₁ n ys (Ending.refused e t p s o c) b k _ =
         let m : T (is_one_of names_numbers (number_of q.reason)) = among numbers_left names_numbers tt (number_of q.reason) t in
-        Ended.refused (subst (λ n. T (is_one_of names_numbers n)) (sym k.number) m) (λ f. not_one numbers_left tt (number_of q.reason) t (sym k.number ∙ f)) (subst (λ v. v ≤ length tree) (sym k.value) p)
+        Ended.refused (subst (λ n. T (is_one_of names_numbers n)) (sym k.number) m) (λ f. not_one numbers_left tt (number_of q.reason) t (sym k.number ∙ f)) (λ t. named_long tree l l₁ e t) (subst (λ v. v ≤ length tree) (sym k.value) p)
         (All.more (record { same = (b.refused q refl).1 }) (two_kept tree l l₁ _ o s)) (zeroed tree l l₁ e c)
     by (Err q) l₁ n ys (Ending.short e f p g) b k _ =
-        Ended.short (subst (λ n. T (is_one_of names_numbers n)) (sym (k.number ∙ f)) tt) (k.number ∙ f) (k.value ∙ p) (TooShort.later (lacks tree l l₁ e _)) (All.more (record { same = (b.refused q refl).1 }) (all_kept tree l l₁ _ g))
+        Ended.short (subst (λ n. T (is_one_of names_numbers n)) (sym (k.number ∙ f)) tt) (k.number ∙ f) (k.value ∙ p) (TooShort.later (lacks tree l l₁ e 0)) (All.more (record { same = (b.refused q refl).1 }) (all_kept tree l l₁ _ g))
 
     go : {x : Recorded} → CallAgrees tree l (blanks (length xs / 4)) x (call tree l) → Ending tree l (call tree l).answer (call tree l).lent
         → (enough (request l tree) ≡ false → x.called.answer ≡ Err (refusal short_buffer 0))
@@ -236,6 +255,6 @@ ends_compile_names {tree} {l} {l'} {xs} {xs'} {r} a k =
         many : (x : Bool) → enough (request l tree) ≡ x
             → Ends names_numbers (length tree) (named l (ended l.session l.output l) xs (rows_of [] ++ xs)) (areas l (ended l.session l.output l)) r
         many true e =
-            Ended.refused (subst (λ n. T (is_one_of names_numbers n)) (sym k.number) tt) (λ f. let z : number_of few_records ≡ number_of short_buffer = sym k.number ∙ f in omega arith) (omega (arith, k.value))
+            Ended.refused (subst (λ n. T (is_one_of names_numbers n)) (sym k.number) tt) (λ f. let z : number_of few_records ≡ number_of short_buffer = sym k.number ∙ f in omega arith) (λ t. named_long tree l (ended l.session l.output l) e t) (omega (arith, k.value))
             (All.more (record { same = (b.refused _ refl).1 }) (two_kept tree l (ended l.session l.output l) _ refl refl)) (zeroed tree l (ended l.session l.output l) e (record { code = refl; table = refl }))
         many false e = let z = n e in let i : ◌≡◌ {A = ℕ} (number_of few_records) (number_of short_buffer) = ap (λ a. high a) z in absurd (omega arith)

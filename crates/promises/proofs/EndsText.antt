@@ -29,7 +29,7 @@ use Rattle.text.proofs.Told.{ToldWithin, told_within}
 use Rattle.exported.specs.Packed.{ReadsPacked}
 use Rattle.exported.specs.Token.{numbers_answer, numbers_into, TokenPacked}
 use Rattle.promises.specs.Ends.{Ended, Ends, output, text_numbers, token_numbers}
-use Rattle.promises.proofs.Endings.{EndsAs, packed_ends, kept, wrote as written_or_15, kept_as}
+use Rattle.promises.proofs.Endings.{EndsAs, packed_ends, no_output, kept, wrote as written_or_15, kept_as}
 
 -- the tree of a text fits the output; a refusal has one of the four numbers
 data Reading (lent : ℕ) : Outcome → Type 0 where
@@ -89,7 +89,7 @@ ends_read_text {text} {o} k =
     go : (x : Outcome) → Reading (length o) x → ReadWithin (answer_of x)
         → EndsAs text_numbers text_limit (output o (output_of x o)) [] (answer_of x)
     go (tree b) (Reading.wrote h) w =
-        Ended.answered refl (All.more (record { room = h; behind = drop-append_seam b (drop (length b) o) }) All.none) All.none
+        Ended.answered refl (λ s. no_output s) (All.more (record { room = h; behind = drop-append_seam b (drop (length b) o) }) All.none) All.none
     go (refused q) (Reading.stopped t) (ReadWithin.refused n p) = kept text_numbers tt text_limit q t p
 
 -- what is told of an offset: numbers, or a refusal with one of the two

@@ -39,13 +39,15 @@ pub data TooShort : List Buffer → Type 0 where
   later : {b : Buffer} {bs : List Buffer} → TooShort bs → TooShort (b ∷ bs)
 
 -- A call with these numbers, its places within a bound, which was lent buffers to write, by the value that it answers, and work areas, ends
--- so: an answer, written into the buffers; or a numbered refusal with its place, the buffers as they were; the work areas zeroed, or, where
--- a session or a work area is too short, which is number 1 at 0, as they were
+-- so: an answer, written into the buffers; or a numbered refusal with its place, the buffers as they were; the work areas zeroed, or as they
+-- were where a session or a work area is too short, which is number 1 at 0, and there alone (`buffers 0` has the sizes that a call needs
+-- whatever it answers)
 pub data Ended (numbers : List ℕ) (places : ℕ) (buffers : ℕ → List Buffer) (works : List Buffer) (number value : ℕ) : Type 0 where
-  answered : number ≡ 0 → All Written (buffers value) → All Zeroed works → Ended numbers places buffers works number value
-  refused : T (is_one_of numbers number) → (number ≡ number_of short_buffer → ⊥) → value ≤ places → All AsItWas (buffers value)
-      → All Zeroed works → Ended numbers places buffers works number value
-  short : T (is_one_of numbers number) → number ≡ number_of short_buffer → value ≡ 0 → TooShort (buffers value ++ works)
+  answered : number ≡ 0 → (TooShort (buffers 0 ++ works) → ⊥) → All Written (buffers value) → All Zeroed works
+      → Ended numbers places buffers works number value
+  refused : T (is_one_of numbers number) → (number ≡ number_of short_buffer → ⊥) → (TooShort (buffers 0 ++ works) → ⊥) → value ≤ places
+      → All AsItWas (buffers value) → All Zeroed works → Ended numbers places buffers works number value
+  short : T (is_one_of numbers number) → number ≡ number_of short_buffer → value ≡ 0 → TooShort (buffers 0 ++ works)
       → All AsItWas (buffers value ++ works) → Ended numbers places buffers works number value
 
 -- by its number's halves
