@@ -9,7 +9,7 @@
  *   The functions keep nothing of their own between calls and use no heap, so that threads may call them on buffers of their own.
  *   A call takes up to 100,000 bytes of stack (measured on trees of 64 levels); those on heights up to 270,000 (measured: 262,880, most of it one
  *   number for each offset of the longest image), the trial run, which goes over main twice, up to 540,000 (measured: 529,712).
- *   monkey_read_text takes up to 60,000, whatever the text nests (measured: 51,936, the thread's own among them, on 30,000 nested texts; examples/worst_texts.c has the worst).
+ *   monkey_read_text takes up to 60,000, whatever the text nests (measured: 51,936, the thread's own among them, on 30,000 nested texts; tests/worst_texts.c has the worst).
  *
  * Answers
  *   Each function answers one 64-bit number. Where the high half is 0, the low half is a length, of what was written, in elements, or two numbers, where its comment
@@ -61,7 +61,7 @@ enum monkey_refusal {
     MONKEY_CAPTURES = 10,        /* the 256th free symbol of a function; place: the Identifier */
     MONKEY_GLOBALS = 11,         /* the session's 1,025th definition; place: the Let */
     MONKEY_POOL = 12,            /* a constant would pass 4,096 constants or 28,672 bytes; place: its expression */
-    MONKEY_CODE = 13,            /* open code would pass 32,768 bytes; place: the expression or statement; beside 22 no tree reaches it */
+    MONKEY_CODE = 13,            /* open code would pass 32,768 bytes; place: the expression or statement; never met, as is proved (no_tree_is_13) */
     MONKEY_NESTING = 14,         /* the 17th open function; place: the Function */
     MONKEY_OUTPUT_SHORT = 15,    /* the result is longer than the output */
     MONKEY_BAD_INSTRUCTION = 16, /* an unknown byte or missing operands; none of these functions answers it */
@@ -269,6 +269,14 @@ static inline uint32_t monkey_run_steps(uint64_t answer) { return (uint32_t)answ
  *   15 at 0, where it is longer than the output or than 32,768.
  */
 uint64_t monkey_read_text(const uint8_t *text, size_t text_length, uint8_t *output, size_t output_length);
+
+/*
+ * Writes the shape of a tree: its bytes, with 0 for the content of each integer, boolean and string. The answer is its length, which is the tree's own, and the shape
+ * stands at the front of the output, whose other bytes stay as they were. Two trees that are not refused here are alike exactly when their shapes are equal: then
+ * compile calls on them at the same point of equal sessions, with buffers equally long, give images of one length, or the same refusal. Tree and output do not overlap.
+ *   Refused, and the output is as it was: 3 or 4 and the place in the tree; then 15 at 0, where the output is shorter than the tree.
+ */
+uint64_t monkey_write_shape(const uint8_t *tree, size_t tree_length, uint8_t *output, size_t output_length);
 
 /* The kinds of tokens. */
 enum monkey_token {

@@ -3,11 +3,12 @@
  * globals and built-in words are held against what a session can have at most. The image decodes: the library has said so.
  */
 #include <stdio.h>
+#include <string.h>
 
 #include "code.h"
 #include "profile.h"
 
-enum { FUNCTION = 0x62, MOST_CONSTANTS = MONKEY_CHUNKS_LIMIT - 1, MOST_GLOBALS = MONKEY_GLOBALS_LIMIT / 9 };
+enum { INTEGER = 0x60, FUNCTION = 0x62, MOST_CONSTANTS = MONKEY_CHUNKS_LIMIT - 1, MOST_GLOBALS = MONKEY_GLOBALS_LIMIT / 9, STRING_SHOWN = 20 };
 
 /* A constant of the pool; of a function its locals, and the fewest captures of a Closure that names it. */
 struct constant {
@@ -131,6 +132,38 @@ static int find_missing(const uint8_t *image, char *text, size_t room) {
     return 0;
 }
 
+/* Says why the stack of a chunk of an image that decodes fails, a jump among the reasons. */
+void explain_chunk(char *text, size_t room, const uint8_t *image, size_t length, size_t number) {
+    read_pool(image, length);
+    struct chunk c = chunk_at(image, number);
+    explain_stack(text, room, image, &c);
+    if (text[0] == 0) {
+        explain_jump(text, room, image, &c);
+    }
+}
+
+/* Describes the entry of the pool of an image that decodes, in brackets: a function's length, a string or its beginning. */
+void describe_constant(char *text, size_t room, const uint8_t *image, size_t length, unsigned index) {
+    char kept[STRING_SHOWN + 1] = "";
+    read_pool(image, length);
+    if (index >= pool_count) {
+        snprintf(text, room, " (the pool has %zu entries)", pool_count);
+        return;
+    }
+    const struct constant *c = &pool[index];
+    size_t begun = c->length < STRING_SHOWN ? c->length : STRING_SHOWN;
+    if (c->tag == FUNCTION) {
+        snprintf(text, room, " (pool entry %u, a function of %zu bytes)", index, c->length);
+        return;
+    }
+    if (c->tag != INTEGER) {
+        memcpy(kept, c->content, begun);
+    }
+    const char *word = c->tag == INTEGER ? "an integer" : memchr(kept, 0, begun) != NULL ? "a string" : shown(kept);
+    const char *quote = c->tag == INTEGER || memchr(kept, 0, begun) != NULL ? "" : "\"";
+    snprintf(text, room, " (pool entry %u, %s%s%s%s)", index, quote, word, begun < c->length && quote[0] != 0 ? ".." : "", quote);
+}
+
 /* Says what was checked of an image that decodes: the answer on its stack, and what its code names. */
 int report_check(const char *path, const uint8_t *image, size_t length, uint64_t stack) {
     char names[160] = "what the code names is there";
@@ -143,11 +176,18 @@ int report_check(const char *path, const uint8_t *image, size_t length, uint64_t
     int missing = find_missing(image, names, sizeof names);
     if (monkey_number(stack) != 0) {
         struct chunk c = chunk_at(image, monkey_value(stack));
-        explain_stack(why, sizeof why, image, &c);
+        explain_stack(why, sizeof why, image, &c); /* a jump is said among the names */
         return refuse_stack(path, stack, why, names);
     }
     if (missing) {
         return refuse_names(path, names);
+    }
+    if (is_json()) {
+        begin_object(stdout, path);
+        put_literal("sound", "true");
+        put_number("bytes", (long long)length);
+        end_object();
+        return finish_stdout();
     }
     printf("%s: sound, %zu bytes: decodes; the stack passes; %s\n", shown_path(path), length, names);
     return finish_stdout();

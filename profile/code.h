@@ -24,9 +24,12 @@ struct chunk {
 
 unsigned operand_of(const uint8_t *at);
 size_t instruction_length(const uint8_t *at);
+unsigned values_taken(const uint8_t *at);
+unsigned values_given(const uint8_t *at);
 void name_instruction(char *text, size_t room, const uint8_t *image, const uint8_t *at);
 void mark_starts(const struct chunk *c);
 int lands(const struct chunk *c, size_t at);
+void explain_jump(char *text, size_t room, const uint8_t *image, const struct chunk *c);
 void explain_stack(char *text, size_t room, const uint8_t *image, const struct chunk *c);
 
 #endif

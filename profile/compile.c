@@ -5,18 +5,7 @@
 #include <stdlib.h>
 #include <string.h>
 
-#include "profile.h"
-
-/* A script: the bytes of its file, a text or a tree; its image; the name of that in a directory. */
-struct script {
-    const char *path;
-    uint8_t *bytes;
-    size_t length;
-    uint8_t *image;
-    size_t image_length;
-    char *name;
-    int failed; /* refused or not read */
-};
+#include "script.h"
 
 enum { TREE_TAG = 0x10 };
 
@@ -267,15 +256,9 @@ static size_t count_failed(const struct arguments *a, const struct script *scrip
     return failed;
 }
 
-/* Reads all scripts, then has the session, compiles them, and only then writes, if none was refused. */
-static int compile_all(const struct arguments *a, struct script *scripts) {
-    int status = a->session != NULL && find_session(a->session) < 0 ? FAILED : choose_output(a, scripts);
-    if (status == DONE) {
-        status = check_written(a, scripts);
-    }
-    if (status != DONE) {
-        return status;
-    }
+/* Reads all scripts, then has the session and compiles them; the worst status. */
+int compile_scripts(const struct arguments *a, struct script *scripts) {
+    int status = DONE;
     for (size_t k = 0; k < a->count; k++) {
         int one = read_script(a, a->operands[k], &scripts[k]);
         scripts[k].failed = one != DONE;
@@ -291,11 +274,29 @@ static int compile_all(const struct arguments *a, struct script *scripts) {
     memcpy(first_session, session, sizeof session);
     status = compile_each(a, scripts, status);
     note_failed(a, count_failed(a, scripts));
+    return status;
+}
+
+/* Compiles all scripts, and only then writes, if none was refused and they are alike where that is asked. */
+static int compile_all(const struct arguments *a, struct script *scripts) {
+    if (a->alike && is_together(a)) {
+        return usage_error(a->command, "--alike is for scripts that are compiled each in a session of its own", "");
+    }
+    int status = a->session != NULL && find_session(a->session) < 0 ? FAILED : choose_output(a, scripts);
+    if (status == DONE) {
+        status = check_written(a, scripts);
+    }
+    if (status == DONE) {
+        status = compile_scripts(a, scripts);
+    }
+    if (status == DONE && a->alike) {
+        status = judge_alike(a, scripts);
+    }
     return status == DONE ? write_results(a, scripts) : status;
 }
 
-/* Frees what is known of scripts. */
-static void free_scripts(struct script *scripts, size_t count) {
+/* Frees scripts, and what is known of them. */
+void free_scripts(struct script *scripts, size_t count) {
     for (size_t k = 0; k < count; k++) {
         free(scripts[k].bytes);
         free(scripts[k].image);
@@ -319,51 +320,6 @@ int run_compile(const struct arguments *a) {
     return status;
 }
 
-/* Prints the bytes of a name; those that do not print as \xHH. */
-static void print_name(const uint8_t *name, size_t length) {
-    for (size_t i = 0; i < length; i++) {
-        if (name[i] > ' ' && name[i] < 127 && name[i] != '\\') {
-            putchar(name[i]);
-        } else {
-            printf("\\x%02x", name[i]);
-        }
-    }
-}
-
-/* Prints where a name stands: line and column, or the offset in the tree. */
-static void print_place(const struct arguments *a, struct walk *w, size_t offset) {
-    unsigned line, column;
-    if (a->tree) {
-        printf("offset %u: ", (unsigned)offset);
-        return;
-    }
-    position_of(w->text, w->text_length, place_in_text(w, offset), &line, &column);
-    printf("line %u, column %u: ", line, column);
-}
-
-/* Prints how one name was resolved. */
-static void print_record(const struct arguments *a, struct walk *w, const struct monkey_name *n) {
-    static const char *const kinds[] = {"global", "local", "built-in word", "captured variable", "the function itself"};
-    const uint8_t *field = tree + n->offset; /* tag, length in two bytes, name */
-    print_place(a, w, n->offset);
-    print_name(field + 3, (size_t)field[1] * 256 + field[2]);
-    printf(" is %s", kinds[n->kind]);
-    if (n->kind != MONKEY_FUNCTION) {
-        printf(" %u", (unsigned)n->index);
-    }
-    if (n->crossed > 0) {
-        printf(", found %u %s further out", (unsigned)n->crossed, n->crossed == 1 ? "function" : "functions");
-    }
-    putchar('\n');
-}
-
-/* Orders records by their place; compiling has those to the right of `<` first. */
-static int by_offset(const void *left, const void *right) {
-    uint32_t l = ((const struct monkey_name *)left)->offset;
-    uint32_t r = ((const struct monkey_name *)right)->offset;
-    return (l > r) - (l < r);
-}
-
 /* Prints how each name of a script that was read was resolved. */
 static int print_names(const struct arguments *a, const struct script *script) {
     int status = make_tree(a, script);
@@ -375,12 +331,8 @@ static int print_names(const struct arguments *a, const struct script *script) {
     if (monkey_number(answer) != 0) {
         return refuse_script(a, script, answer);
     }
-    size_t count = monkey_names_count(answer);
-    qsort(names, count, sizeof names[0], by_offset);
     struct walk w = begin_walk(tree, tree_length, script->bytes, script->length);
-    for (size_t k = 0; k < count; k++) {
-        print_record(a, &w, &names[k]);
-    }
+    print_records(a, script->path, &w, names, monkey_names_count(answer));
     return finish_stdout();
 }
 

@@ -22,7 +22,7 @@ _profile() {
         [ "${COMP_WORDS[k]}" != -- ] || return 0
     done
     case $before in
-    -o | --output | --session | --words | =) return 0 ;;
+    -o | --output | --session | --words | --script | --frames | =) return 0 ;;
     esac
     if [ "${word#-}" != "$word" ]; then
         mapfile -t COMPREPLY < <(compgen -W "$(_profile_options "$program" "${COMP_WORDS[1]}")" -- "$word")

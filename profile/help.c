@@ -10,6 +10,7 @@ static const char whole[] =
     "profile: compiles profiles of wheelchair controls\n"
     "\n"
     "  profile compile SCRIPT.. [-o IMAGE]   compile scripts to images\n"
+    "  profile alike SCRIPT..                whether scripts differ in values alone\n"
     "  profile names SCRIPT                  how each name of a script was resolved\n"
     "  profile list IMAGE..                  list images as text\n"
     "  profile check IMAGE..                 whether images are sound\n"
@@ -23,6 +24,7 @@ static const char whole[] =
     "  profile help SUBCOMMAND               say more of one of them\n"
     "\n"
     "  -o, --output FILE  where the result goes; without it to standard output\n"
+    "  --json             results and refusals as objects in JSON, one a line\n"
     "  -q, --quiet        no notes on standard error, errors alone\n"
     "  -h, --help         this, or behind a subcommand its own help\n"
     "  -V, --version      the version, in place of a subcommand\n"
@@ -30,7 +32,8 @@ static const char whole[] =
     "A file - is standard input or output. Options stand behind the subcommand; behind\n"
     "-- there are operands alone.\n"
     "Exit status: 0 done; 1 refused, with place, number and reason on standard error;\n"
-    "2 wrong use, or a file that cannot be read or written.\n";
+    "2 wrong use, or a file that cannot be read or written; 3 with --no-wait, where\n"
+    "another command has the session.\n";
 
 static const char common[] =
     "  -q, --quiet         no notes on standard error, errors alone\n"
@@ -40,8 +43,8 @@ static const struct {
     const char *command, *text;
 } texts[] = {
     {"compile",
-     "profile compile SCRIPT.. [--tree] [--together] [--session FILE]\n"
-     "                [--words WORD,WORD..] [-o IMAGE]\n"
+     "profile compile SCRIPT.. [--tree] [--alike] [--together] [--session FILE]\n"
+     "                [--words WORD,WORD..] [--no-wait] [--json] [-o IMAGE]\n"
      "\n"
      "Compiles scripts in text form, each in a fresh session.\n"
      "Of each script the first error is shown. If one is refused nothing is written: no\n"
@@ -53,14 +56,32 @@ static const struct {
      "                      into it: speed.monkey becomes speed.image. A directory that is\n"
      "                      not there is made\n"
      "  --tree              the scripts are trees in bytes, not texts\n"
+     "  --alike             write nothing where the scripts are not alike, and say where\n"
+     "                      they depart: see profile help alike\n"
      "  --together          all scripts in one session: each knows the definitions of\n"
      "                      those before it, and length and contents of its image depend\n"
      "                      on them\n"
      "  --session FILE      go on with the session of this file, all scripts in it, and\n"
-     "                      write it anew; a file that is not there is made\n"
-     "  --words WORD,..     a fresh session has these built-in words alone ('': none)\n"},
+     "                      write it anew; a file that is not there is made. A command\n"
+     "                      that writes the same file is waited for\n"
+     "  --no-wait           do not wait for it: status 3\n"
+     "  --words WORD,..     a fresh session has these built-in words alone ('': none)\n"
+     "  --json              a refusal as an object in JSON on standard output\n"},
+    {"alike",
+     "profile alike SCRIPT.. [--frames SIZE] [--tree] [--words WORD,..] [--json]\n"
+     "\n"
+     "Puts scripts that differ in values alone, so in integers, in true and false, and in\n"
+     "the bytes of strings of one length, into one group, and says of each group how long\n"
+     "its images are, each compiled in a fresh session. Where there are several groups,\n"
+     "the length of an image may name its group: of each smaller one it shows where its\n"
+     "first script departs from the first of the largest, and why; the status is then 1.\n"
+     "\n"
+     "  --frames SIZE       the frames of SIZE bytes, 16 to 1024, of each image too\n"
+     "  --tree              the scripts are trees in bytes, not texts\n"
+     "  --words WORD,..     sessions with these built-in words alone ('': none)\n"
+     "  --json              groups and refusals as an object in JSON each\n"},
     {"names",
-     "profile names SCRIPT [--tree] [--session FILE] [--words WORD,WORD..]\n"
+     "profile names SCRIPT [--tree] [--session FILE] [--words WORD,WORD..] [--json]\n"
      "\n"
      "Says of each name that a script uses, in its order, what it is: a global, a local,\n"
      "a built-in word, a variable captured from a function further out, or the function\n"
@@ -69,16 +90,18 @@ static const struct {
      "\n"
      "  --tree              the script is a tree in bytes, not a text\n"
      "  --session FILE      the session of this file, so its globals and built-in words\n"
-     "  --words WORD,..     a fresh session with these built-in words alone\n"},
+     "  --words WORD,..     a fresh session with these built-in words alone\n"
+     "  --json              one object in JSON for each file, refused or not\n"},
     {"list",
-     "profile list IMAGE.. [-o FILE]\n"
+     "profile list IMAGE.. [--json] [-o FILE]\n"
      "\n"
      "Checks images and lists code and constants as text; of several each listing is\n"
      "headed by its file.\n"
      "\n"
-     "  -o, --output FILE   where the listings go, if none is refused\n"},
+     "  -o, --output FILE   where the listings go, if none is refused\n"
+     "  --json              one object in JSON for each file, refused or not\n"},
     {"check",
-     "profile check IMAGE..\n"
+     "profile check IMAGE.. [--json]\n"
      "\n"
      "Says of each image in one line, with status 1 if one part of one image fails,\n"
      "whether it\n"
@@ -87,45 +110,58 @@ static const struct {
      "  reached, and main ends with nothing left; else the first instruction at fault;\n"
      "- what the code names is there: constants, functions, where jumps go, locals,\n"
      "  captures; of globals and built-in words, which an image does not hold, not more\n"
-     "  than 1024 and 24.\n"},
+     "  than 1024 and 24.\n"
+     "\n"
+     "  --json              one object in JSON for each file, refused or not\n"},
     {"depth",
-     "profile depth IMAGE..\n"
+     "profile depth IMAGE.. [--json]\n"
      "\n"
      "Prints how many values the stack holds at most: in main, and in each function by\n"
      "its pool index; of several images each line begins with the file. Refuses an image\n"
-     "whose stack would not be right.\n"},
+     "whose stack would not be right, and says where it is not.\n"
+     "\n"
+     "  --json              one object in JSON for each file, refused or not\n"},
     {"run",
-     "profile run IMAGE [--session FILE]\n"
+     "profile run IMAGE [--script FILE] [--session FILE] [--words WORD,WORD..] [--json]\n"
      "\n"
      "Runs the main code, all globals unset at first, and prints each global: index, kind,\n"
-     "value. Only arithmetic, comparisons, branches and globals can be run.\n"
+     "value. Only arithmetic, comparisons, branches and globals can be run; of anything\n"
+     "else the instruction is named, and what of the pool it takes.\n"
      "\n"
-     "  --session FILE      the session in which the image was compiled: their names too\n"},
+     "  --script FILE       the text that was compiled: its statement is shown where the\n"
+     "                      run is refused or stops\n"
+     "  --session FILE      the session in which the image was compiled: their names too\n"
+     "  --words WORD,..     without it, the built-in words with which it was\n"
+     "  --json              one object in JSON for each file, refused or not\n"},
     {"frames",
-     "profile frames SIZE IMAGE [-o DIR]\n"
+     "profile frames SIZE IMAGE [--json] [-o DIR]\n"
      "\n"
      "Counts the frames of SIZE bytes, 16 to 1024, and the bytes that are left.\n"
      "\n"
      "  -o, --output DIR    write each into this directory: frame-0000, frame-0001, ..\n"
-     "                      It is made where it is not there, and may have no frames yet\n"},
+     "                      It is made where it is not there, and may have no frames yet\n"
+     "  --json              one object in JSON for each file, refused or not\n"},
     {"chin",
-     "profile chin IMAGE [-o OUT]\n"
+     "profile chin IMAGE [--json] [-o OUT]\n"
      "\n"
      "Translates an image into the chin unit's form.\n"
      "\n"
-     "  -o, --output OUT    where this goes\n"},
+     "  -o, --output OUT    where this goes\n"
+     "  --json              a refusal as an object in JSON on standard output\n"},
     {"unchin",
-     "profile unchin OUT [-o IMAGE]\n"
+     "profile unchin OUT [--json] [-o IMAGE]\n"
      "\n"
      "Translates the chin unit's form back into an image.\n"
      "\n"
-     "  -o, --output IMAGE  where the image goes\n"},
+     "  -o, --output IMAGE  where the image goes\n"
+     "  --json              a refusal as an object in JSON on standard output\n"},
     {"load",
-     "profile load SEED [-o TREE]\n"
+     "profile load SEED [--json] [-o TREE]\n"
      "\n"
      "Writes the test tree of a seed, 0 to 4294967295: always the same for the same seed.\n"
      "\n"
-     "  -o, --output TREE   where the tree goes\n"},
+     "  -o, --output TREE   where the tree goes\n"
+     "  --json              a refusal as an object in JSON on standard output\n"},
     {"explain",
      "profile explain [NUMBER]\n"
      "\n"

@@ -12,33 +12,43 @@
 
 enum { IMAGE_TAG = 0x50, CHIN_TAG = 0x58 };
 
+/* Main, among the pool indices of functions. */
+enum { MAIN = MONKEY_CHUNKS_LIMIT };
+
 static uint8_t image[IMAGE_ROOM];
 static size_t image_length;
 static uint8_t listing[MONKEY_LISTING_LIMIT];
 static uint8_t turned[MONKEY_IMAGE_LIMIT];
 static uint32_t heights[MONKEY_HEIGHTS_LIMIT];
 static uint32_t greatest[MONKEY_CHUNKS_LIMIT];
-static uint64_t work[MONKEY_WORK_SIZE];
-static uint8_t globals[MONKEY_GLOBALS_LIMIT];
-static uint8_t session[MONKEY_SESSION_SIZE];
 
 /* Reads the image that a command is given. */
-static int read_image(const char *path) {
+static int take_image(const char *path) {
     return read_input(path, image, sizeof image, &image_length);
+}
+
+/* Reads an image, and answers where it is too. */
+int read_image(const char *path, const uint8_t **bytes, size_t *length) {
+    int status = take_image(path);
+    *bytes = image;
+    *length = image_length;
+    return status;
 }
 
 /* Refuses an output that is the image; else reads that. */
 static int read_other(const struct arguments *a) {
     char *written[] = {(char *)a->output};
     int status = check_places(a->command, written, 1, a->operands, a->count);
-    return status == DONE ? read_image(a->operands[0]) : status;
+    return status == DONE ? take_image(a->operands[0]) : status;
 }
 
-/* Says why an image was refused: a chunk, an offset, or that it is something else. */
-static int refuse_image(const char *path, uint64_t answer) {
+/* Says why the image that was read was refused: a chunk and why, an offset, or that it is something else. */
+int refuse_image(const char *path, uint64_t answer) {
+    char why[160];
     switch (monkey_number(answer)) {
     case MONKEY_BAD_HEIGHTS:
-        return refuse_chunk(path, answer);
+        explain_chunk(why, sizeof why, image, image_length, monkey_value(answer));
+        return refuse_chunk(path, answer, why);
     case MONKEY_BAD_IMAGE:
         return refuse_for(path, answer, word_of(MONKEY_BAD_IMAGE), mistaken(image, image_length, IMAGE_TAG), "image");
     default:
@@ -47,7 +57,7 @@ static int refuse_image(const char *path, uint64_t answer) {
 }
 
 /* Reads a decimal number up to a limit; whether the word is one. */
-static int read_number(const char *word, unsigned long long limit, unsigned long long *number) {
+int read_number(const char *word, unsigned long long limit, unsigned long long *number) {
     char *end;
     errno = 0;
     *number = strtoull(word, &end, 10);
@@ -75,7 +85,7 @@ static FILE *listings;
 /* Lists an image, of several behind a line with its name. */
 static int list_image(const struct arguments *a, const char *path) {
     static const char *between = "";
-    int status = read_image(path);
+    int status = take_image(path);
     if (status != DONE) {
         return status;
     }
@@ -83,11 +93,17 @@ static int list_image(const struct arguments *a, const char *path) {
     if (monkey_number(answer) != 0) {
         return refuse_image(path, answer);
     }
-    if (a->count > 1) {
-        fprintf(listings, "%s%s:\n", between, shown_path(path));
-        between = "\n";
+    if (is_json()) {
+        begin_object(listings, path);
+        put_text("listing", listing, monkey_value(answer));
+        end_object();
+    } else {
+        if (a->count > 1) {
+            fprintf(listings, "%s%s:\n", between, shown_path(path));
+            between = "\n";
+        }
+        fwrite(listing, 1, monkey_value(answer), listings);
     }
-    fwrite(listing, 1, monkey_value(answer), listings);
     return listings == stdout ? finish_stdout() : DONE;
 }
 
@@ -132,7 +148,7 @@ static uint64_t measure(void) {
 static int check_image(const struct arguments *a, const char *path) {
     (void)a;
     uint8_t none;
-    int status = read_image(path);
+    int status = take_image(path);
     if (status != DONE) {
         return status;
     }
@@ -160,18 +176,41 @@ static unsigned next_function(size_t *at, unsigned *index) {
     }
 }
 
-/* Prints the depth of a chunk: of several images its own first. */
-static void print_depth(const struct arguments *a, const char *path, const char *chunk, unsigned depth) {
+/* Prints the depth of a function by its pool index, or of main, where it is MAIN; of several images the image first. */
+static void print_depth(const struct arguments *a, const char *path, unsigned function, unsigned depth) {
     if (a->count > 1) {
         printf("%s: ", shown_path(path));
     }
-    printf("%s %u\n", chunk, depth);
+    if (function == MAIN) {
+        printf("main %u\n", depth);
+    } else {
+        printf("function %u %u\n", function, depth);
+    }
+}
+
+/* Prints the depth of a function as an object. */
+static void put_depth(const struct arguments *a, const char *path, unsigned function, unsigned depth) {
+    (void)a;
+    (void)path;
+    begin_item();
+    put_number("index", function);
+    put_number("depth", depth);
+    end_item();
+}
+
+/* Does one thing with each function of a sound image: its pool index and its depth. */
+static void each_function(const struct arguments *a, const char *path, uint32_t chunks,
+                          void (*one)(const struct arguments *, const char *, unsigned, unsigned)) {
+    size_t at = 3 + (size_t)image[1] * 256 + image[2] + 3;
+    unsigned index = 0;
+    for (uint32_t k = 1; k < chunks; k++) {
+        one(a, path, next_function(&at, &index), (unsigned)greatest[k]);
+    }
 }
 
 /* Prints the depths of an image. */
 static int measure_image(const struct arguments *a, const char *path) {
-    char chunk[32];
-    int status = read_image(path);
+    int status = take_image(path);
     if (status != DONE) {
         return status;
     }
@@ -179,12 +218,16 @@ static int measure_image(const struct arguments *a, const char *path) {
     if (monkey_number(answer) != 0) {
         return refuse_image(path, answer);
     }
-    size_t at = 3 + (size_t)image[1] * 256 + image[2] + 3;
-    unsigned index = 0;
-    print_depth(a, path, "main", (unsigned)greatest[0]);
-    for (uint32_t k = 1; k < monkey_value(answer); k++) {
-        snprintf(chunk, sizeof chunk, "function %u", next_function(&at, &index));
-        print_depth(a, path, chunk, (unsigned)greatest[k]);
+    if (is_json()) {
+        begin_object(stdout, path);
+        put_number("main", greatest[0]);
+        begin_list("functions");
+        each_function(a, path, monkey_value(answer), put_depth);
+        end_list();
+        end_object();
+    } else {
+        print_depth(a, path, MAIN, (unsigned)greatest[0]);
+        each_function(a, path, monkey_value(answer), print_depth);
     }
     return finish_stdout();
 }
@@ -192,68 +235,6 @@ static int measure_image(const struct arguments *a, const char *path) {
 /* profile depth */
 int run_depth(const struct arguments *a) {
     return each_image(a, measure_image);
-}
-
-/* Reads the session whose names are shown; the compiler judges it, on a script without statements. */
-static int read_names(const struct arguments *a) {
-    static const uint8_t nothing[] = {0x10, 0, 0};
-    static uint8_t code[MONKEY_CODE_SIZE];
-    static uint32_t table[MONKEY_TABLE_SIZE];
-    int status = read_session(a->session, session);
-    if (status != DONE) {
-        return status;
-    }
-    uint64_t answer = monkey_compile(session, sizeof session, nothing, sizeof nothing, turned, sizeof turned, code, sizeof code, table, MONKEY_TABLE_SIZE);
-    return monkey_number(answer) == 0 ? DONE : refuse_plainly(a->session, answer);
-}
-
-/* Prints the row of a global: index, kind, value, and its name where a session has one. */
-static void print_global(const struct arguments *a, unsigned index, const uint8_t *row) {
-    static const char *const kinds[] = {"unset", "integer", "boolean", "null"};
-    char value[32];
-    uint64_t bits = 0;
-    size_t length = 0;
-    for (int i = 1; i < 9; i++) {
-        bits = bits << 8 | row[i];
-    }
-    if (row[0] == 1) {
-        snprintf(value, sizeof value, "%lld", (long long)(int64_t)bits);
-    } else {
-        snprintf(value, sizeof value, "%s", row[0] != 2 ? "-" : bits != 0 ? "true" : "false");
-    }
-    const uint8_t *name = a->session == NULL ? NULL : global_name(session, index, &length);
-    printf("%-8u%-9s%-*s", index, kinds[row[0]], name == NULL ? 0 : 21, value);
-    for (size_t i = 0; name != NULL && i < length; i++) {
-        putchar(name[i] > ' ' && name[i] < 127 ? name[i] : '?');
-    }
-    putchar('\n');
-}
-
-/* profile run */
-int run_run(const struct arguments *a) {
-    int status = read_image(a->operands[0]);
-    if (status == DONE && a->session != NULL) {
-        status = read_names(a);
-    }
-    if (status != DONE) {
-        return status;
-    }
-    uint64_t answer = monkey_propose_heights(image, image_length, heights, MONKEY_HEIGHTS_LIMIT);
-    if (monkey_number(answer) == 0) {
-        answer = monkey_run(image, image_length, heights, monkey_value(answer), work, MONKEY_WORK_SIZE, globals, sizeof globals);
-    }
-    if (monkey_number(answer) >= MONKEY_NOT_RUNNABLE) {
-        return refuse_trial(a->operands[0], answer, image, a->session == NULL ? NULL : session);
-    }
-    if (monkey_number(answer) != 0) {
-        return refuse_image(a->operands[0], answer);
-    }
-    printf("%-8s%-9s%s\n", "global", "kind", a->session == NULL ? "value" : "value                name");
-    for (unsigned k = 0; k < monkey_run_globals(answer); k++) {
-        print_global(a, k, globals + 9 * k);
-    }
-    printf("%u instructions executed\n", (unsigned)monkey_run_steps(answer));
-    return finish_stdout();
 }
 
 /* Refuses a directory that has frames: those of two images would be mixed. */
@@ -312,14 +293,14 @@ int run_frames(const struct arguments *a) {
     }
     int status = check_frames(a);
     if (status == DONE) {
-        status = read_image(a->operands[1]);
+        status = take_image(a->operands[1]);
     }
     if (status != DONE) {
         return status;
     }
     uint64_t answer = monkey_count_frames(image, image_length, (size_t)size);
     if (monkey_number(answer) == MONKEY_FRAME_SIZE) {
-        return refuse_plainly(a->operands[0], answer);
+        return refuse_plainly(a->operands[is_json() ? 1 : 0], answer); /* an object is about a file, a message about the size */
     }
     if (monkey_number(answer) != 0) {
         return refuse_image(a->operands[1], answer);
@@ -328,6 +309,14 @@ int run_frames(const struct arguments *a) {
     status = a->output == NULL ? DONE : write_frames(a->output, (size_t)size, count);
     if (status != DONE) {
         return status;
+    }
+    if (is_json()) {
+        begin_object(stdout, a->operands[1]);
+        put_number("size", (long long)size);
+        put_number("whole", monkey_whole(answer));
+        put_number("rest", monkey_rest(answer));
+        end_object();
+        return finish_stdout();
     }
     printf("%u whole frames of %u bytes, rest %u\n", (unsigned)monkey_whole(answer), (unsigned)size, (unsigned)monkey_rest(answer));
     return finish_stdout();

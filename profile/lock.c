@@ -26,6 +26,12 @@ static int lock_error(const struct arguments *a, const char *path, const char *w
     return FAILED;
 }
 
+/* Says that another command has the session. */
+static int busy_error(const struct arguments *a) {
+    fprintf(stderr, "profile: %s: another command is writing this session; without --no-wait it is waited for\n", shown_path(a->session));
+    return BUSY;
+}
+
 /* Opens the file of a lock, and makes it where it is not there, for all who may write the session; -1 with an error. */
 static int open_lock(const char *path, const char *session) {
     for (;;) {
@@ -44,17 +50,23 @@ static int open_lock(const char *path, const char *session) {
     }
 }
 
+/* Tries to lock an open file: 1, if it could, 0, if another command has it, else -1. */
+static int try_lock(int descriptor) {
+    struct flock whole = {.l_type = F_WRLCK, .l_whence = SEEK_SET};
+    if (fcntl(descriptor, F_SETLK, &whole) == 0) {
+        return 1;
+    }
+    return errno == EAGAIN || errno == EACCES || errno == EINTR ? 0 : -1;
+}
+
 /* Locks an open file, and waits for it where another command has it; whether it could. */
 static int wait_for(const struct arguments *a, int descriptor) {
     static int said = 0;
     struct timespec turn = {0, TURN};
     for (int k = 0; k < TURNS && !said; k++) {
-        struct flock whole = {.l_type = F_WRLCK, .l_whence = SEEK_SET};
-        if (fcntl(descriptor, F_SETLK, &whole) == 0) {
-            return 1;
-        }
-        if (errno != EAGAIN && errno != EACCES && errno != EINTR) {
-            return 0;
+        int locked = try_lock(descriptor);
+        if (locked != 0) {
+            return locked > 0;
         }
         nanosleep(&turn, NULL);
     }
@@ -84,6 +96,10 @@ static int take(const struct arguments *a, const char *path, const char *session
         if (!S_ISREG(held.st_mode) || held.st_size != 0) {
             close(descriptor);
             return lock_error(a, path, "not an empty file");
+        }
+        if (a->no_wait && try_lock(descriptor) == 0) {
+            close(descriptor);
+            return busy_error(a);
         }
         if (!wait_for(a, descriptor)) {
             int status = lock_error(a, path, strerror(errno));

@@ -17,16 +17,17 @@ struct command {
 static int run_help(const struct arguments *a);
 
 static const struct command commands[] = {
-    {"compile", run_compile, 1, (size_t)-1, "oswtg"},
-    {"names", run_names, 1, 1, "swt"},
-    {"list", run_list, 1, (size_t)-1, "o"},
-    {"check", run_check, 1, (size_t)-1, ""},
-    {"depth", run_depth, 1, (size_t)-1, ""},
-    {"run", run_run, 1, 1, "s"},
-    {"frames", run_frames, 2, 2, "o"},
-    {"chin", run_chin, 1, 1, "o"},
-    {"unchin", run_unchin, 1, 1, "o"},
-    {"load", run_load, 1, 1, "o"},
+    {"compile", run_compile, 1, (size_t)-1, "oswtgjna"},
+    {"alike", run_alike, 1, (size_t)-1, "wtfj"},
+    {"names", run_names, 1, 1, "swtj"},
+    {"list", run_list, 1, (size_t)-1, "oj"},
+    {"check", run_check, 1, (size_t)-1, "j"},
+    {"depth", run_depth, 1, (size_t)-1, "j"},
+    {"run", run_run, 1, 1, "swcj"},
+    {"frames", run_frames, 2, 2, "oj"},
+    {"chin", run_chin, 1, 1, "oj"},
+    {"unchin", run_unchin, 1, 1, "oj"},
+    {"load", run_load, 1, 1, "oj"},
     {"explain", run_explain, 0, 1, ""},
     {"help", run_help, 0, 1, ""},
 };
@@ -45,6 +46,11 @@ static const struct option options[] = {
     {'w', "--words", 1},
     {'t', "--tree", 0},
     {'g', "--together", 0},
+    {'a', "--alike", 0},
+    {'f', "--frames", 1},
+    {'j', "--json", 0},
+    {'n', "--no-wait", 0},
+    {'c', "--script", 1},
     {'q', "-q", 0},
     {'q', "--quiet", 0},
     {'h', "--help", 0},
@@ -108,6 +114,45 @@ static int no_option(const struct command *c, const char *word) {
     return unknown_error(c->name, "no option ", word, n.best);
 }
 
+/* Sets an option without a value. */
+static void set_flag(struct arguments *a, char letter) {
+    switch (letter) {
+    case 't':
+        a->tree = 1;
+        break;
+    case 'g':
+        a->together = 1;
+        break;
+    case 'j':
+        a->json = 1;
+        break;
+    case 'n':
+        a->no_wait = 1;
+        break;
+    case 'a':
+        a->alike = 1;
+        break;
+    default:
+        a->quiet = 1;
+    }
+}
+
+/* Where the value of an option goes. */
+static const char **value_place(struct arguments *a, char letter) {
+    switch (letter) {
+    case 'o':
+        return &a->output;
+    case 's':
+        return &a->session;
+    case 'c':
+        return &a->script;
+    case 'f':
+        return &a->frames;
+    default:
+        return &a->words;
+    }
+}
+
 /* Takes the option at an index, and moves the index to its last word. */
 static int take_option(const struct command *c, struct arguments *a, char **words, int count, int *k) {
     const char *word = words[*k];
@@ -117,10 +162,10 @@ static int take_option(const struct command *c, struct arguments *a, char **word
         return no_option(c, word);
     }
     if (!o->valued) {
-        *(o->letter == 't' ? &a->tree : o->letter == 'g' ? &a->together : &a->quiet) = 1;
+        set_flag(a, o->letter);
         return DONE;
     }
-    const char **place = o->letter == 'o' ? &a->output : o->letter == 's' ? &a->session : &a->words;
+    const char **place = value_place(a, o->letter);
     if (*place != NULL) {
         return usage_error(c->name, "given twice: ", word);
     }
@@ -128,12 +173,12 @@ static int take_option(const struct command *c, struct arguments *a, char **word
         return usage_error(c->name, "no value behind ", word);
     }
     *place = value != NULL ? value : words[++*k];
-    return **place == 0 && o->letter != 'w' ? usage_error(c->name, "an empty file name behind ", word) : DONE;
+    return **place == 0 && o->letter != 'w' && o->letter != 'f' ? usage_error(c->name, "an empty file name behind ", word) : DONE;
 }
 
 /* Judges how many operands there are, and what each is. */
 static int check_operands(const struct command *c, const struct arguments *a) {
-    int standard = 0;
+    int standard = a->script != NULL && is_standard_input(a->script);
     if (a->count < c->least || a->count > c->most) {
         return usage_error(c->name, a->count < c->least ? "too few operands" : "too many operands", "");
     }
@@ -197,7 +242,8 @@ int main(int count, char **words) {
     if (asks_help(words + 2, count - 2)) {
         return print_help(c->name);
     }
-    struct arguments a = {c->name, NULL, NULL, NULL, 0, 0, 0, words + 2, 0};
+    struct arguments a = {.command = c->name, .operands = words + 2};
     int status = take_words(c, &a, words + 2, count - 2);
+    want_json(a.json);
     return status == DONE ? c->run(&a) : status;
 }

@@ -13,7 +13,7 @@ int has_fields(uint8_t tag) {
 }
 
 /* Whether a field has a mark in the text. */
-static int is_mark(uint8_t tag) {
+int is_mark(uint8_t tag) {
     return tag == 0x13 || tag == 0x14 || tag == 0x20 || tag == 0x23 || tag == 0x24 || (tag >= 0x26 && tag <= 0x28) || tag == 0x30;
 }
 

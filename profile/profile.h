@@ -6,18 +6,19 @@
 
 #include <stddef.h>
 #include <stdint.h>
+#include <stdio.h>
 #include <sys/types.h>
 
 #include "monkey.h"
 
 /* Exit statuses. */
-enum { DONE = 0, REFUSED = 1, FAILED = 2 };
+enum { DONE = 0, REFUSED = 1, FAILED = 2, BUSY = 3 };
 
 /*
  * The bytes that are read of a file: one past the longest tree or image, and far past the longest text (8,192). What is behind them cannot change the answer: such a
  * file is refused, whatever it goes on with, and its place is before them.
  */
-enum { TREE_ROOM = MONKEY_TREE_LIMIT + 1, IMAGE_ROOM = MONKEY_IMAGE_LIMIT + 1, TEXT_ROOM = 65536 };
+enum { TREE_ROOM = MONKEY_TREE_LIMIT + 1, IMAGE_ROOM = MONKEY_IMAGE_LIMIT + 1, TEXT_ROOM = 65536, TEXT_LIMIT = 8192 };
 
 /* The options and operands of a subcommand. */
 struct arguments {
@@ -25,9 +26,14 @@ struct arguments {
     const char *output;   /* --output, or null */
     const char *session;  /* --session, or null */
     const char *words;    /* --words, or null */
+    const char *frames;   /* --frames, or null */
+    const char *script;   /* --script, or null */
     int tree;             /* --tree */
     int together;         /* --together */
+    int alike;            /* --alike */
     int quiet;            /* --quiet: errors alone on standard error */
+    int json;             /* --json */
+    int no_wait;          /* --no-wait */
     char **operands;
     size_t count;
 };
@@ -81,7 +87,7 @@ int file_error(const char *path);
 int refuse_for(const char *path, uint64_t answer, const char *why, const char *more, const char *of);
 int refuse_at_offset(const char *path, uint64_t answer, const char *of);
 int refuse_plainly(const char *path, uint64_t answer);
-int refuse_chunk(const char *path, uint64_t answer);
+int refuse_chunk(const char *path, uint64_t answer, const char *why);
 int refuse_stack(const char *path, uint64_t answer, const char *why, const char *names);
 int refuse_names(const char *path, const char *names);
 
@@ -95,16 +101,42 @@ struct message {
     size_t noted;
 };
 
+/* The offset of an error that has none. */
+enum { NO_OFFSET = -1 };
+
 /* source.c */
-int say_error(const char *path, unsigned number, const char *reason);
+int say_error(const char *path, long long offset, unsigned number, const char *reason);
 int say_message(const struct message *m, unsigned number);
+void say_place(const struct message *m, const char *head, const char *reason);
 void position_of(const uint8_t *text, size_t length, size_t place, unsigned *line, unsigned *column);
+
+/* json.c */
+void want_json(int json);
+int is_json(void);
+void begin_object(FILE *stream, const char *path);
+void end_object(void);
+void begin_list(const char *key);
+void end_list(void);
+void begin_item(void);
+void end_item(void);
+void begin_part(const char *key);
+void put_place(const struct message *m, size_t place, const char *reason);
+void put_text(const char *key, const uint8_t *bytes, size_t length);
+void put_word(const char *key, const char *word);
+void put_number(const char *key, long long number);
+void put_literal(const char *key, const char *literal);
+int print_refusal(const char *path, long long offset, unsigned number, const char *reason);
+int print_message(const struct message *m, unsigned number);
 
 /* numbers.c */
 const char *word_of(unsigned number);
 
 /* reasons.c: why a text is refused by its number and place, and where, in words */
 void find_reason(struct message *m, uint64_t answer);
+size_t find_ends(const uint8_t *text, size_t length, size_t *ends);
+
+/* callee.c */
+size_t call_place(const uint8_t *text, size_t length, size_t mark);
 
 /* kinds.c */
 const char *mistaken(const uint8_t *bytes, size_t length, uint8_t tag);
@@ -147,16 +179,31 @@ struct walk {
 
 /* places.c */
 int has_fields(uint8_t tag);
+int is_mark(uint8_t tag);
 int is_digit(uint8_t b);
 struct token next_token(const uint8_t *text, size_t length, size_t at);
 struct walk begin_walk(const uint8_t *tree, size_t tree_length, const uint8_t *text, size_t text_length);
 size_t place_in_text(struct walk *w, size_t offset);
 
+/* names.c */
+void print_records(const struct arguments *a, const char *path, struct walk *w, struct monkey_name *names, size_t count);
+
+/* images.c: the image that was read last */
+int read_number(const char *word, unsigned long long limit, unsigned long long *number);
+int read_image(const char *path, const uint8_t **bytes, size_t *length);
+int refuse_image(const char *path, uint64_t answer);
+
 /* check.c */
 int report_check(const char *path, const uint8_t *image, size_t length, uint64_t stack);
+void explain_chunk(char *text, size_t room, const uint8_t *image, size_t length, size_t number);
+void describe_constant(char *text, size_t room, const uint8_t *image, size_t length, unsigned index);
 
 /* trial.c */
-int refuse_trial(const char *path, uint64_t answer, const uint8_t *image, const uint8_t *session);
+void explain_trial(char *reason, size_t room, uint64_t answer, const uint8_t *image, size_t length, const uint8_t *session);
+
+/* lines.c */
+int read_lines(const struct arguments *a, const uint8_t *image, size_t image_length, const uint8_t *session);
+void find_line(struct message *m, size_t offset, const uint8_t *session);
 
 /* session.c */
 int find_session(const char *path);
@@ -176,6 +223,7 @@ int print_version(void);
 
 /* The subcommands: each answers an exit status. */
 int run_compile(const struct arguments *a);
+int run_alike(const struct arguments *a);
 int run_names(const struct arguments *a);
 int run_list(const struct arguments *a);
 int run_check(const struct arguments *a);

@@ -8,7 +8,7 @@
 
 #include "profile.h"
 
-enum { TEXT_LIMIT = 8192, NAME_LIMIT = 32, TOKEN_SHOWN = 40 };
+enum { NAME_LIMIT = 32, TOKEN_SHOWN = 40 };
 
 /* Operators that the language lacks, the longest first, and what to write. */
 static const struct {
@@ -275,20 +275,26 @@ static void explain_integer(struct message *m) {
     snprintf(m->reason, sizeof m->reason, "integers are at most 9223372036854775807%s", lowest);
 }
 
-/* Finds the statement in which the tree of a text passes a limit: the first that, with those before it, is refused by the number too. */
-static void find_statement(struct message *m, unsigned number) {
-    static uint8_t tree[TREE_ROOM];
-    static size_t ends[TEXT_LIMIT + 2];
+/* Finds where the statements of a text end that end in a ; and 0 as the first: how many these are, at most TEXT_LIMIT + 2. */
+size_t find_ends(const uint8_t *text, size_t length, size_t *ends) {
     size_t count = 1, depth = 0;
     ends[0] = 0;
-    struct token t = next_token(m->text, m->length, 0);
-    for (; t.kind != MONKEY_TOKEN_ENDED; t = next_token(m->text, m->length, t.end)) {
+    struct token t = next_token(text, length, 0);
+    for (; t.kind != MONKEY_TOKEN_ENDED; t = next_token(text, length, t.end)) {
         depth += (size_t)opens(t.kind);
         depth -= (size_t)closes(t.kind);
         if (t.kind == MONKEY_TOKEN_SEMICOLON && depth == 0) {
             ends[count++] = t.end;
         }
     }
+    return count;
+}
+
+/* Finds the statement in which the tree of a text passes a limit: the first that, with those before it, is refused by the number too. */
+static void find_statement(struct message *m, unsigned number) {
+    static uint8_t tree[TREE_ROOM];
+    static size_t ends[TEXT_LIMIT + 2];
+    size_t count = find_ends(m->text, m->length, ends);
     size_t low = 0, high = count; /* what ends at low is taken; what ends at high is not, or is the whole */
     while (high - low > 1) {
         size_t middle = low + (high - low) / 2;

@@ -56,7 +56,7 @@ int file_error(const char *path) {
 int refuse_for(const char *path, uint64_t answer, const char *why, const char *more, const char *of) {
     char reason[512];
     snprintf(reason, sizeof reason, "%s%s, at offset %u of the %s", why, more, (unsigned)monkey_value(answer), of);
-    return say_error(path, monkey_number(answer), reason);
+    return say_error(path, monkey_value(answer), monkey_number(answer), reason);
 }
 
 /* Says a refusal whose place is an offset of what is named. */
@@ -66,7 +66,7 @@ int refuse_at_offset(const char *path, uint64_t answer, const char *of) {
 
 /* Says a refusal that has no place. */
 int refuse_plainly(const char *path, uint64_t answer) {
-    return say_error(path, monkey_number(answer), word_of(monkey_number(answer)));
+    return say_error(path, NO_OFFSET, monkey_number(answer), word_of(monkey_number(answer)));
 }
 
 /* Says that the stack of a chunk fails; before and behind it what else there is to say. */
@@ -77,12 +77,12 @@ static int refuse_chunk_and(const char *path, uint64_t answer, const char *first
         snprintf(place, sizeof place, "function %u", chunk - 1);
     }
     snprintf(reason, sizeof reason, "%sthe stack fails in %s%s", first, place, rest);
-    return say_error(path, monkey_number(answer), reason);
+    return say_error(path, NO_OFFSET, monkey_number(answer), reason);
 }
 
-/* Says that the stack of a chunk fails. */
-int refuse_chunk(const char *path, uint64_t answer) {
-    return refuse_chunk_and(path, answer, "", "");
+/* Says that the stack of a chunk fails, and why. */
+int refuse_chunk(const char *path, uint64_t answer, const char *why) {
+    return refuse_chunk_and(path, answer, "", why);
 }
 
 /* Says that an image decodes and its stack fails, why, and what is said of the names in its code. */
@@ -96,5 +96,5 @@ int refuse_stack(const char *path, uint64_t answer, const char *why, const char 
 int refuse_names(const char *path, const char *names) {
     char reason[256];
     snprintf(reason, sizeof reason, "decodes; the stack passes; %s", names);
-    return say_error(path, 0, reason);
+    return say_error(path, NO_OFFSET, 0, reason);
 }

@@ -29,9 +29,12 @@ static const char *plain(void) {
     return is_coloured() ? "\033[0m" : "";
 }
 
-/* Says an error of a file: its number, or 0 where it has none, and the reason. */
-int say_error(const char *path, unsigned number, const char *reason) {
+/* Says an error of a file: its number, or 0 where it has none, and the reason, in which the offset is named. */
+int say_error(const char *path, long long offset, unsigned number, const char *reason) {
     char numbered[16] = "";
+    if (is_json()) {
+        return print_refusal(path, offset, number, reason);
+    }
     if (number > 0) {
         snprintf(numbered, sizeof numbered, "[%u]", number);
     }
@@ -110,9 +113,20 @@ static void print_line(const struct message *m, size_t place, unsigned line, uns
     fprintf(stderr, "      | %s%s%s^%s\n", begin > first ? "  " : "", blanks, red(), plain());
 }
 
+/* Says what stands at a place of a text, which is no error. */
+void say_place(const struct message *m, const char *head, const char *reason) {
+    unsigned line, column;
+    position_of(m->text, m->length, m->place, &line, &column);
+    fprintf(stderr, "%s:%u:%u: %s: %s\n", shown_path(m->path), line, column, head, reason);
+    print_line(m, m->place, line, column);
+}
+
 /* Says an error at a place of a text, and the note on it. */
 int say_message(const struct message *m, unsigned number) {
     unsigned line, column;
+    if (is_json()) {
+        return print_message(m, number);
+    }
     position_of(m->text, m->length, m->place, &line, &column);
     fprintf(stderr, "%s:%u:%u: %serror[%u]:%s %s\n", shown_path(m->path), line, column, red(), number, plain(), m->reason);
     print_line(m, m->place, line, column);

@@ -17,7 +17,7 @@ static const char *untaken(const uint8_t *at) {
     case GET_BUILTIN:
         return "a built-in word";
     case CONSTANT:
-        return "a constant that is no integer (a string)";
+        return "a constant that is no integer";
     case ARRAY:
         return "an array";
     case HASH:
@@ -44,26 +44,27 @@ static const char *wrong_operands(const uint8_t *at) {
     }
 }
 
-/* Says why a trial run refused an image at an instruction; globals have their names where a session is given. */
-int refuse_trial(const char *path, uint64_t answer, const uint8_t *image, const uint8_t *session) {
-    char reason[320], name[64], global[40] = "this global";
+/* Writes why a trial run refused an image at an instruction; globals have their names where a session is given. */
+void explain_trial(char *reason, size_t room, uint64_t answer, const uint8_t *image, size_t length, const uint8_t *session) {
+    char name[64], entry[120] = "", global[40] = "this global";
     const uint8_t *at = image + monkey_value(answer);
-    size_t length = 0;
-    const uint8_t *named = session == NULL ? NULL : global_name(session, operand_of(at), &length);
+    size_t name_length = 0;
+    const uint8_t *named = session == NULL ? NULL : global_name(session, operand_of(at), &name_length);
     name_instruction(name, sizeof name, image, at);
     switch (monkey_number(answer)) {
     case MONKEY_NOT_RUNNABLE:
-        snprintf(reason, sizeof reason, "%s: main has %s here, and only arithmetic, comparisons, branches and globals can be run",
-                 name, untaken(at));
+        if (at[0] == CONSTANT || at[0] == CLOSURE) {
+            describe_constant(entry, sizeof entry, image, length, operand_of(at));
+        }
+        snprintf(reason, room, "%s: main has %s here%s, and only arithmetic, comparisons, branches and globals can be run", name, untaken(at), entry);
         break;
     case MONKEY_OPERAND:
-        snprintf(reason, sizeof reason, "%s: %s", name, wrong_operands(at));
+        snprintf(reason, room, "%s: %s", name, wrong_operands(at));
         break;
     default:
         if (named != NULL) {
-            snprintf(global, sizeof global, "the global %.*s", (int)length, (const char *)named);
+            snprintf(global, sizeof global, "the global %.*s", (int)name_length, (const char *)named);
         }
-        snprintf(reason, sizeof reason, "%s: %s is not yet set", name, shown(global));
+        snprintf(reason, room, "%s: %s is not yet set", name, shown(global));
     }
-    return say_error(path, monkey_number(answer), reason);
 }

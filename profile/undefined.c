@@ -6,7 +6,7 @@
 
 #include "profile.h"
 
-enum { FUNCTION = 0x24, NAME = 0x30, WORDS = 0x42, NAME_LIMIT = 32 };
+enum { CALL = 0x25, FUNCTION = 0x24, NAME = 0x30, WORDS = 0x42, NAME_LIMIT = 32 };
 
 /* A number of two bytes. */
 static size_t two_bytes(const uint8_t *at) {
@@ -86,6 +86,9 @@ void explain_undefined(char *reason, size_t room, const uint8_t *session, const 
 void find_tree_reason(struct message *m, uint64_t answer, const uint8_t *session, const uint8_t *tree, size_t tree_length) {
     struct walk w = begin_walk(tree, tree_length, m->text, m->length);
     m->place = place_in_text(&w, monkey_value(answer));
+    if (monkey_number(answer) == MONKEY_TOO_MANY && tree[monkey_value(answer)] == CALL) {
+        m->place = call_place(m->text, m->length, m->place);
+    }
     if (monkey_number(answer) != MONKEY_UNDEFINED) {
         snprintf(m->reason, sizeof m->reason, "%s", word_of(monkey_number(answer)));
         return;

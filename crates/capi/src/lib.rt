@@ -3,14 +3,15 @@
 
 ghost use Rattle.std.specs.Prelude.{◌≡◌, ◌<◌, length};
 ghost use Rattle.compiler.specs.Stage.{lent_of};
-ghost use Rattle.capi.specs.Packed.{Fits, Packs, MakesPacked, WordsPacked, CompilesPacked, ListsPacked, LoadsPacked, ReadsPacked};
+ghost use Rattle.exported.specs.Packed.{Fits, Packs, MakesPacked, WordsPacked, CompilesPacked, ListsPacked, LoadsPacked, ReadsPacked};
 ghost use Rattle.chin.specs.Chin.{to_chin, from_chin};
-ghost use Rattle.capi.specs.Named.{NamesPacked};
-ghost use Rattle.capi.specs.Turned.{TurnsPacked};
-ghost use Rattle.capi.specs.Heights.{ChecksPacked, ProposesPacked};
-ghost use Rattle.capi.specs.Framed.{pair_answer, refusal_answer, CountsPacked, PlacesPacked, RefusesPacked};
-ghost use Rattle.capi.specs.Trial.{RunsPacked};
-ghost use Rattle.capi.specs.Token.{numbers_answer, numbers_into, TokenPacked};
+ghost use Rattle.exported.specs.Named.{NamesPacked};
+ghost use Rattle.exported.specs.Turned.{TurnsPacked};
+ghost use Rattle.exported.specs.Shaped.{ShapesPacked};
+ghost use Rattle.exported.specs.Heights.{ChecksPacked, ProposesPacked};
+ghost use Rattle.exported.specs.Framed.{pair_answer, refusal_answer, CountsPacked, PlacesPacked, RefusesPacked};
+ghost use Rattle.exported.specs.Trial.{RunsPacked};
+ghost use Rattle.exported.specs.Token.{numbers_answer, numbers_into, TokenPacked};
 ghost use Rattle.text.specs.Next.{three_of};
 
 use definition::{Reason, Refusal, refused};
@@ -211,6 +212,16 @@ pub extern "C" fn monkey_read_text(text: &[u8], output: &mut [u8]) -> u64
     ensures { ReadsPacked text.now output.old result output.new }
 {
     let answer = text::read_text(text, output);
+    pack(answer)
+}
+
+// Writes the shape of a tree to the output: its length, which is the tree's; or 3 or 4 and the place in the tree, or 15, and the output
+// stays.
+#[unsafe(no_mangle)]
+pub extern "C" fn monkey_write_shape(tree: &[u8], output: &mut [u8]) -> u64
+    ensures { ShapesPacked tree.now output.old result output.new }
+{
+    let answer = shape::write_shape(tree, output);
     pack(answer)
 }
 

@@ -69,10 +69,10 @@ pub data ChinAnswers : Outcome → Outcome → Outcome → Type 0 where
   no_images : (r : Refusal) → ChinAnswers (Outcome.refused r) (Outcome.refused r) (Outcome.refused r)
 
 -- the valid image of an outcome
-abbrev Valid : Outcome → Type 0
+abbrev pub Valid : Outcome → Type 0
 Valid o = (m : Image) → o ≡ Outcome.accepted m → ValidImage m
 
-outcomes-alike : {o q p : Outcome} → Valid o → Valid q → Valid p → OutcomeLike o p → OutcomeLike q p → ChinAnswers p o q
+pub outcomes-alike : {o q p : Outcome} → Valid o → Valid q → Valid p → OutcomeLike o p → OutcomeLike q p → ChinAnswers p o q
 outcomes-alike u v w (OutcomeLike.accepted {x = x} {y = m} r) (OutcomeLike.accepted {x = y} k) = ChinAnswers.images (alike_images (u x refl) (v y refl) (w m refl) r k)
 outcomes-alike u v w (OutcomeLike.refused r) (OutcomeLike.refused _) = ChinAnswers.no_images r
 

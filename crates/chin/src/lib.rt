@@ -7,7 +7,8 @@ mod row;
 ghost use Rattle.std.specs.Prelude.{◌≡◌, length};
 ghost use Rattle.definition.specs.Bytecode.{Image};
 ghost use Rattle.definition.specs.Number.{refusal, bad_jump};
-ghost use Rattle.chin.specs.Chin.{translate as translated, to_chin, from_chin, answer_of, output_of};
+ghost use Rattle.chin.specs.Chin.{translate as translated, to_chin, from_chin};
+ghost use Rattle.chin.specs.Promise.{Turns};
 ghost use Rattle.chin.specs.Rows.{jump_of, other_form, ImageAt, HasImage, TurnsImage, Copied};
 
 use bytecode::{Form, check_form};
@@ -64,8 +65,7 @@ fn write_form(image: &[u8], output: &mut [u8], from: Form) -> Result<usize, Refu
 
 // Translates an image of one form into the other: its length; or 17, 26 or 15, and the output stays.
 fn translate(image: &[u8], output: &mut [u8], from: Form) -> Result<usize, Refusal>
-    ensures answers { result ≡ answer_of (translated from (other_form from) (jump_of from) image.now) (length output.old) }
-    ensures writes { output.new ≡ output_of (translated from (other_form from) (jump_of from) image.now) output.old }
+    ensures { Turns (translated from (other_form from) (jump_of from) image.now) output.old result output.new }
 {
     check_form(image, from)?;
     put_form(&mut output[..0], image, from)?;
@@ -74,16 +74,14 @@ fn translate(image: &[u8], output: &mut [u8], from: Form) -> Result<usize, Refus
 
 // An image into the chin form: its length, which is the image's; or 17, 26 or 15, and the output stays.
 pub fn to_chin(image: &[u8], output: &mut [u8]) -> Result<usize, Refusal>
-    ensures answers { result ≡ answer_of (to_chin image.now) (length output.old) }
-    ensures writes { output.new ≡ output_of (to_chin image.now) output.old }
+    ensures { Turns (to_chin image.now) output.old result output.new }
 {
     translate(image, output, Form::Plain)
 }
 
 // The chin form back into an image, likewise.
 pub fn from_chin(image: &[u8], output: &mut [u8]) -> Result<usize, Refusal>
-    ensures answers { result ≡ answer_of (from_chin image.now) (length output.old) }
-    ensures writes { output.new ≡ output_of (from_chin image.now) output.old }
+    ensures { Turns (from_chin image.now) output.old result output.new }
 {
     translate(image, output, Form::Chin)
 }

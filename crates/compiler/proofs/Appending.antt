@@ -142,19 +142,18 @@ module _ {tree e : Bytes} {at v : ℕ} (h : HasName tree e at v) where
 -- Names in a row
 
 -- the globals of a table from an index on: how many they are, and what each is
-module _ (t : List ℕ) {xs : List ℕ} {n : ℕ} (from : ℕ) (e : xs ≡ take n (drop 1 t)) (h : n < length t) where
-  globals_all : length xs ≡ n
-  globals_all = ap length e ∙ length-take-le n (drop 1 t) (omega (arith, length-drop 1 t))
+module _ (t : List ℕ) {xs : List ℕ} {m n : ℕ} (from : ℕ) (e : xs ≡ drop 1 t) (q : m ≡ n) (h : n < length t) where
+  pub globals_all : n ≤ length xs
+  globals_all = omega (arith, ap length e, length-drop 1 t)
 
-  pub globals_left : length (take (length xs - from) (drop from xs)) ≡ n - from
-  globals_left = length-take-le (length xs - from) (drop from xs) (omega (arith, length-drop from xs)) ∙ ap (λ m. m - from) globals_all
+  pub globals_left : length (take (m - from) (drop from xs)) ≡ n - from
+  globals_left = length-take-le (m - from) (drop from xs) (omega (arith, length-drop from xs, globals_all, q)) ∙ ap (λ m. m - from) q
 
-  pub global_at : (i : ℕ) → from + i < n → get_or (take (length xs - from) (drop from xs)) i 0 ≡ get_or t (1 + (from + i)) 0
+  pub global_at : (i : ℕ) → from + i < n → get_or (take (m - from) (drop from xs)) i 0 ≡ get_or t (1 + (from + i)) 0
   global_at i l =
-      get_or-take (length xs - from) (drop from xs) i 0 (omega (arith, globals_all))
+      get_or-take (m - from) (drop from xs) i 0 (omega (arith, q))
       ∙ get_or-drop from xs i 0
       ∙ ap (λ l. get_or l (from + i) 0) e
-      ∙ get_or-take n (drop 1 t) (from + i) 0 l
       ∙ get_or-drop 1 t (from + i) 0
 
 -- the fields of later names: that of the first, then those of the others

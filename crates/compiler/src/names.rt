@@ -8,7 +8,7 @@ ghost use Rattle.compiler.specs.Names.{Appends, HasName, later_fields, LaterName
 use definition::tag;
 use field::{content_at, length_at};
 use session::write;
-use symbol_table::{NamePlace, global_names};
+use symbol_table::{NamePlace, count_globals, global_names};
 
 // Appends the name of a global, by its number in the table area. The offset behind it.
 fn append_name(session: &mut [u8], tree: &[u8], v: u32, at: usize) -> usize
@@ -37,7 +37,7 @@ pub fn append_names(session: &mut [u8], tree: &[u8], table: &[u32], from: usize,
     ensures { Appends (later_fields tree.now (take at session.old) table.now from (get_or table.now 0 0)) at session.old session.new result }
 {
     let mut end = at;
-    for v in &global_names(table)[from..] {
+    for v in &global_names(table)[from..count_globals(table)] {
         end = append_name(session, tree, *v, end);
     }
     end

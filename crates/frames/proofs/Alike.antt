@@ -53,7 +53,7 @@ same_frames a b {m} {p} {n} {q} s t e = record { counts = counts; lengths = leng
     lengths size k = frame-length a size k ∙ ap (λ c. length_of (placed c size k)) (counts size) ∙ sym (frame-length b size k)
 
 -- the answers of a step, given that its images are sound
-answers_alike : {o : Outcome} {x y : Called} → Answers o x y → Sound x → Sound y → FramesAlike x y
+pub answers_alike : {o : Outcome} {x y : Called} → Answers o x y → Sound x → Sound y → FramesAlike x y
 answers_alike (Answers.accepted {m} {x} {y} a b h) s t =
     let n = length (image_bytes m) in
     FramesAlike.accepted a b (same_frames (take n x.lent.output) (take n y.lent.output) (s.reads n a).1 (t.reads n b).1 (agree-length h))

@@ -1,3 +1,4 @@
 pub mod Frames
+pub mod Promise
 pub mod Together
 pub mod Examples

@@ -2,7 +2,8 @@
 #![tactic(auto)]
 
 ghost use Rattle.std.specs.Prelude.{◌≡◌, ◌*◌, ◌<◌};
-ghost use Rattle.frames.specs.Frames.{size_in_range, count_frames, place_in, find_frame, IsFrame, frame_refusal};
+ghost use Rattle.frames.specs.Promise.{Counts, Places, Refuses};
+ghost use Rattle.frames.specs.Frames.{size_in_range, place_in, IsFrame};
 
 use bytecode::check_image;
 use definition::{Reason, Refusal, refused};
@@ -35,7 +36,7 @@ fn size_in_range(size: usize) -> bool
 
 // Counts an image's whole frames and the bytes behind them; or 17 where the image is wrong, or 23 where the size is.
 pub fn count_frames(image: &[u8], size: usize) -> Result<FrameCount, Refusal>
-    ensures { result ≡ count_frames image.now size }
+    ensures { Counts image.now size result }
 {
     check_image(image)?;
     if !size_in_range(size) {
@@ -71,7 +72,7 @@ fn place_in(count: FrameCount, size: usize, index: usize) -> Result<FramePlace, 
 // Finds the frame of a number from 0 in an image: its offset and length; or 17, 23 or 24, in that order.
 // Kept: image, size and index one by one, here and at the two below, as C hands them over (include/monkey.h).
 pub fn find_frame(image: &[u8], size: usize, index: usize) -> Result<FramePlace, Refusal>
-    ensures { result ≡ find_frame image.now size index }
+    ensures { Places image.now size index result }
 {
     let count = count_frames(image, size)?;
     place_in(count, size, index)
@@ -90,7 +91,7 @@ pub fn frame(image: &[u8], size: usize, index: usize) -> &[u8]
 
 // Why `frame` refuses the same arguments, where it does.
 pub fn frame_refusal(image: &[u8], size: usize, index: usize) -> Option<Refusal>
-    ensures { result ≡ frame_refusal image.now size index }
+    ensures { Refuses image.now size index result }
 {
     find_frame(image, size, index).err()
 }

@@ -15,15 +15,15 @@ use Rattle.definition.specs.Output.{output_answer}
 use Rattle.definition.specs.Valid.{All}
 use Rattle.std.specs.Prelude.{Ok}
 use Rattle.definition.proofs.Series.{Holds, Gave, call_does, start_holds}
-use Rattle.heights.specs.Judgement.{AllPass, Tops, Offers}
+use Rattle.heights.specs.Judgement.{AllPass, Tops, Offers, Are32Bit}
 use Rattle.heights.specs.Pass.{heights_answer}
 use Rattle.heights.proofs.Compiled.{HeightsPass, compile_heights_pass}
 
--- bytes that read as an image: there are lists with the heights of its reached instructions, and with each of them the check answers the greatest heights, or 15
+-- bytes that read as an image: there is a list of 32-bit numbers with the heights of its reached instructions, and with each list that has them the check answers the greatest heights, or 15
 pub record OutputPasses (b : Bytes) : Type 0 where
   pub image : Image
   pub reads : read_image b ≡ decoded image (length b)
-  pub offers : (hs : List ℕ) × Offers hs image
+  pub offers : (hs : List ℕ) × Offers hs image × Are32Bit hs
   pub passes : (hs : List ℕ) → Offers hs image → AllPass hs image image.pool
   pub answers : (hs : List ℕ) → Offers hs image → (ns : List ℕ) × Tops image image.pool ns × ((room : ℕ) → heights_answer (read_image b) hs room ≡ output_answer ns room)
 

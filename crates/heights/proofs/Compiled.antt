@@ -14,8 +14,8 @@ use Rattle.definition.specs.Opcode.{Instr, op_jump_not_truthy, op_jump}
 use Rattle.definition.specs.Bytecode.{Code, size_of, Const, Image, image_bytes}
 use Rattle.definition.specs.Session.{Words, Session, begun}
 use Rattle.definition.specs.Decode.{decoded, read_image}
-use Rattle.definition.specs.Compile.{Outcome, Step, Request, steps}
-use Rattle.definition.specs.Valid.{All, ValidWords}
+use Rattle.definition.specs.Compile.{Outcome, Step, Request, compile, steps}
+use Rattle.definition.specs.Valid.{All, ValidWords, ValidImage, ValidSession}
 use Rattle.definition.specs.Output.{output_answer}
 use Rattle.definition.specs.Trusted.{Stands, constant_at, Chunk, Trusted, TrustedStep}
 use Rattle.definition.specs.Effect.{Flow, flows, takes, flow_of, leaps}
@@ -23,14 +23,16 @@ use Rattle.definition.proofs.Heights.{FunctionLevel}
 use Rattle.definition.proofs.Levels.{LevelConst}
 use Rattle.definition.proofs.Invariant.{KeepsSession}
 use Rattle.definition.proofs.Reached.{LevelSession, LevelImage, level_steps, reached_enough, reached_once, reached_end, reached_not_end}
+use Rattle.definition.proofs.Steps.{begun-valid, compile-valid}
 use Rattle.definition.proofs.Trusted.{trusted_steps}
-use Rattle.heights.specs.Judgement.{Reaches, EndsAt, Passes, ChunkOf, AllPass, Tops, Offers}
+use Rattle.heights.specs.Judgement.{Reaches, EndsAt, Passes, ChunkOf, AllPass, Tops, Offers, Are32Bit}
 use Rattle.heights.specs.declared.chunk.Kind.{Kind}
 use Rattle.heights.specs.declared.chunk.Kind.TheVariants.{Main, Function}
 use Rattle.heights.specs.Pass.{Verdict, verdict_answer, heights_answer}
 use Rattle.definition.proofs.Basic.{both_left, both_right}
 use Rattle.heights.proofs.Stepping.{whenever}
 use Rattle.heights.proofs.Offered.{way, some_offers}
+use Rattle.heights.proofs.Fitting.{fitted}
 use Rattle.heights.proofs.Verdicts.{Right, judged_right, all_judged}
 
 -- only jumps leap
@@ -121,10 +123,10 @@ image_passes {m} {z} {hs} t l o = record { each = λ {kind = kind} h. go kind h 
 
 -- Series of calls
 
--- the image of a call, on bytes: there is a list that offers each reached instruction its height, and with any such list neither 17 nor 25 arises
+-- the image of a call, on bytes: there is a list of 32-bit numbers that offers each reached instruction its height, and with any list that does neither 17 nor 25 arises
 pub record HeightsPass (x : Step) : Type 0 where
   pub reads : (m : Image) → x.outcome ≡ Outcome.accepted m → read_image (image_bytes m) ≡ decoded m (length (image_bytes m))
-  pub offers : (m : Image) → x.outcome ≡ Outcome.accepted m → (hs : List ℕ) × Offers hs m
+  pub offers : (m : Image) → x.outcome ≡ Outcome.accepted m → (hs : List ℕ) × Offers hs m × Are32Bit hs
   pub passes : (m : Image) → x.outcome ≡ Outcome.accepted m → (hs : List ℕ) → Offers hs m → AllPass hs m m.pool
   pub answers : (m : Image) → x.outcome ≡ Outcome.accepted m → (hs : List ℕ) → Offers hs m → (ns : List ℕ) × Tops m m.pool ns × ((room : ℕ) → heights_answer (read_image (image_bytes m)) hs room ≡ output_answer ns room)
 
@@ -138,21 +140,32 @@ right_tops {ns = ns} (Right.fails {at} f) e = absurd (never e)
     never : Verdict.fails at ≡ Verdict.tops ns → ⊥
     never e = let z : ◌≡◌ {A = ℕ} 0 1 = cc in omega arith
 
-step_passes : {x : Step} → TrustedStep x → KeepsSession LevelSession LevelImage x → HeightsPass x
-step_passes t l =
+-- the image of a step, if it has one, is valid
+record ValidOutcome (x : Step) : Type 0 where
+  image : (m : Image) → x.outcome ≡ Outcome.accepted m → ValidImage m
+
+-- that of each step
+all_valid : (z : Session) → ValidSession z → (cs : List Request) → All ValidOutcome (steps z cs)
+all_valid z v [] = All.none
+all_valid z v (c ∷ cs) = let w = compile-valid z v c in All.more (record { image = w.image }) (all_valid (compile z c).session w.session cs)
+
+-- each step
+step_passes : {x : Step} → TrustedStep x → KeepsSession LevelSession LevelImage x → ValidOutcome x → HeightsPass x
+step_passes t l v =
     record {
       reads = λ m e. (t.image m e).decodes;
-      offers = λ m e. some_offers (l.image m e);
+      offers = λ m e. let o = some_offers (l.image m e) in fitted (v.image m e) (image_passes (t.image m e) (l.image m e) o.1) o.1;
       passes = λ m e hs o. image_passes (t.image m e) (l.image m e) o;
       answers = λ m e hs o.
           let j = all_judged hs m m.pool (image_passes (t.image m e) (l.image m e) o) in
           (j.0, right_tops (judged_right hs m m.pool) j.1, λ room. ap (λ d. heights_answer d hs room) (t.image m e).decodes ∙ ap (λ v. verdict_answer v room) j.1);
     }
 
-all_both : {xs : List Step} → All TrustedStep xs → All (KeepsSession LevelSession LevelImage) xs → All HeightsPass xs
-all_both All.none All.none = All.none
-all_both (All.more t ts) (All.more l ls) = All.more (step_passes t l) (all_both ts ls)
+-- all of them
+each_passes : {xs : List Step} → All TrustedStep xs → All (KeepsSession LevelSession LevelImage) xs → All ValidOutcome xs → All HeightsPass xs
+each_passes All.none All.none All.none = All.none
+each_passes (All.more t ts) (All.more l ls) (All.more v vs) = All.more (step_passes t l v) (each_passes ts ls vs)
 
 -- every image of a series of compile calls from a session begun with valid words
 pub compile_heights_pass : (w : Words) → ValidWords w → (cs : List Request) → All HeightsPass (steps (begun w) cs)
-compile_heights_pass w v cs = all_both (trusted_steps w v cs) (level_steps w cs)
+compile_heights_pass w v cs = each_passes (trusted_steps w v cs) (level_steps w cs) (all_valid (begun w) (begun-valid w v) cs)

@@ -5,6 +5,7 @@ pub mod Accepts
 pub mod Refuses
 pub mod Verdicts
 pub mod Offered
+pub mod Fitting
 pub mod Compiled
 pub mod Tables
 pub mod Laws

@@ -3,4 +3,5 @@ pub mod Pass
 pub mod Marks
 pub mod Chunks
 pub mod Proposal
+pub mod Promise
 pub mod Lent

@@ -114,26 +114,24 @@ impl<'a> Marks<'a> {
             .all(|m| *m == NOTHING)
     }
 
-    // Go on at the target of an instruction that jumps, which must lie before the end and not before the next instruction.
-    pub fn leap(&mut self, i: Instruction, next: usize, level: u32) -> bool
-        requires { (self.old.code.start ≤ self.old.code.end) × (self.old.code.end < length self.old.levels.now) }
-        ensures answers { result ≡ pick (targets (flow_of (instr_of i))) (both (leb next (self.old.code.start + i.operand)) (both (ltb (self.old.code.start + i.operand) self.old.code.end) (agreeing (get_or self.old.levels.now (self.old.code.start + i.operand) 0) level))) true }
-        ensures stores { result ≡ true → self.new.levels.now ≡ pick (targets (flow_of (instr_of i))) (with_arrival self.old.levels.now (self.old.code.start + i.operand) level) self.old.levels.now }
+    // Go on at a target, where an instruction jumps: it must lie before the end and not before the next instruction.
+    pub fn leap(&mut self, jumps: bool, next: usize, to: usize, level: u32) -> bool
+        requires { self.old.code.end < length self.old.levels.now }
+        ensures answers { result ≡ pick jumps (both (leb next to) (both (ltb to self.old.code.end) (agreeing (get_or self.old.levels.now to 0) level))) true }
+        ensures stores { result ≡ true → self.new.levels.now ≡ pick jumps (with_arrival self.old.levels.now to level) self.old.levels.now }
         ensures lent { Keeps self.old self.new }
     {
-        let Span { start, end, .. } = self.code;
-        let to = start + i.operand as usize;
-        !leaps(i.op) || next <= to && to < end && self.arrive(to, level)
+        !jumps || next <= to && to < self.code.end && self.arrive(to, level)
     }
 
     // Go on at the next instruction, where an instruction does.
-    pub fn fall(&mut self, i: Instruction, next: usize, level: u32) -> bool
+    pub fn fall(&mut self, goes: bool, next: usize, level: u32) -> bool
         requires { next < length self.old.levels.now }
-        ensures answers { result ≡ pick (follows (flow_of (instr_of i))) (agreeing (get_or self.old.levels.now next 0) level) true }
-        ensures stores { self.new.levels.now ≡ pick (follows (flow_of (instr_of i))) (with_arrival self.old.levels.now next level) self.old.levels.now }
+        ensures answers { result ≡ pick goes (agreeing (get_or self.old.levels.now next 0) level) true }
+        ensures stores { self.new.levels.now ≡ pick goes (with_arrival self.old.levels.now next level) self.old.levels.now }
         ensures lent { Keeps self.old self.new }
     {
-        !falls(i.op) || self.arrive(next, level)
+        !goes || self.arrive(next, level)
     }
 
     // One instruction; whether it passes.
@@ -150,10 +148,11 @@ impl<'a> Marks<'a> {
             return false;
         }
         let after = behind(i, level);
-        if !self.leap(i, next, after) {
+        let to = self.code.start + i.operand as usize;
+        if !self.leap(leaps(i.op), next, to, after) {
             return false;
         }
-        self.fall(i, next, after)
+        self.fall(falls(i.op), next, after)
     }
 
     // The instructions, with a height each.

@@ -6,10 +6,7 @@ pub mod effect;
 pub mod image;
 mod propose;
 
-ghost use Rattle.std.specs.Prelude.{◌≡◌, length, drop};
-ghost use Rattle.definition.specs.Decode.{read_image};
-ghost use Rattle.heights.specs.Pass.{heights_answer, heights_into};
-ghost use Rattle.heights.specs.Proposal.{proposal_answer, proposal_size};
+ghost use Rattle.heights.specs.Promise.{Checks, Proposes};
 
 use bytecode::check_image;
 use definition::{Reason, Refusal, refused};
@@ -20,8 +17,7 @@ use propose::propose;
 // Checks the heights offered for an image: how many greatest heights stand at the start of the output then; or 17 where the image is
 // wrong; or 25 at the first chunk that fails; or 15 where there are more chunks than the output has room for.
 pub fn check_heights(image: &[u8], heights: &[u32], output: &mut [u32]) -> Result<usize, Refusal>
-    ensures answers { result ≡ heights_answer (read_image image.now) heights.now (length output.old) }
-    ensures writes { output.new ≡ heights_into (read_image image.now) heights.now output.old }
+    ensures { Checks image.now heights.now output.old result output.new }
 {
     check_image(image)?;
     let image = SoundImage { bytes: image };
@@ -37,8 +33,7 @@ pub fn check_heights(image: &[u8], heights: &[u32], output: &mut [u32]) -> Resul
 // start of the list then, one for each instruction; or 17 where the image is wrong; or 15 where there are more than the list has room
 // for.
 pub fn propose_heights(image: &[u8], heights: &mut [u32]) -> Result<usize, Refusal>
-    ensures answers { result ≡ proposal_answer (read_image image.now) (length heights.old) }
-    ensures stays { drop (proposal_size (read_image image.now) (length heights.old)) heights.new ≡ drop (proposal_size (read_image image.now) (length heights.old)) heights.old }
+    ensures { Proposes image.now heights.old result heights.new }
 {
     check_image(image)?;
     let image = SoundImage { bytes: image };

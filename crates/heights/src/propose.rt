@@ -8,7 +8,7 @@ ghost use Rattle.heights.specs.Proposal.{Proposed, FlowSpot, FlowReady, Constant
 ghost use Rattle.heights.specs.Lent.{Lends};
 
 use crate::chunk::{GROUND, Marks, NO_WAY, height};
-use crate::effect::{gives, takes};
+use crate::effect::{falls, gives, leaps, takes};
 use bytecode::{Parts, Span};
 use definition::output::store;
 use listing::sound::SoundImage;
@@ -48,8 +48,9 @@ impl<'a> Proposer<'a> {
             levels: &mut *self.marks,
             code,
         };
-        marks.leap(i, next, after);
-        marks.fall(i, next, after);
+        let to = code.start + i.operand as usize;
+        marks.leap(leaps(i.op), next, to, after);
+        marks.fall(falls(i.op), next, after);
         self.count += 1;
     }
 

@@ -34,22 +34,22 @@ use Rattle.records.proofs.Logged.{Agrees, compile_agrees}
 use Rattle.records.proofs.LoggedAlike.{TracedLike, compile_records_like}
 
 -- a turn's call, and what the definition gives for it in a session
-abbrev call_of : Turn → Call
+abbrev pub call_of : Turn → Call
 call_of (Turn.plain c) = c
 call_of (Turn.with_records c rs) = c
 
-abbrev asked : Bytes → Turn → Request
+abbrev pub asked : Bytes → Turn → Request
 asked s t = request (lent s (call_of t)) (call_of t).tree
 
-abbrev traced_turn : Bytes → Session → Turn → Traced
+abbrev pub traced_turn : Bytes → Session → Turn → Traced
 traced_turn s z (Turn.plain c) = untraced (compile z (asked s (Turn.plain c)))
 traced_turn s z (Turn.with_records c rs) = compile_records (length rs) z (asked s (Turn.with_records c rs))
 
 -- a turn of a series whose session was s, on a buffer of n bytes, gave a step and left its session, and wrote its records at the front
-record TurnIs (x : Recorded) (s : Bytes) (n : ℕ) (p : Traced) : Type 0 where
-  call : CallIs x.called s n p.step.outcome p.step.session
-  count : x.count ≡ length p.records
-  records : take x.count x.records ≡ p.records
+pub record TurnIs (x : Recorded) (s : Bytes) (n : ℕ) (p : Traced) : Type 0 where
+  pub call : CallIs x.called s n p.step.outcome p.step.session
+  pub count : x.count ≡ length p.records
+  pub records : take x.count x.records ≡ p.records
 
 module _ (s : Bytes) (z : Session) (h : Holds s z) (c : Call) (rs : List Record) where
   abbrev q : Request
@@ -81,13 +81,13 @@ module _ (s : Bytes) (z : Session) (h : Holds s z) (c : Call) (rs : List Record)
       (λ e. subst (λ d. Does (in_session_records (lent s c) rs c.tree d) next) (sym (lent_reads s z h c e)) (after (lent_room s z h c e) (compile_agrees (length rs) z q) (compile-valid z h.valid q).session))
       (λ e. subst (Does (unrecorded rs (record { answer = Err (refusal Number.short_buffer 0); lent = lent s c }))) (sym (when_short e)) (stays _ refl refl))
 
-turn_does : (s : Bytes) (z : Session) → Holds s z → (t : Turn) → TurnIs (turn s t) s (length (call_of t).session) (traced_turn s z t)
+pub turn_does : (s : Bytes) (z : Session) → Holds s z → (t : Turn) → TurnIs (turn s t) s (length (call_of t).session) (traced_turn s z t)
 turn_does s z h (Turn.plain c) = record { call = call_does s z h c; count = refl; records = refl }
 turn_does s z h (Turn.with_records c rs) = records_call_does s z h c rs
 
 -- A turn's step is the plain call's, or a refusal of the session as it was: so what plain calls keep, turns keep
 
-data StepOf (z : Session) : Step → Step → Type 0 where
+pub data StepOf (z : Session) : Step → Step → Type 0 where
   plain : {x : Step} → StepOf z x x
   few : {x : Step} → StepOf z (turned_down z (refusal Number.few_records 0)) x
 
@@ -96,7 +96,7 @@ step_of (Agrees.refused r) = StepOf.plain
 step_of (Agrees.accepted _ _) = StepOf.plain
 step_of (Agrees.few _ _) = StepOf.few
 
-turn_step : (s : Bytes) (z : Session) (t : Turn) → StepOf z (traced_turn s z t).step (compile z (asked s t))
+pub turn_step : (s : Bytes) (z : Session) (t : Turn) → StepOf z (traced_turn s z t).step (compile z (asked s t))
 turn_step s z (Turn.plain c) = StepOf.plain
 turn_step s z (Turn.with_records c rs) = step_of (compile_agrees (length rs) z (request (lent s c) c.tree))
 
@@ -152,7 +152,7 @@ trusted_turns {s} {w} x ts = turns_trusted s (begun w) (start_holds x) (begun-fi
 -- Condition 3
 
 -- a turn beside the shapes' turn
-turn_like : {compared : Type 0} (s : Bytes) {z p : Session} → length s ≡ session_size → (t : Turn) → SessionLike compared z p → TracedLike compared (traced_turn s z t) (shaped_turn p t)
+pub turn_like : {compared : Type 0} (s : Bytes) {z p : Session} → length s ≡ session_size → (t : Turn) → SessionLike compared z p → TracedLike compared (traced_turn s z t) (shaped_turn p t)
 turn_like {compared} s {z} {p} e t l = go t
   where
     -- as long with the session in it
@@ -168,12 +168,12 @@ turn_like {compared} s {z} {p} e t l = go t
 shaped_same : {c d : Call} → AlikeCalls c d → shaped d ≡ shaped c
 shaped_same a = λ i. record { code = sym a.code i; table = sym a.table i; session = sym a.session i; output = sym a.output i; tree = sym a.tree i }
 
-turns_same : {t u : Turn} → AlikeTurn t u → (p : Session) → shaped_turn p u ≡ shaped_turn p t
+pub turns_same : {t u : Turn} → AlikeTurn t u → (p : Session) → shaped_turn p u ≡ shaped_turn p t
 turns_same (AlikeTurn.plain a) p = λ i. untraced (compile p (shaped_same a i))
 turns_same (AlikeTurn.with_records a e) p = λ i. compile_records (sym e i) p (shaped_same a i)
 
 -- their buffers are equally long
-turn_long : {t u : Turn} → AlikeTurn t u → length (call_of t).session ≡ length (call_of u).session
+pub turn_long : {t u : Turn} → AlikeTurn t u → length (call_of t).session ≡ length (call_of u).session
 turn_long (AlikeTurn.plain a) = a.session
 turn_long (AlikeTurn.with_records a e) = a.session
 
@@ -185,7 +185,7 @@ same_turn d e l k =
       records = (d.records ∙ l.records, e.records ∙ k.records);
     }
 
-held_size : {s : Bytes} {z : Session} → Holds s z → length s ≡ session_size
+pub held_size : {s : Bytes} {z : Session} → Holds s z → length s ≡ session_size
 held_size {z = z} h = ap length h.bytes ∙ session_length z h.valid
 
 series_same : {compared : Type 0} {ts us : List Turn} → AllAlikeTurns ts us → (s t : Bytes) (x y p : Session) → Holds s x → Holds t y → SessionLike compared x p → SessionLike compared y p

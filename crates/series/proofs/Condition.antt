@@ -3,10 +3,11 @@ use Prim.Native.Nat.{ℕ, ◌≤◌}
 use native.Mathlib.Omega.{arith}
 use mathlib.Core.Bool.{true}
 use mathlib.Core.List.{List, [], ◌∷◌, map}
-use mathlib.Core.Path.{◌≡◌, refl, sym, ap, subst, ◌∙◌}
+use mathlib.Core.Path.{◌≡◌, refl, sym, ap, subst, subst₂, ◌∙◌}
 use lib.Dec.{leb}
 use lib.ListN.{length, take, length-append, length-drop, length-replicate}
 use borrow.Author.Tests.{le-leb, leb-true}
+use Rattle.std.specs.Prelude.{Ok}
 use Rattle.definition.specs.Basic.{Bytes}
 use Rattle.definition.specs.Limit.{session_size, code_size, table_size}
 use Rattle.definition.specs.Number
@@ -14,9 +15,9 @@ use Rattle.definition.specs.Shape.{shape}
 use Rattle.definition.specs.Bytecode.{Image, image_bytes}
 use Rattle.definition.specs.Session.{six, field_count, Session, fresh, session_bytes}
 use Rattle.definition.specs.Decode.{Decoded, decoded, malformed, read_session}
-use Rattle.definition.specs.Compile.{Outcome, enough, compile}
+use Rattle.definition.specs.Compile.{Outcome, Step, enough, compile}
 use Rattle.definition.specs.Call.{Lent, Called, Made, cleared, request, answered, in_session, call, not_made, begins, made}
-use Rattle.definition.specs.Series.{Call, session_after, session_made, lent, AllAlike, shapes, Indistinguishable}
+use Rattle.definition.specs.Series.{Call, session_after, session_made, lent, AllAlike, shapes, Same, Indistinguishable}
 use Rattle.definition.specs.Answer.{Answer}
 use Rattle.definition.proofs.Basic.{chosen, pick_true, both_left, both_right}
 use Rattle.definition.proofs.Sessions.{session_length}
@@ -24,7 +25,7 @@ use Rattle.definition.proofs.Steps.{begun-valid, compile-fits}
 use Rattle.definition.proofs.Series.{long_over, Holds, CallIs, call_does, starts_fresh, start_holds}
 use Rattle.compiler.specs.Promise.{MadeBy}
 use Rattle.compiler.proofs.Conditions.{compile_condition_3}
-use Rattle.series.specs.Row.{row_calls, row_gives, started, EquallyLent, RunsRow}
+use Rattle.series.specs.Row.{row_calls, row_gives, last_of, started, EquallyLent, RunsRow, EndsAlike, RowsAlike}
 use Rattle.series.proofs.Row.{Carries, carried, carries_after}
 
 -- zeroing keeps a length
@@ -100,16 +101,41 @@ made-length s =
     chosen (λ (x : Made). length x.session ≡ length s) (leb session_size (length s))
     (λ e. let r = leb-true session_size (length s) e in let n = session_length fresh (begun-valid six tt) in long_over (session_bytes fresh) s (omega arith)) (λ _. refl)
 
+-- making one in a buffer with room for it
+made_answers : (s : Bytes) → session_size ≤ length s → (made s).answer ≡ Ok session_size
+unfolding made
+made_answers s h = ap (λ (m : Made). m.answer) (pick_true (begins six s) (not_made Number.short_buffer s) (le-leb session_size (length s) h))
+
 -- a buffer with room for a session has one made in it
 by_call : (s : Bytes) → session_size ≤ length s → MadeBy (made s).session six
-unfolding made
-by_call s h = MadeBy.fresh s {r = (made s).answer} (record { answer = refl; session = refl }) (ap (λ (m : Made). m.answer) (pick_true (begins six s) (not_made Number.short_buffer s) (le-leb session_size (length s) h)))
+by_call s h = MadeBy.fresh s {r = (made s).answer} (record { answer = refl; session = refl }) (made_answers s h)
 
--- Condition 3 of two rows that were run: their trees have equal shapes, and they were lent equally much
+-- the end of two rows that have a call, or that have none
+ends-step : {compared : Type 0} {p : Step} {ps : List Step} {x y : Called} {xs ys : List Called} → Same compared p x y → Indistinguishable compared ps xs ys
+    → EndsAlike compared (p ∷ ps) (last_of x xs) (last_of y ys)
+ends-step s Indistinguishable.done = EndsAlike.last s
+ends-step s (Indistinguishable.step t rest) = EndsAlike.before (ends-step t rest)
+
+ends-alike : {compared : Type 0} {ps : List Step} {x y : Called} {xs ys : List Called} → EndsAlike compared [] x y → Indistinguishable compared ps xs ys
+    → EndsAlike compared ps (last_of x xs) (last_of y ys)
+ends-alike e Indistinguishable.done = e
+ends-alike e (Indistinguishable.step s rest) = ends-step s rest
+
+-- two sessions just made
+empty-alike : {compared : Type 0} (l m : Lent) → session_size ≤ length l.session → session_size ≤ length m.session → EndsAlike compared [] (started l) (started m)
+empty-alike l m h k =
+    EndsAlike.empty (made_answers l.session h) (made_answers m.session k) ((start_holds (starts_fresh l.session h)).bytes ∙ sym (start_holds (starts_fresh m.session k)).bytes)
+
+-- Condition 3 of two rows that were run: their trees have equal shapes, and they were lent equally much. Neither their calls, one by one,
+-- nor what the runs answered and left can be told apart
 pub row_condition_3 : (ts us : List Bytes) → map shape ts ≡ map shape us → (l m : Lent) → EquallyLent l m → session_size ≤ length l.session → {r q : Answer} {l' m' : Lent}
-    → RunsRow ts l r l' → RunsRow us m q m' → Indistinguishable (field_count six ≡ field_count six) (shapes six (row_calls ts (started l).lent)) (row_gives ts (started l).lent) (row_gives us (started m).lent)
+    → RunsRow ts l r l' → RunsRow us m q m'
+    → RowsAlike (field_count six ≡ field_count six) (shapes six (row_calls ts (started l).lent)) (row_gives ts (started l).lent) (row_gives us (started m).lent) (record { answer = r; lent = l' }) (record { answer = q; lent = m' })
 row_condition_3 ts us e l m k h x y =
-    compile_condition_3 (by_call l.session h) (by_call m.session room) refl (row_calls ts (started l).lent) (row_calls us (started m).lent) alike _ _ x.ran y.ran
+    record {
+      steps = steps;
+      ends = subst₂ (EndsAlike (field_count six ≡ field_count six) (shapes six (row_calls ts (started l).lent))) (sym x.last) (sym y.last) (ends-alike (empty-alike l m h room) steps);
+    }
   where
     room : session_size ≤ length m.session
     room = omega (arith, k.session)
@@ -121,3 +147,6 @@ row_condition_3 ts us e l m k h x y =
     alike =
         row-alike ts us e (started l).lent (started m).lent equal (session_made l.session) fresh (start_holds (starts_fresh l.session h)) (record { front = λ _. refl })
         (session_made m.session) fresh (start_holds (starts_fresh m.session room)) (record { front = λ _. refl })
+
+    steps : Indistinguishable (field_count six ≡ field_count six) (shapes six (row_calls ts (started l).lent)) (row_gives ts (started l).lent) (row_gives us (started m).lent)
+    steps = compile_condition_3 (by_call l.session h) (by_call m.session room) refl (row_calls ts (started l).lent) (row_calls us (started m).lent) alike _ _ x.ran y.ran

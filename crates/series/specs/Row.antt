@@ -1,8 +1,10 @@
 -- A row of trees that one session compiles, one after the other.
-use Rattle.std.specs.Prelude.{List, [], ◌∷◌, ◌≡◌, length}
+use Rattle.std.specs.Prelude.{List, [], ◌∷◌, ◌≡◌, length, take, Ok}
 use Rattle.definition.specs.Basic.{Bytes}
+use Rattle.definition.specs.Limit.{session_size}
+use Rattle.definition.specs.Compile.{Step}
 use Rattle.definition.specs.Call.{Lent, Called, call, made}
-use Rattle.definition.specs.Series.{Call, session_made}
+use Rattle.definition.specs.Series.{Call, session_made, Same, Indistinguishable}
 use Rattle.definition.specs.Answer.{Answer}
 use Rattle.compiler.specs.Promise.{Ran}
 
@@ -36,3 +38,16 @@ pub record EquallyLent (l m : Lent) : Type 0 where
 pub record RunsRow (ts : List Bytes) (l : Lent) (r : Answer) (l' : Lent) : Type 0 where
   pub ran : Ran (session_made l.session) (row_calls ts (started l).lent) (row_gives ts (started l).lent)
   pub last : record { answer = r; lent = l' } ≡ last_of (started l) (row_gives ts (started l).lent)
+
+-- what two rows answered and left at their end can't be told apart, beside the shapes' steps: two sessions just made, equal, where the rows
+-- are empty; or the answers, images and sessions of their last calls
+pub data EndsAlike (compared : Type 0) : List Step → Called → Called → Type 0 where
+  empty : {x y : Called} → x.answer ≡ Ok session_size → y.answer ≡ Ok session_size → take session_size x.lent.session ≡ take session_size y.lent.session
+      → EndsAlike compared [] x y
+  last : {p : Step} {x y : Called} → Same compared p x y → EndsAlike compared (p ∷ []) x y
+  before : {p q : Step} {ps : List Step} {x y : Called} → EndsAlike compared (q ∷ ps) x y → EndsAlike compared (p ∷ q ∷ ps) x y
+
+-- two rows that were run: step by step their calls can't be told apart, nor what was answered and left
+pub record RowsAlike (compared : Type 0) (ps : List Step) (xs ys : List Called) (x y : Called) : Type 0 where
+  pub steps : Indistinguishable compared ps xs ys
+  pub ends : EndsAlike compared ps x y

@@ -6,7 +6,7 @@ use mathlib.Core.Bool.{Bool, true}
 use mathlib.Core.List.{List, [], ◌∷◌}
 use mathlib.Core.Path.{◌≡◌, refl, sym, ap, ◌∙◌}
 use lib.Dec.{leb}
-use lib.ListN.{get_or, take, drop}
+use lib.ListN.{length, get_or, take, drop}
 use borrow.Author.Tests.{le-leb, lt-leb}
 use Rattle.definition.specs.Basic.{Bytes, pick}
 use Rattle.definition.specs.Limit.{code_size, free_limit}
@@ -15,8 +15,9 @@ use Rattle.definition.specs.Tag.{tag_function_const}
 use Rattle.definition.specs.Opcode.{instr, op_closure}
 use Rattle.definition.specs.Walk.{Res, bind, refuse, Go}
 use Rattle.definition.specs.SymbolTable.{Symbol}
-use Rattle.symbol_table.specs.Layout.{part, originals_of, table_of, tables_of, GoodTable, Good, symbol_of, originals_at}
-use Rattle.symbol_table.proofs.Back.{length_back}
+use Rattle.symbol_table.specs.Layout.{part, originals_of, symbols_in, table_of, tables_of, GoodTable, Good, symbol_of, originals_at}
+use Rattle.symbol_table.proofs.Back.{length_back, part_symbols}
+use Rattle.std.proofs.lemmas.List.{take-take}
 use Rattle.definition.specs.Number.{refusal}
 use Rattle.definition.specs.declared.reason.Refusal.{Refusal}
 use Rattle.scope.specs.declared.State.{State}
@@ -125,6 +126,12 @@ module _ (p params : ℕ) (c e : Bytes) (t : List ℕ) (o s : State) (l : s.leve
 module _ {e : Bytes} {t : List ℕ} {o s : State} (h : Closable e t o s) where
   pub few_captures : get_or (part o.level t) 2 0 ≤ free_limit
   few_captures = h.sized.free
+
+  -- what it has captured stands in front of what it could
+  pub captured_front : {k : ℕ} {l os : List ℕ} → k ≡ get_or (part o.level t) 2 0 → l ≡ take free_limit (drop originals_at (part o.level t)) → os ≡ take k l → (length os ≡ get_or (part o.level t) 2 0) × (symbols_in os ≡ captured t o.level)
+  captured_front {k} i e q =
+      let r = part o.level t in
+      rw (q ∙ ap (take k) e ∙ take-take k free_limit (drop originals_at r) (omega (arith, i, few_captures))) (part_symbols r i (omega (arith, h.sized.size, few_captures)))
 
 module _ (p params : ℕ) {c e : Bytes} {t : List ℕ} {o s : State} (h : Closable e t o s) {n z : ℕ} {os : List Symbol} (k : n ≡ get_or (part o.level t) 2 0) (y : os ≡ captured t o.level) (q : z ≡ loads_size os) where
   pub closes_full : code_size < here o + s.chunk.len + z → Closed p params c c e e t o s (Err (stopped (refusal Number.code p) s))

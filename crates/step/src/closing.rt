@@ -76,7 +76,7 @@ pub fn close(
     ensures { Closes place params scope.old scope.new session.old session.new table.now outer result }
 {
     let part = Part::of(table, outer.level as usize);
-    let originals = part.originals();
+    let originals = &part.originals()[..part.captures()];
     let end = outer.chunk.start + outer.chunk.len + scope.state.chunk.len;
     if CODE_SIZE < end as usize + loads_size(originals) {
         return refused(Reason::Code, place);

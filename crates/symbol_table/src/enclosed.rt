@@ -1,10 +1,10 @@
 // The table of an open function, in its part of the area.
 // Kept: a part is a slice. Tried: `&mut [u32; PART_SIZE]` by `first_chunk_mut`: the proof of what comes back to the area did not close.
-ghost use Rattle.std.specs.Prelude.{◌≡◌, ◌+◌, ◌^◌, ◌<◌, ◌≤◌, min, length, get_or};
+ghost use Rattle.std.specs.Prelude.{◌≡◌, ◌+◌, ◌^◌, ◌<◌, ◌≤◌, min, length, get_or, take, drop};
 ghost use Rattle.definition.specs.Limit.{tree_limit, locals_limit, free_limit};
 ghost use Rattle.definition.specs.SymbolTable.{find};
 ghost use Rattle.field.specs.Layout.{len};
-ghost use Rattle.symbol_table.specs.Layout.{part_size, entries_at, base, part, entries, originals_of, symbols_in, table_of, Sized, GoodTable};
+ghost use Rattle.symbol_table.specs.Layout.{part_size, entries_at, originals_at, base, part, entries, table_of, Sized, GoodTable};
 ghost use Rattle.symbol_table.specs.Store.{entered_in, entry_in, local_in, free_in};
 ghost use Rattle.symbol_table.specs.Contract.{hit_of, PassedOver, Few, Crosses, DefinesLocal, HasParams, Params, Opens};
 
@@ -69,13 +69,11 @@ impl<'a> Part<'a> {
         self.numbers[2] as usize
     }
 
-    // The codes of the originals that it has captured.
+    // The codes of originals, as many as it can capture; those that it has captured stand first.
     pub fn originals(self) -> &'a [u32]
-        requires { get_or self.numbers.now 2 0 ≤ free_limit }
-        ensures count { length result.now ≡ get_or self.entry.numbers.now 2 0 }
-        ensures symbols { symbols_in result.now ≡ originals_of self.entry.numbers.now (get_or self.entry.numbers.now 2 0) }
+        ensures { result.now ≡ take free_limit (drop originals_at self.entry.numbers.now) }
     {
-        &self.numbers[ORIGINALS_AT..ORIGINALS_AT + self.captures()]
+        &self.numbers[ORIGINALS_AT..ORIGINALS_AT + CAPTURES as usize]
     }
 }
 

@@ -200,13 +200,20 @@ pub fn start(session: &[u8], table: &mut [u32], at: usize) -> usize
     end
 }
 
-// The names of the globals, each as the number of its place.
+// How many globals there are.
+pub fn count_globals(table: &[u32]) -> usize
+    requires { 0 < length table.now }
+    ensures { result ≡ get_or table.now 0 0 }
+{
+    table[0] as usize
+}
+
+// The names of the globals, each as the number of its place, and what stands behind the last.
 pub fn global_names(table: &[u32]) -> &[u32]
     requires { 0 < length table.now }
-    ensures { result.now ≡ take (get_or table.now 0 0) (drop 1 table.now) }
+    ensures { result.now ≡ drop 1 table.now }
 {
-    let names = &table[1..];
-    &names[..names.len().min(table[0] as usize)]
+    &table[1..]
 }
 
 // The instruction that loads a symbol.

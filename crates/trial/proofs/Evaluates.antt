@@ -42,7 +42,7 @@ trial-end n (Trial.ran g k) = refl
 trial-end n (Trial.stopped k p) = refl
 
 -- each instruction is one that a run takes
-all_runnable : (pool : List Const) (c : Code) → ((i : Instr) (p : ℕ) → Stands i p c → runnable pool i ≡ true) → Runnable pool c
+pub all_runnable : (pool : List Const) (c : Code) → ((i : Instr) (p : ℕ) → Stands i p c → runnable pool i ≡ true) → Runnable pool c
 all_runnable pool [] h = All.none
 all_runnable pool (i ∷ c) h = All.more (subst T (sym (h i (size_of c) Stands.last)) tt) (all_runnable pool c (λ j p s. h j p (Stands.before s)))
 

@@ -31,7 +31,7 @@ kind_small Keeps.no = omega arith
 kind_small Keeps.empty = omega arith
 
 -- nine bytes each
-bytes_long : (k n : ℕ) → length (bytes_in k n) ≡ k
+pub bytes_long : (k n : ℕ) → length (bytes_in k n) ≡ k
 unfolding bytes_in
 bytes_long zero n = refl
 bytes_long (suc k) n = length-append (bytes_in k (n / 256)) (n % 256 ∷ []) ∙ (let e = bytes_long k (n / 256) in omega arith)

@@ -5,5 +5,6 @@ pub mod Output
 pub mod Cells
 pub mod Machine
 pub mod Call
+pub mod Promise
 pub mod Examples
 pub mod CallExamples

@@ -12,7 +12,8 @@ ghost use Rattle.definition.specs.Bytecode.{Image};
 ghost use Rattle.definition.specs.Decode.{read_image};
 ghost use Rattle.listing.specs.Reads.{ImageAt};
 ghost use Rattle.trial.specs.Cells.{work_size};
-ghost use Rattle.trial.specs.Call.{taken_outcome, refused_with, image_outcome, run_outcome, outcome_answer, outcome_into, work_after, ChunkToRun};
+ghost use Rattle.trial.specs.Call.{taken_outcome, refused_with, image_outcome, outcome_answer, outcome_into, ChunkToRun};
+ghost use Rattle.trial.specs.Promise.{TrialRuns};
 
 use bytecode::{Parts, check_image};
 pub use cells::{Value, value_in};
@@ -99,9 +100,7 @@ pub fn run(
     work: &mut [u64],
     output: &mut [u8],
 ) -> Result<Ran, Refusal>
-    ensures answers { result ≡ outcome_answer (run_outcome image.now heights.now (length work.old) (length output.old)) }
-    ensures writes { output.new ≡ outcome_into (run_outcome image.now heights.now (length work.old) (length output.old)) output.old }
-    ensures clears { work.new ≡ work_after work.old }
+    ensures { TrialRuns image.now heights.now work.old output.old result work.new output.new }
 {
     match work.first_chunk_mut() {
         Some(work) => run_in(image, heights, work, output),

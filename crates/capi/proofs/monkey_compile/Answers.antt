@@ -2,7 +2,7 @@
 use Rattle.definition.specs.Limit.{session_size}
 use Rattle.definition.proofs.Slices.{are_bytes}
 use Rattle.compiler.proofs.Lent.{front_bytes}
-use Rattle.capi.proofs.Fits.{fits_as, packs_as, call_fits, call-told, packs_back}
+use Rattle.exported.proofs.Fits.{fits_as, packs_as, call_fits, call-told, packs_back}
 use Rattle.capi.proofs.monkey_compile.Goals as goal
 
 pub pack-requires : goal.pack-requires

@@ -3,9 +3,9 @@ use borrow.Author.Rules.{rules}
 use Rattle.definition.specs.Limit.{session_size}
 use Rattle.definition.proofs.Slices.{are_bytes}
 use Rattle.compiler.proofs.Lent.{front_bytes}
-use Rattle.capi.proofs.Fits.{fits_as}
-use Rattle.capi.proofs.Mapped.{said_fits, said_packs}
-use Rattle.capi.proofs.Named.{names_said, packs_names}
+use Rattle.exported.proofs.Fits.{fits_as}
+use Rattle.exported.proofs.Mapped.{said_fits, said_packs}
+use Rattle.exported.proofs.Named.{names_said, packs_names}
 use Rattle.capi.proofs.monkey_compile_names.Goals as goal
 
 pub pair-answer-requires : goal.pair-answer-requires

@@ -1,6 +1,6 @@
 -- `capi::monkey_list_image` meets its contract: the answer of `list_image`, as one number.
 use Rattle.definition.proofs.Slices.{are_bytes}
-use Rattle.capi.proofs.Fits.{fits_as, packs_as, list_fits}
+use Rattle.exported.proofs.Fits.{fits_as, packs_as, list_fits}
 use Rattle.capi.proofs.monkey_list_image.Goals as goal
 
 pub pack-requires : goal.pack-requires

@@ -1,5 +1,5 @@
 -- `capi::monkey_load_tree` meets its contract: the answer of `make_tree`, as one number.
-use Rattle.capi.proofs.Fits.{fits_as, packs_as, load_fits}
+use Rattle.exported.proofs.Fits.{fits_as, packs_as, load_fits}
 use Rattle.capi.proofs.monkey_load_tree.Goals as goal
 
 pub pack-requires : goal.pack-requires

@@ -1,5 +1,5 @@
 -- `capi::monkey_make_session_words` meets its contract: the answer of `make_session_words`, as one number.
-use Rattle.capi.proofs.Fits.{fits_as, packs_as, words-fits, words-told, packs_back}
+use Rattle.exported.proofs.Fits.{fits_as, packs_as, words-fits, words-told, packs_back}
 use Rattle.capi.proofs.monkey_make_session_words.Goals as goal
 
 pub pack-requires : goal.pack-requires

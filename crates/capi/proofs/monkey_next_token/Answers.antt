@@ -1,8 +1,8 @@
 -- `capi::monkey_next_token` meets its contract: the answer of `next_token`, as one number, and its three numbers.
 use lib.ListN.{length}
 use mathlib.Core.Path.{ap, ◌∙◌}
-use Rattle.capi.specs.Token.{numbers_answer, numbers_into}
-use Rattle.capi.proofs.Fits.{fits_as, packs_as, token-fits}
+use Rattle.exported.specs.Token.{numbers_answer, numbers_into}
+use Rattle.exported.proofs.Fits.{fits_as, packs_as, token-fits}
 use Rattle.capi.proofs.monkey_next_token.Goals as goal
 
 pub pack-requires : goal.pack-requires

@@ -1,5 +1,5 @@
 -- `capi::monkey_read_text` meets its contract: the answer of `read_text`, as one number.
-use Rattle.capi.proofs.Fits.{fits_as, packs_as, read_fits}
+use Rattle.exported.proofs.Fits.{fits_as, packs_as, read_fits}
 use Rattle.capi.proofs.monkey_read_text.Goals as goal
 
 pub pack-requires : goal.pack-requires

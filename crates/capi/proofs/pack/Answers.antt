@@ -1,6 +1,6 @@
 -- `capi::pack` meets its contract: by the answer's case.
 use native.Mathlib.Omega.{arith}
-use Rattle.capi.proofs.Fits.{packs_length, packs_refused, refused-fits}
+use Rattle.exported.proofs.Fits.{packs_length, packs_refused, refused-fits}
 use Rattle.capi.proofs.pack.Goals as goal
 
 pub overflow_add-result : goal.overflow_add-result

@@ -24,8 +24,8 @@ returns-in_err-check_form c =
     let a = c.args in
     let wrong = wrong_form a.from a.image.now c.check_form.ensures c.in_err-check_form.was in
     record {
-      answers = passed_on c.from_residual.ensures.1 ∙ sym (ap (λ g. answer_of g (length a.output.now)) wrong);
-      writes = sym (ap (λ g. output_of g a.output.now) wrong);
+      answer = passed_on c.from_residual.ensures.1 ∙ sym (ap (λ g. answer_of g (length a.output.now)) wrong);
+      output = sym (ap (λ g. output_of g a.output.now) wrong);
     }
 
 pub returns-in_err-put_form : goal.returns-in_err-put_form
@@ -38,8 +38,8 @@ returns-in_err-put_form c =
     sound_form a.from a.image.now c.check_form.ensures c.in_ok-check_form.was bytes) in
     let bad = bad_form a.from b h.is (subst (λ r. TurnsImage a.from h.image b [] put.new.output r) c.in_err-put_form.was (put.ensures h.image h.is)) in
     record {
-      answers = passed_on c.from_residual-in_err-put_form.ensures.1 ∙ sym (ap (λ g. answer_of g (length a.output.now)) bad);
-      writes = empty-part put.new.output a.output.now put.auto.output ∙ sym (ap (λ g. output_of g a.output.now) bad);
+      answer = passed_on c.from_residual-in_err-put_form.ensures.1 ∙ sym (ap (λ g. answer_of g (length a.output.now)) bad);
+      output = empty-part put.new.output a.output.now put.auto.output ∙ sym (ap (λ g. output_of g a.output.now) bad);
     }
 
 pub returns : goal.returns
@@ -54,6 +54,6 @@ returns c =
     let fine = subst (λ r. TurnsImage a.from h.image b [] put.new.output r) c.in_ok-put_form.was (put.ensures h.image h.is) in
     let copied = subst (λ o. Copied a.from h.image o write.result write.new.output) (empty-part put.new.output a.output.now put.auto.output) (write.ensures h.image h.is) in
     record {
-      answers = fine_answer a.from b h.is fine copied;
-      writes = fine_output a.from b h.is fine copied;
+      answer = fine_answer a.from b h.is fine copied;
+      output = fine_output a.from b h.is fine copied;
     }

@@ -7,4 +7,4 @@ pub slice_bounds-result-end : goal.slice_bounds-result-end
 slice_bounds-result-end c =
     let start = c in
     let find = c.find_frame in
-    found_within start.args.image.now start.args.size start.args.index find.ensures c.in-Ok.is
+    found_within start.args.image.now start.args.size start.args.index find.ensures.answer c.in-Ok.is

@@ -18,8 +18,8 @@ returns-in_err-count c =
     let j = c.judge in
     let k = fails a.image.now h.is a.heights.now a.output.now (j.ensures h.image h.is) c.in_err-count.was in
     record {
-      answers = passed_on c.from_residual-in_err-count.ensures.1 ∙ k.0;
-      writes = empty-part j.new.output a.output.now j.auto.output ∙ k.1;
+      answer = passed_on c.from_residual-in_err-count.ensures.1 ∙ k.0;
+      output = empty-part j.new.output a.output.now j.auto.output ∙ k.1;
     }
 
 pub returns-then-output-count : goal.returns-then-output-count
@@ -29,8 +29,8 @@ returns-then-output-count c =
     let j = c.judge in
     let k = long a.image.now h.is a.heights.now a.output.now (j.ensures h.image h.is) c.in_ok-count.was (omega (arith, c.if-output-count.true, ap length (empty-part j.new.output a.output.now j.auto.output))) in
     record {
-      answers = c.refused.ensures ∙ k.0;
-      writes = empty-part j.new.output a.output.now j.auto.output ∙ k.1;
+      answer = c.refused.ensures ∙ k.0;
+      output = empty-part j.new.output a.output.now j.auto.output ∙ k.1;
     }
 
 pub returns : goal.returns
@@ -42,4 +42,4 @@ returns c =
     let e = empty-part j.new.output a.output.now j.auto.output in
     let facts = written a.image.now h.is a.heights.now a.output.now (j.ensures h.image h.is) c.in_ok-count.was (omega (arith, c.if-output-count.false, ap length e))
     (subst (λ o. PoolJudges a.heights.now h.image h.image.pool o g.result g.new.output) e (g.ensures h.image h.is)) in
-    record { answers = facts.0; writes = facts.1 }
+    record { answer = facts.0; output = facts.1 }

@@ -20,7 +20,7 @@ returns-then-heights-count c =
     let e = (empty-part c.propose-count.new.heights c.args.heights.now c.propose-count.auto.heights) in
     let k = proposal_long a.image.now h.is (j.ensures h.image h.is).many (length a.heights.now) (omega (arith, c.if-heights-count.true, ap length e)) in
     record {
-      answers = c.refused.ensures ∙ k.0;
+      answer = c.refused.ensures ∙ k.0;
       stays = ap (drop (proposal_size (read_image a.image.now) (length a.heights.now))) e;
     }
 
@@ -36,6 +36,6 @@ returns c =
     let k = proposal_fits a.image.now h.is q.many (length a.heights.now) (omega (arith, c.if-heights-count.false, ap length e)) in
     let z = k.1 ∙ q.many ∙ sym p.many in
     record {
-      answers = k.0;
+      answer = k.0;
       stays = ap (λ n. drop n g.new.heights) z ∙ p.rest ∙ ap (drop g.result) e ∙ sym (ap (λ n. drop n a.heights.now) z);
     }

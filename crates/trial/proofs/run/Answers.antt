@@ -9,7 +9,7 @@ returns-in-Some c =
     let l : 4096 ≤ length c.args.work.now = search rules in
     let o = work_long c.args.image.now c.args.heights.now (length c.args.work.now) (length c.args.output.now) l in
     record {
-      answers = c.run_in.ensures.answers ∙ sym (ap outcome_answer o);
-      writes = c.run_in.ensures.writes ∙ sym (ap (λ o. outcome_into o c.args.output.now) o);
-      clears = work_cleared c.args.work.now l c.run_in.ensures.clears;
+      answer = c.run_in.ensures.answers ∙ sym (ap outcome_answer o);
+      output = c.run_in.ensures.writes ∙ sym (ap (λ o. outcome_into o c.args.output.now) o);
+      work = work_cleared c.args.work.now l c.run_in.ensures.clears;
     }

@@ -16,10 +16,10 @@ returns c =
     let leap = c.leap.ensures in
     let fall = c.fall.ensures in
     record {
-      steps = stepped-on c.requires c.args.offered (sym c.if-not-fits.false ∙ c.fits.ensures) (sym c.if-not-free.false ∙ c.free.ensures) c.behind-after.ensures leap.answers c.if-not-leap.false leap.stores leap.lent.levels _ fall.answers fall.stores;
+      steps = stepped-on c.requires c.args.offered (sym c.if-not-fits.false ∙ c.fits.ensures) (sym c.if-not-free.false ∙ c.free.ensures) c.behind-after.ensures (rw c.leaps.ensures at leap.answers) c.if-not-leap.false (rw c.leaps.ensures at leap.stores) leap.lent.levels _ (rw c.falls.ensures at fall.answers) (rw c.falls.ensures at fall.stores);
       lent = keeps_on leap.lent fall.lent;
     }
 
 pub returns-then-not-leap-clause-steps : goal.returns-then-not-leap-clause-steps
 returns-then-not-leap-clause-steps c =
-    stepped_unleapt c.requires c.args.offered (sym c.if-not-fits.false ∙ c.fits.ensures) (sym c.if-not-free.false ∙ c.free.ensures) c.behind-after.ensures c.leap.ensures.answers _ c.if-not-leap.true
+    stepped_unleapt c.requires c.args.offered (sym c.if-not-fits.false ∙ c.fits.ensures) (sym c.if-not-free.false ∙ c.free.ensures) c.behind-after.ensures (rw c.leaps.ensures at c.leap.ensures.answers) _ c.if-not-leap.true

@@ -1,7 +1,0 @@
-pub mod Mapped
-pub mod Fits
-pub mod Sound
-pub mod Framed
-pub mod Conditions
-pub mod Trial
-pub mod Named

@@ -1,7 +1,0 @@
-pub mod Packed
-pub mod Framed
-pub mod Turned
-pub mod Heights
-pub mod Trial
-pub mod Named
-pub mod Token

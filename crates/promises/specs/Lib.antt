@@ -1,0 +1,12 @@
+pub mod Alike
+pub mod Heights
+pub mod Mixed
+pub mod Ended
+pub mod Evaluated
+pub mod Monkey
+pub mod Refusals
+pub mod Ends
+pub mod Charge
+pub mod Branch
+pub mod Condition1
+pub mod Scripts
