@@ -68,7 +68,9 @@ fn read_array<R: Read, const N: usize>(reader: &mut R) -> io::Result<[u8; N]> {
 
 // One byte as a number.
 // Kept: three, here and below, each by the pattern of its bytes: one over N would ask that N is at most 8, and shift in a loop.
-fn read_byte<R: Read>(reader: &mut R) -> io::Result<usize> {
+fn read_byte<R: Read>(reader: &mut R) -> io::Result<usize>
+    ensures { IfOk result (λ n. n < 256) }
+{
     let [low] = read_array::<R, 1>(reader)?;
     Ok(wide(low))
 }
@@ -185,7 +187,7 @@ fn read_sizes<R: Read>(reader: &mut R) -> io::Result<Sizes> {
     })
 }
 
-// What a call makes of the first so many bytes, if there are as many.
+// What a call makes of the first so many bytes, if there are as many; where there are not, its outcome counts as a length of 0.
 fn make_in<F: Fn(&mut [u8]) -> Result<usize, Refusal>>(
     session: &mut [u8],
     size: usize,
@@ -202,7 +204,7 @@ fn run_make<R: Read>(reader: &mut R, session: &mut [u8; SESSION_SIZE]) -> io::Re
     let number = read_byte(reader)?;
     let value = read_long(reader)?;
     let answer = make_in(session, size, compiler::make_session);
-    Ok(answer.is_some_and(|answer| as_recorded(answer, number, value)))
+    Ok(as_recorded(answer.unwrap_or(Ok(0)), number, value))
 }
 
 // Making a session with words: the length of its buffer, the name fields, the outcome.
@@ -217,7 +219,7 @@ fn run_make_words<R: Read>(reader: &mut R, session: &mut [u8; SESSION_SIZE]) -> 
     let answer = make_in(session, size, |part| {
         compiler::make_session_words(part, words)
     });
-    Ok(answer.is_some_and(|answer| as_recorded(answer, number, value)))
+    Ok(as_recorded(answer.unwrap_or(Ok(0)), number, value))
 }
 
 // A session: its first bytes, and zeros after them.
