@@ -222,12 +222,19 @@ fn run_make_words<R: Read>(reader: &mut R, session: &mut [u8; SESSION_SIZE]) -> 
     Ok(as_recorded(answer.unwrap_or(Ok(0)), number, value))
 }
 
-// A session: its first bytes, and zeros after them.
-fn read_session<R: Read>(reader: &mut R) -> io::Result<[u8; SESSION_SIZE]> {
+// Reads a session: its first bytes, and zeros after them.
+// Kept: into a session that is lent: one that is answered by value is zeroed and copied for each record, which takes twice the time.
+fn read_session<R: Read>(reader: &mut R, session: &mut [u8; SESSION_SIZE]) -> io::Result<()> {
     let length = read_word(reader)?;
-    let mut session = [0u8; SESSION_SIZE];
-    read_part(reader, &mut session, length)?;
-    Ok(session)
+    session.fill(0);
+    read_part(reader, session, length)
+}
+
+// Whether the session is the one that is read.
+fn check_session<R: Read>(reader: &mut R, session: &[u8; SESSION_SIZE]) -> io::Result<bool> {
+    let mut expected = [0u8; SESSION_SIZE];
+    read_session(reader, &mut expected)?;
+    Ok(expected == *session)
 }
 
 // Runs a record: whether it agrees; none of what lies between two calls.
@@ -242,11 +249,11 @@ fn run_record<R: Read>(
             Ok(None)
         }
         Record::Own => {
-            *session = read_session(reader)?;
+            read_session(reader, session)?;
             Ok(None)
         }
         Record::Call => Ok(Some(run_call(reader, session, full_sizes())?)),
-        Record::Session => Ok(Some(read_session(reader)? == *session)),
+        Record::Session => Ok(Some(check_session(reader, session)?)),
         Record::Made => Ok(Some(run_make(reader, session)?)),
         Record::CallInParts => {
             let sizes = read_sizes(reader)?;
