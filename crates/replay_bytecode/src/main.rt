@@ -7,6 +7,8 @@
 // three bytes is translated, and the answer has the bytes.
 #![tactic(auto)]
 
+ghost use Rattle.std.specs.Prelude.{◌<◌, IfSome};
+
 use definition::{Reason, Refusal};
 use opcode::Instruction;
 use report::{print_failure, print_refusal};
@@ -178,7 +180,9 @@ fn answer<R: Print>(rt: &R, bytes: &[u8; 65536], kind: u8, length: usize) -> io:
 }
 
 // The value of a hexadecimal digit, if it is one.
-fn digit(b: u8) -> Option<u8> {
+fn digit(b: u8) -> Option<u8>
+    ensures { IfSome result (λ d. d < 16) }
+{
     match b {
         b'0'..=b'9' => Some(b - b'0'),
         b'a'..=b'f' => Some(b - b'a' + 10),
