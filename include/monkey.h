@@ -7,9 +7,10 @@
  *   No pointer is null, also where the length is 0; a table area, a list of heights or the numbers of a token are aligned as a uint32_t, a work area as a uint64_t.
  *   No two buffers of one call overlap, and nothing else reads or writes them while it runs.
  *   The functions keep nothing of their own between calls and use no heap, so that threads may call them on buffers of their own.
- *   A call takes up to 100,000 bytes of stack (measured on trees of 64 levels); those on heights up to 270,000 (measured: 262,880, most of it one
- *   number for each offset of the longest image), the trial run, which goes over main twice, up to 540,000 (measured: 529,712).
- *   monkey_read_text takes up to 60,000, whatever the text nests (measured: 51,936, the thread's own among them, on 30,000 nested texts; tests/worst_texts.c has the worst).
+ *   A call takes up to 100,000 bytes of stack (measured on trees of 64 levels); those on heights up to 270,000 (measured: 266,900, most of it one
+ *   number for each offset of the longest image), the trial run, which goes over main twice, up to 540,000 (measured: 529,156).
+ *   monkey_read_text takes up to 60,000, whatever the text nests (measured: 59,088 on 20,699 texts; tests/worst_texts.c has the worst). The thread's own
+ *   are among those measured, 4,464 bytes.
  *
  * Answers
  *   Each function answers one 64-bit number. Where the high half is 0, the low half is a length, of what was written, in elements, or two numbers, where its comment

@@ -18,7 +18,7 @@ import re
 import sys
 
 ROOT = pathlib.Path(__file__).resolve().parent.parent
-PAST = {"CHANGES.md", "PORT.md", "DESIGN-PASS.md"}
+PAST = {"CHANGES.md", "PORT.md", "DESIGN-PASS.md", "LOOK-BACK.md"}
 WRITTEN = "<!-- written by tools/"
 WIDTH = 120
 README_BYTES = 6144

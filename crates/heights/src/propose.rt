@@ -16,12 +16,14 @@ use opcode::Instruction;
 
 // What arrives behind an instruction, as if there were no way to it where it takes more than is there.
 fn flow(i: Instruction, level: u32) -> u32 {
-    let taken = takes(i);
-    if level <= NO_WAY || 100000 < level || level - GROUND < taken {
-        NO_WAY
-    } else {
-        level - taken + gives(i.op)
+    if level <= NO_WAY || 100000 < level {
+        return NO_WAY;
     }
+    let taken = takes(i);
+    if level - GROUND < taken {
+        return NO_WAY;
+    }
+    level - taken + gives(i.op)
 }
 
 // What proposing is lent, the list and the marks, and how many heights were proposed so far.

@@ -1,4 +1,5 @@
 pub mod Puts
+pub mod PutsAt
 pub mod Digits
 pub mod Numbers
 pub mod Items

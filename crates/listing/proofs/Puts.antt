@@ -15,7 +15,7 @@ use Rattle.listing.specs.declared.text.Writer.{Writer}
 use Rattle.listing.specs.Put.{Puts}
 
 -- past the end a store does nothing
-sets_past : (l : Bytes) (i : ℕ) (xs : Bytes) → length l ≤ i → sets l i xs ≡ l
+pub sets_past : (l : Bytes) (i : ℕ) (xs : Bytes) → length l ≤ i → sets l i xs ≡ l
 sets_past l i [] h = refl
 sets_past l i (x ∷ xs) h = let e = set_past l i x h in ap (λ m. sets m (suc i) xs) e ∙ sets_past l (suc i) xs (omega arith)
 

@@ -1,4 +1,5 @@
 pub mod Put
+pub mod PutAt
 pub mod Reads
 pub mod Measured
 pub mod CheckThenList

@@ -22,7 +22,7 @@ pub fn decimal_length(n: usize) -> usize
 }
 
 // The length of a number in decimal with at least four digits.
-fn padded_length(n: usize) -> usize
+pub fn padded_length(n: usize) -> usize
     ensures is { result ≡ length (padded n) }
     ensures small { result ≤ 20 }
 {
@@ -33,7 +33,7 @@ fn padded_length(n: usize) -> usize
 }
 
 // The length of eight bytes in two's complement as a number in decimal.
-fn signed_length(bytes: &[u8; 8]) -> usize
+pub fn signed_length(bytes: &[u8; 8]) -> usize
     ensures is { result ≡ length (signed bytes.now) }
     ensures small { result ≤ 21 }
 {

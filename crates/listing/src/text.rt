@@ -1,9 +1,13 @@
 // Text put into an output: stored where there is room.
-ghost use Rattle.std.specs.Prelude.{◌≡◌, [], ◌∷◌, ◌-◌, ◌≤◌, ◌<◌, length, replicate};
+ghost use Rattle.std.specs.Prelude.{◌≡◌, [], ◌∷◌, ◌+◌, ◌-◌, ◌*◌, ◌≤◌, ◌<◌, length, min, replicate};
 ghost use Rattle.std.specs.Int.{w64, cast_signed};
+ghost use Rattle.definition.specs.Basic.{byte_at};
+ghost use Rattle.definition.specs.Field.{bytes};
 ghost use Rattle.definition.specs.Text.{digit as digitOf, digits, decimal, padded, number, signed, hex_digit, hex};
 ghost use Rattle.definition.specs.Listing.{newline, also, hex_field};
+ghost use Rattle.listing.specs.PutAt.{Room, PutsAt};
 
+use crate::lengths::{decimal_length, padded_length, signed_length};
 use session::write::copy;
 
 // A lent output, and the offset up to which it is filled: a text that does not fit is cut off.
@@ -162,4 +166,83 @@ impl<'a> Writer<'a> {
             self.put_hex(bytes);
         }
     }
+}
+
+// What follows puts at any offset, and counts on behind the output's end, so that an output of no bytes measures. Each function answers
+// the offset behind its text.
+
+// A writer at an offset, or at the output's end where the offset is behind it.
+fn begin<'a>(output: &'a mut [u8], at: usize) -> Writer<'a>
+    ensures at { result.at ≡ min at (length output.entry.now) }
+    ensures now { result.output.now ≡ output.entry.now }
+    ensures same { result.output.ghost_name ≡ output.entry.ghost_name }
+{
+    Writer {
+        at: at.min(output.len()),
+        output,
+    }
+}
+
+// Puts the end of a line.
+pub fn put_newline(output: &mut [u8], at: usize) -> usize
+    requires { Room 1 at }
+    ensures { PutsAt 1 output.old output.new at result newline }
+{
+    let mut writer = begin(output, at);
+    writer.put_newline();
+    at + 1
+}
+
+// Puts a number in decimal.
+pub fn put_decimal(output: &mut [u8], at: usize, n: usize) -> usize
+    requires { Room 20 at }
+    ensures { PutsAt 20 output.old output.new at result (decimal n) }
+{
+    let mut writer = begin(output, at);
+    writer.put_decimal(n);
+    at + decimal_length(n)
+}
+
+// Puts a number in decimal with at least four digits.
+pub fn put_padded(output: &mut [u8], at: usize, n: usize) -> usize
+    requires { Room 23 at }
+    ensures { PutsAt 23 output.old output.new at result (padded n) }
+{
+    let mut writer = begin(output, at);
+    writer.put_padded(n);
+    at + padded_length(n)
+}
+
+// Puts a further field of a line, a number.
+pub fn put_field(output: &mut [u8], at: usize, n: usize) -> usize
+    requires { Room 21 at }
+    ensures { PutsAt 21 output.old output.new at result (also (decimal n)) }
+{
+    let mut writer = begin(output, at);
+    writer.put_field(n);
+    at + 1 + decimal_length(n)
+}
+
+// Puts eight bytes in two's complement as a number in decimal.
+pub fn put_signed(output: &mut [u8], at: usize, image: &[u8], from: usize) -> usize
+    requires { Room 21 at × (from + 8 ≤ length image.now) }
+    ensures { PutsAt 21 output.old output.new at result (signed (bytes (byte_at image.now) from 8)) }
+{
+    let content = image[from..].first_chunk().unwrap();
+    let mut writer = begin(output, at);
+    writer.put_signed(content);
+    at + signed_length(content)
+}
+
+// Puts a further field of a line, `len` bytes in hexadecimal; no field for none.
+pub fn put_hex_field(output: &mut [u8], at: usize, image: &[u8], from: usize, len: usize) -> usize
+    requires { Room (1 + 2 * len) at × (from + len ≤ length image.now) }
+    ensures { PutsAt (1 + 2 * len) output.old output.new at result (hex_field (bytes (byte_at image.now) from len)) }
+{
+    if len == 0 {
+        return at;
+    }
+    let mut writer = begin(output, at);
+    writer.put_hex_field(&image[from..from + len]);
+    at + 1 + 2 * len
 }

@@ -68,7 +68,9 @@ fn read_array<R: Read, const N: usize>(reader: &mut R) -> io::Result<[u8; N]> {
 
 // One byte as a number.
 // Kept: three, here and below, each by the pattern of its bytes: one over N would ask that N is at most 8, and shift in a loop.
-fn read_byte<R: Read>(reader: &mut R) -> io::Result<usize> {
+fn read_byte<R: Read>(reader: &mut R) -> io::Result<usize>
+    ensures { IfOk result (λ n. n < 256) }
+{
     let [low] = read_array::<R, 1>(reader)?;
     Ok(wide(low))
 }
@@ -185,7 +187,7 @@ fn read_sizes<R: Read>(reader: &mut R) -> io::Result<Sizes> {
     })
 }
 
-// What a call makes of the first so many bytes, if there are as many.
+// What a call makes of the first so many bytes, if there are as many; where there are not, its outcome counts as a length of 0.
 fn make_in<F: Fn(&mut [u8]) -> Result<usize, Refusal>>(
     session: &mut [u8],
     size: usize,
@@ -202,7 +204,7 @@ fn run_make<R: Read>(reader: &mut R, session: &mut [u8; SESSION_SIZE]) -> io::Re
     let number = read_byte(reader)?;
     let value = read_long(reader)?;
     let answer = make_in(session, size, compiler::make_session);
-    Ok(answer.is_some_and(|answer| as_recorded(answer, number, value)))
+    Ok(as_recorded(answer.unwrap_or(Ok(0)), number, value))
 }
 
 // Making a session with words: the length of its buffer, the name fields, the outcome.
@@ -217,15 +219,22 @@ fn run_make_words<R: Read>(reader: &mut R, session: &mut [u8; SESSION_SIZE]) -> 
     let answer = make_in(session, size, |part| {
         compiler::make_session_words(part, words)
     });
-    Ok(answer.is_some_and(|answer| as_recorded(answer, number, value)))
+    Ok(as_recorded(answer.unwrap_or(Ok(0)), number, value))
 }
 
-// A session: its first bytes, and zeros after them.
-fn read_session<R: Read>(reader: &mut R) -> io::Result<[u8; SESSION_SIZE]> {
+// Reads a session: its first bytes, and zeros after them.
+// Kept: into a session that is lent: one that is answered by value is zeroed and copied for each record, which takes twice the time.
+fn read_session<R: Read>(reader: &mut R, session: &mut [u8; SESSION_SIZE]) -> io::Result<()> {
     let length = read_word(reader)?;
-    let mut session = [0u8; SESSION_SIZE];
-    read_part(reader, &mut session, length)?;
-    Ok(session)
+    session.fill(0);
+    read_part(reader, session, length)
+}
+
+// Whether the session is the one that is read.
+fn check_session<R: Read>(reader: &mut R, session: &[u8; SESSION_SIZE]) -> io::Result<bool> {
+    let mut expected = [0u8; SESSION_SIZE];
+    read_session(reader, &mut expected)?;
+    Ok(expected == *session)
 }
 
 // Runs a record: whether it agrees; none of what lies between two calls.
@@ -240,11 +249,11 @@ fn run_record<R: Read>(
             Ok(None)
         }
         Record::Own => {
-            *session = read_session(reader)?;
+            read_session(reader, session)?;
             Ok(None)
         }
         Record::Call => Ok(Some(run_call(reader, session, full_sizes())?)),
-        Record::Session => Ok(Some(read_session(reader)? == *session)),
+        Record::Session => Ok(Some(check_session(reader, session)?)),
         Record::Made => Ok(Some(run_make(reader, session)?)),
         Record::CallInParts => {
             let sizes = read_sizes(reader)?;

@@ -1,15 +1,18 @@
 // Runs recorded cases of instructions, images, listings and sessions, and writes the answer to each on a line. The file `cases` has a
 // question on each line: a word (image, list, decode or start), a space, and bytes in hexadecimal, where `{6100}3.` stands for the bytes
-// between the braces three times over. A session's bytes (start) are followed by zeros up to 65,536. A listing's image (list) stands
+// between the braces three times over; of the bytes 65,536 are kept, and of the word its first letter says what is asked.
+// A session's bytes (start) are followed by zeros up to 65,536. A listing's image (list) stands
 // behind the length of its output in three bytes; the listing follows its answer. Frames are counted (count) in an image behind a size in
 // four bytes, and found (part) in one behind size and number. An image (turn) or a chin form (unturn) behind the length of its output in
 // three bytes is translated, and the answer has the bytes.
 #![tactic(auto)]
 
+ghost use Rattle.std.specs.Prelude.{◌<◌, IfSome};
+
 use definition::{Reason, Refusal};
 use opcode::Instruction;
 use report::{print_failure, print_refusal};
-use std::alloc::{AllocError, Global};
+use std::io::Read;
 use std::{fs, io};
 
 // Write a number with a space before it.
@@ -159,62 +162,130 @@ fn write_bytes<R: Print>(rt: &R, bytes: &[u8]) -> io::Result<()> {
     rt.println("")
 }
 
-// Answer a line's question, by its word; a line of another word has no answer.
-fn answer<R: Print>(rt: &R, word: &str, mut bytes: Vec<u8>) -> io::Result<()> {
-    match word {
-        "image" => answer_image(rt, bytes.as_slice()),
-        "list" => answer_turned(
-            rt,
-            bytes.as_slice(),
-            listing::list_image,
-            write_listing::<R>,
-        ),
-        "decode" => answer_decode(rt, bytes.as_slice()),
-        "start" => {
-            bytes.resize(65536, 0)?;
-            answer_session(rt, bytes.as_slice())
-        }
-        "count" => answer_count(rt, bytes.as_slice()),
-        "part" => answer_part(rt, bytes.as_slice()),
-        "turn" => answer_turned(rt, bytes.as_slice(), chin::to_chin, write_bytes::<R>),
-        "unturn" => answer_turned(rt, bytes.as_slice(), chin::from_chin, write_bytes::<R>),
-        _ => Ok(()),
+// Answer a line's question, by the first letter of its word, on its first `length` bytes; a session is all of them.
+fn answer<R: Print>(rt: &R, bytes: &[u8; 65536], kind: u8, length: usize) -> io::Result<()> {
+    let Some(asked) = bytes.get(..length) else {
+        return Ok(());
+    };
+    match kind {
+        b'i' => answer_image(rt, asked),
+        b'l' => answer_turned(rt, asked, listing::list_image, write_listing::<R>),
+        b'd' => answer_decode(rt, asked),
+        b's' => answer_session(rt, bytes),
+        b'c' => answer_count(rt, asked),
+        b'p' => answer_part(rt, asked),
+        b't' => answer_turned(rt, asked, chin::to_chin, write_bytes::<R>),
+        _ => answer_turned(rt, asked, chin::from_chin, write_bytes::<R>),
     }
 }
 
-// Put the bytes of a text in hexadecimal behind others.
-// Kept: two offsets for a byte, since a `str` has no chunks, and a chunk of its bytes would have to be made a `str` again.
-fn push_hex(bytes: &mut Vec<u8>, text: &str) -> Result<(), AllocError> {
-    for k in 0..text.len() / 2 {
-        if let Some(pair) = text.get(2 * k..2 * k + 2) {
-            bytes.push(u8::from_str_radix(pair, 16).unwrap_or(0))?;
-        }
+// The value of a hexadecimal digit, if it is one.
+fn digit(b: u8) -> Option<u8>
+    ensures { IfSome result (λ d. d < 16) }
+{
+    match b {
+        b'0'..=b'9' => Some(b - b'0'),
+        b'a'..=b'f' => Some(b - b'a' + 10),
+        _ => None,
     }
-    Ok(())
 }
 
-// The bytes that a text in hexadecimal stands for, with its groups.
-fn read_bytes(alloc: Global, text: &str) -> Result<Vec<u8>, AllocError> {
-    let mut bytes = Vec::new(alloc);
-    for piece in text.split('{') {
-        let Some((group, rest)) = piece.split_once('}') else {
-            push_hex(&mut bytes, piece)?;
-            continue;
-        };
-        let (times, after) = rest.split_once('.').unwrap_or((rest, ""));
-        for _ in 0..times.parse::<usize>().unwrap_or(0) {
-            push_hex(&mut bytes, group)?;
-        }
-        push_hex(&mut bytes, after)?;
-    }
-    Ok(bytes)
+// Where reading stands in a line: its first letter, whether its bytes have begun, how many there are, the digit that waits for a second
+// one, where the last group began, and, behind its brace, how often it is to stand.
+// Kept: no `String` and no `Vec` of a file and its lines: the bytes that are kept of a line have one bound, whatever the file asks for.
+#[derive(Clone, Copy, Default)]
+struct Line {
+    kind: u8,
+    begun: bool,
+    length: usize,
+    high: Option<u8>,
+    group: usize,
+    times: Option<usize>,
 }
 
-// Answer the questions of the cases, one on each line.
-fn answer_all(rt: &impl Print, alloc: Global, cases: &str) -> io::Result<()> {
-    for line in cases.lines() {
-        if let Some((word, text)) = line.split_once(' ') {
-            answer(rt, word, read_bytes(alloc, text)?)?;
+impl Line {
+    // Read a byte of the line's first word.
+    fn read_word(&mut self, b: u8) {
+        if b == b' ' {
+            self.begun = true;
+        } else if self.kind == 0 {
+            self.kind = b;
+        }
+    }
+
+    // Put a byte behind the others, if there is room.
+    fn put(&mut self, bytes: &mut [u8; 65536], b: u8) {
+        if let Some(place) = bytes.get_mut(self.length) {
+            *place = b;
+            self.length += 1;
+        }
+    }
+
+    // Put the bytes from the group's beginning on behind the others, so that they stand so many times, as far as there is room.
+    fn repeat(&mut self, bytes: &mut [u8; 65536], times: usize) {
+        let size = self.length.saturating_sub(self.group);
+        let more = size.saturating_mul(times.saturating_sub(1));
+        let end = self.length.saturating_add(more).min(bytes.len());
+        for k in self.length..end {
+            bytes[k] = bytes[k - size];
+        }
+        self.length = end;
+    }
+
+    // Read a byte of a group's count.
+    fn read_count(&mut self, bytes: &mut [u8; 65536], times: usize, b: u8) {
+        if b == b'.' {
+            self.times = None;
+            self.repeat(bytes, times);
+        } else if times < 65536 {
+            self.times = Some(times * 10 + digit(b).map_or(16, usize::from));
+        }
+    }
+
+    // Read a byte of the line's bytes.
+    fn read_byte(&mut self, bytes: &mut [u8; 65536], b: u8) {
+        match (b, digit(b), self.high) {
+            (b'{', _, _) => self.group = self.length,
+            (b'}', _, _) => self.times = Some(0),
+            (_, Some(low), Some(high)) => {
+                self.high = None;
+                self.put(bytes, high % 16 * 16 + low % 16);
+            }
+            (_, Some(high), None) => self.high = Some(high),
+            _ => {}
+        }
+    }
+
+    // Read a byte of the cases; at a line's end its question is answered, and the next line begins.
+    fn read<R: Print>(&mut self, rt: &R, bytes: &mut [u8; 65536], b: u8) -> io::Result<()> {
+        if b == b'\n' {
+            if let Some(rest) = bytes.get_mut(self.length..) {
+                rest.fill(0);
+            }
+            answer(rt, bytes, self.kind, self.length)?;
+            *self = Line::default();
+            return Ok(());
+        }
+        match self.times {
+            _ if !self.begun => self.read_word(b),
+            Some(times) => self.read_count(bytes, times, b),
+            None => self.read_byte(bytes, b),
+        }
+        Ok(())
+    }
+}
+
+// Read a whole file of cases, and answer each line as it ends. Nothing says that a file ends, so the turns are counted.
+fn read_all<R: Read>(rt: &impl Print, reader: &mut R, bytes: &mut [u8; 65536]) -> io::Result<()> {
+    let mut line = Line::default();
+    let mut part = [0u8; 4096];
+    for _ in 0..u64::MAX {
+        let n = reader.read(&mut part)?;
+        if n == 0 {
+            break;
+        }
+        for b in &part[..n] {
+            line.read(rt, bytes, *b)?;
         }
     }
     Ok(())
@@ -222,8 +293,8 @@ fn answer_all(rt: &impl Print, alloc: Global, cases: &str) -> io::Result<()> {
 
 fn main(rt: HostRuntime) -> io::Result<()> {
     let path = "cases";
-    match fs::read_to_string(&rt, path) {
-        Ok(cases) => answer_all(&rt, rt.alloc(), cases.as_str()),
+    match fs::open(&rt, path) {
+        Ok(mut file) => read_all(&rt, &mut file, &mut [0u8; 65536]),
         Err(e) => print_failure(&rt, path, &e),
     }
 }

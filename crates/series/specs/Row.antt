@@ -1,5 +1,5 @@
 -- A row of trees that one session compiles, one after the other.
-use Rattle.std.specs.Prelude.{List, [], ◌∷◌, ◌≡◌, length, take, Ok}
+use Rattle.std.specs.Prelude.{ℕ, List, [], ◌∷◌, ◌≡◌, length, take, drop, Ok}
 use Rattle.definition.specs.Basic.{Bytes}
 use Rattle.definition.specs.Limit.{session_size}
 use Rattle.definition.specs.Compile.{Step}
@@ -7,6 +7,11 @@ use Rattle.definition.specs.Call.{Lent, Called, call, made}
 use Rattle.definition.specs.Series.{Call, session_made, Same, Indistinguishable}
 use Rattle.definition.specs.Answer.{Answer}
 use Rattle.compiler.specs.Promise.{Ran}
+
+-- the trees of a row, by their lengths; one that passes the row's end is what is left
+abbrev pub trees_of : Bytes → List ℕ → List Bytes
+trees_of b [] = []
+trees_of b (n ∷ ns) = take n b ∷ trees_of (drop n b) ns
 
 -- the calls of a row of trees, each in the memory that the one before it left
 abbrev pub row_calls : List Bytes → Lent → List Call

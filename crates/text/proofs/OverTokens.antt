@@ -41,13 +41,10 @@ is_next (Err z) x e o p = never (cc)
 pub next_ends : (text : Bytes) (at : ℕ) → at ≤ length text → (r : Result piece.Token Stop) {o : Option piece.Token} {t : piece.Token} → next_of r ≡ ahead (next_at (byte_at text) (length text) at) → o ≡ result_ok r → o ≡ Some t → Ends at (length text) t
 next_ends text at h r e o p = token_ends (moves_next (byte_at text) (length text) at h) (is_next r _ e o p)
 
--- a token that was given is next in the text; and why none was
+-- a token that was given is next in the text
 module _ {text : Bytes} {s t : Tokens} (w : s.text.now ≡ text) where
   pub given : {x : piece.Token} → NextIs s x t → next_of (Ok x) ≡ ahead (next_at (byte_at text) (length text) s.at)
   given {x} n = subst (λ u. next_of (Ok x) ≡ ahead (next_at (byte_at u) (length u) s.at)) w n.is
-
-  pub stopped : (z : Stop) → t ≡ s → next_of (Err z) ≡ ahead (next_at (byte_at t.text.now) (length t.text.now) t.at) → next_of (Err z) ≡ ahead (next_at (byte_at text) (length text) s.at)
-  stopped z e n = subst (λ u. next_of (Err z) ≡ ahead (next_at (byte_at u) (length u) s.at)) w (subst (λ (t : Tokens). next_of (Err z) ≡ ahead (next_at (byte_at t.text.now) (length t.text.now) t.at)) e n)
 
   -- what the writing sees of it, and of the text's end
   pub given_seen : {at : ℕ} {x : piece.Token} → s.at ≡ at → at ≤ end_of text → NextIs s x t → Sees text at x

@@ -1,10 +1,7 @@
 // The tokens of a text, one after the other.
-ghost use Rattle.std.specs.Prelude.{◌≡◌, ◌≤◌, Err, length};
-ghost use Rattle.definition.specs.Basic.{byte_at};
-ghost use Rattle.text.specs.Scan.{next_at};
-ghost use Rattle.text.specs.Seen.{ahead, next_of};
+ghost use Rattle.std.specs.Prelude.{◌≡◌, ◌≤◌, length};
 
-use crate::scan::{Stop, Token, next_token};
+use crate::scan::{Token, next_token};
 
 // The tokens from an offset on, up to where none is next.
 #[derive(Clone, Copy)]
@@ -15,8 +12,6 @@ pub struct Tokens<'a> {
 }
 
 impl<'a> Tokens<'a> {
-    ghost use Rattle.text.specs.Tokens.{Stopped};
-
     // From an offset on.
     pub fn new(text: &'a [u8], at: usize) -> Self
         requires { at ≤ length text.now }
@@ -24,14 +19,6 @@ impl<'a> Tokens<'a> {
         ensures at { result.at ≡ at }
     {
         Tokens { text, at }
-    }
-
-    // Why no token is next.
-    pub fn stop(&self) -> Stop
-        requires { Stopped self.now }
-        ensures { next_of (Err result) ≡ ahead (next_at (byte_at self.now.text.now) (length self.now.text.now) self.now.at) }
-    {
-        next_token(self.text, self.at).unwrap_err()
     }
 }
 

@@ -1,45 +1,43 @@
 -- `recognize` meets its contract: what is left of the text decides.
 use native.Mathlib.Omega.{arith}
-use mathlib.Core.Path.{refl, ap, ◌∙◌}
+use mathlib.Core.Path.{ap, ◌∙◌}
 use Rattle.std.specs.Prelude.{Err}
-use Rattle.text.proofs.OverTokens.{given, stopped}
-use Rattle.text.proofs.Turns.{begins, going_at, at-end, at_broken, at-large, token_seen, at_stuck, goes-on}
+use Rattle.text.proofs.Turns.{begins, at-end, at_broken, at-large, token_seen, at_stuck, goes-on}
 use Rattle.text.proofs.recognize.recognize.Goals as goal
 
 pub loop-token-init : goal.loop-token-init
-loop-token-init c = record { text = c.new-tokens.ensures.text; going = going_at c.new-tokens.ensures.at (begins _ _) }
+loop-token-init c = begins _ _
 
-pub returns-in_default-step : goal.returns-in_default-step
-returns-in_default-step c =
-    let i = c.loop-token.invariant in
-    c.refused.ensures ∙ at_stuck _ _ _ _ _ i.going (given i.text c.in-Some.ensures.steps) refl _ c.top.ensures c.step.ensures c.in_default-step.is
+pub returns-in-Err-Finished : goal.returns-in-Err-Finished
+returns-in-Err-Finished c =
+    let found = c.in-Err-Finished in
+    at-end _ _ _ _ _ c.loop-token.invariant c.next_token.ensures (found.is ∙ ap Err found.field-0-is) c.top.ensures c.at_end.ensures
+
+pub returns-in-Err-Broken : goal.returns-in-Err-Broken
+returns-in-Err-Broken c =
+    let found = c.in-Err-Broken in
+    c.refused.ensures ∙ at_broken _ _ _ _ _ c.loop-token.invariant c.next_token.ensures (found.is ∙ ap Err found.field-0-is)
+
+pub returns-in-Err-Large : goal.returns-in-Err-Large
+returns-in-Err-Large c =
+    let found = c.in-Err-Large in
+    at-large _ _ _ _ _ c.loop-token.invariant c.next_token.ensures (found.is ∙ ap Err found.field-0-is) c.top-in-Err-Large.ensures c.at_large.ensures
+
+pub returns-in_default : goal.returns-in_default
+returns-in_default c =
+    c.refused-in_default.ensures ∙ at_stuck _ _ _ _ _ c.loop-token.invariant c.next_token.ensures c.in-Ok.is _ c.top-in-loop-token.ensures c.step.ensures c.in_default.is
 
 pub change-requires : goal.change-requires
 change-requires c =
-    let i = c.loop-token.invariant in
-    let seen = token_seen _ _ _ _ _ i.going (given i.text c.in-Some.ensures.steps) refl in
-    omega (arith, i.going.low, seen.behind, seen.early)
+    let going = c.loop-token.invariant in
+    let seen = token_seen _ _ _ _ _ going c.next_token.ensures c.in-Ok.is in
+    omega (arith, going.low, seen.behind, seen.early)
+
+pub loop-token-smaller : goal.loop-token-smaller
+loop-token-smaller c =
+    let seen = token_seen _ _ _ _ _ c.loop-token.invariant c.next_token.ensures c.in-Ok.is in
+    omega (arith, seen.behind, seen.inside)
 
 pub loop-token-preserved : goal.loop-token-preserved
 loop-token-preserved c =
-    let i = c.loop-token.invariant in
-    let n = c.in-Some.ensures.steps in
-    record {
-      text = n.text ∙ i.text;
-      going = going_at n.at (goes-on _ _ _ _ _ i.going (given i.text n) refl _ c.top.ensures c.step.ensures c.in-Some-step.is c.change.ensures.is c.change.ensures.low);
-    }
-
-pub returns-in-Finished : goal.returns-in-Finished
-returns-in-Finished c =
-    let i = c.loop-token.invariant in
-    at-end _ _ _ _ _ i.going (stopped i.text c.stop.result c.in_default.ensures.steps.same c.stop.ensures) (ap Err c.in-Finished.is) c.top-in-Finished.ensures c.at_end.ensures
-
-pub returns-in-Broken : goal.returns-in-Broken
-returns-in-Broken c =
-    let i = c.loop-token.invariant in
-    c.refused-in-Broken.ensures ∙ at_broken _ _ _ _ _ i.going (stopped i.text c.stop.result c.in_default.ensures.steps.same c.stop.ensures) (ap Err c.in-Broken.is)
-
-pub returns-in-Large : goal.returns-in-Large
-returns-in-Large c =
-    let i = c.loop-token.invariant in
-    at-large _ _ _ _ _ i.going (stopped i.text c.stop.result c.in_default.ensures.steps.same c.stop.ensures) (ap Err c.in-Large.is) c.top-in-Large.ensures c.at_large.ensures
+    goes-on _ _ _ _ _ c.loop-token.invariant c.next_token.ensures c.in-Ok.is _ c.top-in-loop-token.ensures c.step.ensures c.in-Some.is c.change.ensures.is c.change.ensures.low
