@@ -2,9 +2,10 @@
 """Which functions between the crates ask something of their caller: tools/asking.py writes their names into docs/DECISIONS.md; with --check
 it compares.
 
-A function is listed if it is public, another crate can reach it (its module is public, or its type or name is handed on by `pub use`), and
-it has a `requires`. Brackets stand around those whose names stand in no source of a crate that uses theirs. What they ask, and what their
-promise leaves free, is kept by hand: the last two columns stay as they are, and a crate that is new gets empty ones, which --check refuses.
+A function is listed if it is public, another crate can reach it (its module is public, or its name is handed on by `pub use`, or its type
+is handed on or declared in a public module), and it has a `requires`. Brackets stand around those whose names stand in no source of a crate
+that uses theirs. What they ask, and what their promise leaves free, is kept by hand: the last two columns stay as they are, and a crate that
+is new gets empty ones, which --check refuses.
 """
 import pathlib
 import re
@@ -17,7 +18,7 @@ RULE = "|---|---|---|---|"
 
 
 def reached(crate):
-    """The files of a crate that others reach whole, and the names that it hands on from the others."""
+    """The files of a crate that others reach whole, and the names that others reach: those handed on, and the types of those files."""
     library = crate / "src" / "lib.rt"
     if not library.exists():
         return [], set()
@@ -26,6 +27,8 @@ def reached(crate):
     handed = set()
     for group, single in re.findall(r"(?m)^pub use \w+::(?:\{([^}]*)\}|(\w+));", text):
         handed.update(re.findall(r"\w+", group + " " + single))
+    for path in public:
+        handed.update(re.findall(r"(?m)^pub (?:struct|enum) (\w+)", path.read_text()))
     return public, handed
 
 
