@@ -4,9 +4,9 @@ it compares.
 
 A function is listed if it is public, another crate can reach it, and it has a `requires`. Another crate reaches what stands in a public
 module, what `pub use` hands on, and the methods of each type that it can have a value of: one that it can name, or one of a result or a
-public field that it reaches. Brackets stand around those whose names stand in no source of a crate that uses theirs. What they ask, and what
-their promise leaves free, is kept by hand: the last two columns stay as they are, and a crate that is new gets empty ones, which --check
-refuses.
+public field that it reaches. Brackets stand around those whose names stand in no source of a crate that uses theirs. What they ask, and
+what their promise leaves free, is kept by hand: the last two columns stay as they are, and a crate that is new gets empty ones, which
+--check refuses.
 """
 import pathlib
 import re
