@@ -2,9 +2,11 @@
 """Which functions between the crates ask something of their caller: tools/asking.py writes their names into docs/DECISIONS.md; with --check
 it compares.
 
-A function is listed if it is public, another crate can reach it (its module is public, or its type or name is handed on by `pub use`), and
-it has a `requires`. Brackets stand around those whose names stand in no source of a crate that uses theirs. What they ask, and what their
-promise leaves free, is kept by hand: the last two columns stay as they are, and a crate that is new gets empty ones, which --check refuses.
+A function is listed if it is public, another crate can reach it, and it has a `requires`. Another crate reaches what stands in a public
+module, what `pub use` hands on, and the methods of each type that it can have a value of: one that it can name, or one of a result or a
+public field that it reaches. Brackets stand around those whose names stand in no source of a crate that uses theirs. What they ask, and
+what their promise leaves free, is kept by hand: the last two columns stay as they are, and a crate that is new gets empty ones, which
+--check refuses.
 """
 import pathlib
 import re
@@ -17,7 +19,7 @@ RULE = "|---|---|---|---|"
 
 
 def reached(crate):
-    """The files of a crate that others reach whole, and the names that it hands on from the others."""
+    """The files of a crate that others reach whole, and the names that others reach besides: those handed on, and types."""
     library = crate / "src" / "lib.rt"
     if not library.exists():
         return [], set()
@@ -26,11 +28,27 @@ def reached(crate):
     handed = set()
     for group, single in re.findall(r"(?m)^pub use \w+::(?:\{([^}]*)\}|(\w+));", text):
         handed.update(re.findall(r"\w+", group + " " + single))
-    return public, handed
+    types = {}
+    for path in sorted((crate / "src").glob("*.rt")):
+        for kind, name, body in re.findall(r"(?ms)^pub (struct|enum) (\w+)(.*?)^}", path.read_text()):
+            types[name] = body if kind == "enum" else " ".join(re.findall(r"(?m)^ +pub \w+:(.*)", body))
+            if path in public:
+                handed.add(name)
+    while True:
+        more = {word for name in handed & types.keys() for word in re.findall(r"\w+", types[name])}
+        for path in (crate / "src").glob("*.rt"):
+            for owner, name, result, _ in functions(path):
+                if path in public or (owner or name) in handed:
+                    more.update(re.findall(r"\w+", result))
+        more = more & types.keys() - handed
+        if not more:
+            return public, handed
+        handed |= more
 
 
 def functions(path):
-    """The public functions of a file, but those of its private types: for each its type if it has one, its name, and whether it asks."""
+    """The public functions of a file, but those of its private types: for each its type if it has one, its name, its result, and whether it
+    asks."""
     owner, found = None, []
     text = path.read_text()
     lines, closed = text.split("\n"), set(re.findall(r"(?m)^(?:struct|enum) (\w+)", text))
@@ -42,14 +60,14 @@ def functions(path):
             owner = None
         head = re.match(r"\s*pub fn (\w+)", line)
         if head and owner not in closed:
-            # Clauses stand between the signature and the line that opens the body.
-            clauses = []
+            # The signature, which may take several lines, and the clauses stand before the line that opens the body.
+            before = line
             for clause in lines[number + 1:]:
-                if clause.strip() == "{" or re.match(r"\s*(?:pub )?fn ", clause):
+                if before.rstrip().endswith("{") or clause.strip() == "{":
                     break
-                clauses.append(clause.strip())
-            opened = line.rstrip().endswith("{")
-            found.append((owner, head.group(1), not opened and any(c.startswith("requires") for c in clauses)))
+                before += "\n" + clause
+            signature = re.split(r"\n\s*(?:requires|ensures)\b", before)[0]
+            found.append((owner, head.group(1), signature.partition("->")[2], bool(re.search(r"\n\s*requires\b", before))))
     return found
 
 
@@ -58,7 +76,7 @@ def asking(crate):
     public, handed = reached(crate)
     out = []
     for path in sorted((crate / "src").glob("*.rt"), key=lambda p: (p.name != "lib.rt", p.name)):
-        for owner, name, asks in functions(path):
+        for owner, name, _, asks in functions(path):
             if asks and (path in public or (owner or name) in handed):
                 module = path.stem if path in public and path.name != "lib.rt" else None
                 out.append("::".join(part for part in (owner or module, name) if part))

@@ -28,7 +28,7 @@ use Rattle.bytecode.proofs.Items.{ended, unlike}
 use Rattle.bytecode.proofs.Fields.{main_content, pool_content, head_read, then_read}
 use Rattle.listing.specs.declared.measure.MeasuredImage.{MeasuredImage}
 use Rattle.listing.specs.Measured.{image_measured}
-use Rattle.listing.specs.Reads.{CodeAt, PoolAt, CodeIn, PoolIn, ImageAt, HasImage, is_image, pool_text}
+use Rattle.listing.specs.Reads.{CodeAt, PoolAt, CodeIn, HasCodeIn, PoolIn, HasPoolIn, ImageAt, HasImage, is_image, pool_text}
 use Rattle.listing.proofs.Lines.{code-size}
 
 -- nothing follows
@@ -139,6 +139,14 @@ module _ (b : Bytes) where
 
   pub is_sound : {m : Image} → ImageAt b m → is_image (read_image b) (length b) ≡ true
   is_sound i = ap (λ d. is_image d (length b)) i.reads ∙ eq-eqb (length b) (length b) refl
+
+-- so that its parts hold code and a pool
+module _ (b : Bytes) (sound : is_image (read_image b) (length b) ≡ true) {p : Divided} (d : Divides b p) where
+  pub has_code : HasCodeIn p.code
+  has_code = let h = has_image b sound in record { code = h.image.code; is = code_in b h.is d }
+
+  pub has_pool : HasPoolIn p.pool
+  has_pool = let h = has_image b sound in record { pool = h.image.pool; is = pool_in b h.is d }
 
 -- main code's lines and the pool's
 pub listing_is : (m : Image) → (ascii "main" ++ also (decimal (size_of m.code)) ++ newline ++ code_lines m.code) ++ pool_text m.pool ≡ listing m

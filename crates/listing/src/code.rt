@@ -48,7 +48,7 @@ impl<'a> Writer<'a> {
     }
 
     // Puts the lines of code.
-    pub(crate) fn put_code(&mut self, code: Span<'_>)
+    pub fn put_code(&mut self, code: Span<'_>)
         requires { HasCodeIn code }
         ensures { (c : Code) → CodeIn code.entry c → Puts self.old self.new (code_lines c) }
     {

@@ -85,7 +85,7 @@ impl<'a> Writer<'a> {
     }
 
     // Puts the lines of a pool, which has so many constants.
-    pub(crate) fn put_pool(&mut self, pool: Span<'_>, count: usize)
+    pub fn put_pool(&mut self, pool: Span<'_>, count: usize)
         requires { HasPoolIn pool }
         ensures { (cs : List Const) → PoolIn pool.entry cs → count ≡ length cs → Puts self.old self.new (pool_text cs) }
     {

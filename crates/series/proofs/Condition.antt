@@ -1,4 +1,4 @@
--- Condition 3 of two rows that `compile_row` ran.
+-- Condition 3 of two rows that `compile_row` or `compile_slices` ran.
 use Prim.Native.Nat.{ℕ, ◌≤◌}
 use native.Mathlib.Omega.{arith}
 use mathlib.Core.Bool.{true}

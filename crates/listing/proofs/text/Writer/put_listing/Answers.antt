@@ -4,14 +4,14 @@ use mathlib.Core.Path.{ap, refl}
 use Rattle.definition.specs.Text.{decimal}
 use Rattle.definition.specs.Listing.{also}
 use Rattle.listing.proofs.Puts.{both, reworded}
-use Rattle.listing.proofs.Images.{parts, has_image, code_in, pool_in, listing_is}
+use Rattle.listing.proofs.Images.{parts, code_in, pool_in, has_code, has_pool, listing_is}
 use Rattle.listing.proofs.text.Writer.put_listing.Goals as goal
 
 pub put_code-requires : goal.put_code-requires
-put_code-requires c = let h = has_image c.args.image.bytes.now c.args.image.sound in record { code = h.image.code; is = code_in c.args.image.bytes.now h.is c.parts.ensures }
+put_code-requires c = has_code c.args.image.bytes.now c.args.image.sound c.parts.ensures
 
 pub put_pool-requires : goal.put_pool-requires
-put_pool-requires c = let h = has_image c.args.image.bytes.now c.args.image.sound in record { pool = h.image.pool; is = pool_in c.args.image.bytes.now h.is c.parts.ensures }
+put_pool-requires c = has_pool c.args.image.bytes.now c.args.image.sound c.parts.ensures
 
 pub returns : goal.returns
 returns c = λ m i n.
